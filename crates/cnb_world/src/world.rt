@@ -1,0 +1,148 @@
+// Files.
+ghost use Rattle.std.specs.Prelude.{◌≡◌, ◌≤◌, List as Seq, ℕ, length, take, drop, Option, IfOk, IfSome, OnOk, OnErr};
+ghost use Rattle.std.specs.Option.{option_map};
+ghost use Rattle.cnb_world.specs.Tree.{Tree, item_at, kind_of, bytes_of, can_list, can_read, can_create, can_make_folder, can_rename, created, appended, folder_made, renamed, Lists};
+ghost use Rattle.cnb_world.specs.Calls.{CountsFailed, CountsMisuse, AreNames, AppendsSome};
+ghost use Rattle.cnb_world.specs.Runs.{Run};
+
+use crate::path::Path;
+use crate::values::{Bytes, List, Memory, Text};
+use std::alloc::AllocError;
+
+/// What stands at a path. A file's length is in bytes.
+#[derive(Clone, Copy, Debug, PartialEq, Eq)]
+pub enum Kind {
+    Absent,
+    File { exec: bool, len: u64 },
+    Folder,
+    Link,
+    Odd,
+}
+
+/// What stands at a path, with its contents. `Odd` is what is none of these, as a device or a pipe.
+#[derive(Drop)]
+pub enum Item {
+    Folder,
+    File { exec: bool, bytes: Bytes },
+    Link { target: Text },
+    Odd,
+}
+
+/// An item at its path.
+#[derive(Drop)]
+pub struct Placed {
+    pub path: Path,
+    pub item: Item,
+}
+
+/// Why a call on files gave no answer.
+#[derive(Clone, Copy, Debug, PartialEq, Eq)]
+pub enum FileFault {
+    Failed,
+    Memory,
+}
+
+impl From<Memory> for FileFault {
+    ghost use Rattle.std.specs.Prelude.{◌≡◌};
+    ghost use Rattle.cnb_world.specs.declared.world.FileFault.TheVariants.{Memory};
+
+    ghost from_gives = { λ _ e. e ≡ Memory };
+
+    fn from(_: Memory) -> Self {
+        FileFault::Memory
+    }
+}
+
+impl From<AllocError> for FileFault {
+    ghost use Rattle.std.specs.Prelude.{◌≡◌};
+    ghost use Rattle.cnb_world.specs.declared.world.FileFault.TheVariants.{Memory};
+
+    ghost from_gives = { λ _ e. e ≡ Memory };
+
+    fn from(_: AllocError) -> Self {
+        FileFault::Memory
+    }
+}
+
+/// Files and folders. A call on a path of the wrong kind is a counted fault where the tree is told.
+pub trait World {
+    /// What stands at each path, where it is told.
+    ghost tree: { Self → Option Tree };
+
+    /// The calls on files that failed.
+    ghost file_faults: { Self → ℕ };
+
+    /// The children that gave no end.
+    ghost child_faults: { Self → ℕ };
+
+    /// Those of the file faults that were calls on a path of the wrong kind.
+    ghost misused: { Self → ℕ };
+
+    /// The children that ran, in order.
+    ghost runs: { Self → Seq Run };
+
+    /// What stands at the path. A link isn't followed.
+    fn kind(&mut self, path: &Path) -> Result<Kind, FileFault>
+        ensures told { IfSome (tree self.old) (λ t. IfOk result (λ k. k ≡ kind_of (item_at t path.now))) }
+        ensures tree { tree self.new ≡ tree self.old }
+        ensures files { CountsFailed result (file_faults self.old) (file_faults self.new) }
+        ensures children { child_faults self.new ≡ child_faults self.old }
+        ensures runs { runs self.new ≡ runs self.old }
+        ensures misused { misused self.new ≡ misused self.old };
+
+    /// The names in the folder, ascending.
+    fn list(&mut self, path: &Path) -> Result<List<Text>, FileFault>
+        ensures names { IfOk result AreNames }
+        ensures told { IfSome (tree self.old) (λ t. IfOk result (Lists t path.now)) }
+        ensures tree { tree self.new ≡ tree self.old }
+        ensures files { CountsFailed result (file_faults self.old) (file_faults self.new) }
+        ensures children { child_faults self.new ≡ child_faults self.old }
+        ensures runs { runs self.new ≡ runs self.old }
+        ensures misused { CountsMisuse (option_map (λ t. can_list t path.now) (tree self.old)) result (misused self.old) (misused self.new) };
+
+    /// The file's bytes from `at` on, at most `max` of them.
+    fn read(&mut self, path: &Path, at: u64, max: u64) -> Result<Bytes, FileFault>
+        ensures bound { IfOk result (λ bytes. length bytes ≤ max) }
+        ensures told { IfSome (tree self.old) (λ t. IfOk result (λ bytes. bytes ≡ take max (drop at (bytes_of (item_at t path.now))))) }
+        ensures tree { tree self.new ≡ tree self.old }
+        ensures files { CountsFailed result (file_faults self.old) (file_faults self.new) }
+        ensures children { child_faults self.new ≡ child_faults self.old }
+        ensures runs { runs self.new ≡ runs self.old }
+        ensures misused { CountsMisuse (option_map (λ t. can_read t path.now) (tree self.old)) result (misused self.old) (misused self.new) };
+
+    /// Makes an empty file, in place of a file that stands there.
+    fn create(&mut self, path: &Path, exec: bool) -> Result<(), FileFault>
+        ensures ok { OnOk result (tree self.new ≡ option_map (created path.now exec) (tree self.old)) }
+        ensures err { OnErr result (tree self.new ≡ tree self.old) }
+        ensures files { CountsFailed result (file_faults self.old) (file_faults self.new) }
+        ensures children { child_faults self.new ≡ child_faults self.old }
+        ensures runs { runs self.new ≡ runs self.old }
+        ensures misused { CountsMisuse (option_map (λ t. can_create t path.now) (tree self.old)) result (misused self.old) (misused self.new) };
+
+    /// Adds bytes to the file.
+    fn append(&mut self, path: &Path, bytes: &[u8]) -> Result<(), FileFault>
+        ensures ok { OnOk result (tree self.new ≡ option_map (appended path.now bytes.now) (tree self.old)) }
+        ensures err { OnErr result (AppendsSome (tree self.old) (tree self.new) path.now bytes.now) }
+        ensures files { CountsFailed result (file_faults self.old) (file_faults self.new) }
+        ensures children { child_faults self.new ≡ child_faults self.old }
+        ensures runs { runs self.new ≡ runs self.old }
+        ensures misused { CountsMisuse (option_map (λ t. can_read t path.now) (tree self.old)) result (misused self.old) (misused self.new) };
+
+    /// Makes the folder and those above it that are missing.
+    fn make_folder(&mut self, path: &Path) -> Result<(), FileFault>
+        ensures ok { OnOk result (tree self.new ≡ option_map (folder_made path.now) (tree self.old)) }
+        ensures err { OnErr result (tree self.new ≡ tree self.old) }
+        ensures files { CountsFailed result (file_faults self.old) (file_faults self.new) }
+        ensures children { child_faults self.new ≡ child_faults self.old }
+        ensures runs { runs self.new ≡ runs self.old }
+        ensures misused { CountsMisuse (option_map (λ t. can_make_folder t path.now) (tree self.old)) result (misused self.old) (misused self.new) };
+
+    /// Gives the file a new name, in place of a file that has it.
+    fn rename(&mut self, old: &Path, new: &Path) -> Result<(), FileFault>
+        ensures ok { OnOk result (tree self.new ≡ option_map (renamed old.now new.now) (tree self.old)) }
+        ensures err { OnErr result (tree self.new ≡ tree self.old) }
+        ensures files { CountsFailed result (file_faults self.old) (file_faults self.new) }
+        ensures children { child_faults self.new ≡ child_faults self.old }
+        ensures runs { runs self.new ≡ runs self.old }
+        ensures misused { CountsMisuse (option_map (λ t. can_rename t old.now new.now) (tree self.old)) result (misused self.old) (misused self.new) };
+}
