@@ -64,7 +64,7 @@ impl From<AllocError> for FileFault {
     }
 }
 
-/// Files and folders. A call on a path of the wrong kind is a counted fault where the tree is told.
+/// Files and folders. Where the tree is told, a call whose path has another kind than it needs fails, and is counted.
 pub trait World {
     /// What stands at each path, where it is told.
     ghost tree: { Self → Option Tree };
@@ -75,7 +75,7 @@ pub trait World {
     /// The children that gave no end.
     ghost child_faults: { Self → ℕ };
 
-    /// Those of the file faults that were calls on a path of the wrong kind.
+    /// How many of the file faults came from a path of another kind than the call needs.
     ghost misused: { Self → ℕ };
 
     /// The children that ran, in order.
