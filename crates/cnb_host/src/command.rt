@@ -1,0 +1,52 @@
+// The command of a detect child.
+ghost use Rattle.std.specs.Prelude.{◌≡◌, ◌∷◌, [], ℕ, List as Seq, IfOk, OnOk, Some, true, option_map, if◌then◌else◌};
+ghost use Rattle.std.specs.Str.{bytes_eq};
+ghost use Rattle.std.specs.Process.{command_program, command_args, command_var, command_dir, clears_env, SameProgramAndArgs, SameDir};
+ghost use Rattle.cnb_world.specs.Env.{value_of};
+
+use cnb_world::{DetectJob, Env};
+use std::alloc::{AllocError, Global};
+use std::process::{Command, Stdio};
+
+/// The command of a job: its program with the platform folder and the plan file as arguments, in its folder, with
+/// exactly its environment (buildpack.md, "Detection"). It has no standard input and inherits the two outputs.
+pub fn detect_command(alloc: Global, job: &DetectJob) -> Result<Command, AllocError>
+    ensures program { IfOk result (λ command. command_program command ≡ job.now.program) }
+    ensures args { IfOk result (λ command. command_args command ≡ job.now.platform ∷ job.now.plan ∷ []) }
+    ensures dir { IfOk result (λ command. command_dir command ≡ Some job.now.dir) }
+    ensures clears { IfOk result (λ command. clears_env command ≡ true) }
+    ensures vars { IfOk result (λ command. (name : Seq ℕ) → command_var command name ≡ option_map Some (value_of job.now.env name)) }
+{
+    let mut command = Command::new(alloc, job.program.as_str())?;
+    command.arg(job.platform.as_str())?;
+    command.arg(job.plan.as_str())?;
+    command.current_dir(job.dir.as_str())?;
+    command.stdin(Stdio::null());
+    command.env_clear();
+    set_variables(&mut command, &job.env)?;
+    Ok(command)
+}
+
+// From the last variable to the first.
+fn set_variables(command: &mut Command, env: &Env) -> Result<(), AllocError>
+    requires { (name : Seq ℕ) → command_var command.old name ≡ None }
+    ensures vars { OnOk result ((name : Seq ℕ) → command_var command.new name ≡ option_map Some (value_of env.now name)) }
+    ensures call { OnOk result (SameProgramAndArgs command.old command.new) }
+    ensures dir { OnOk result (SameDir command.old command.new) }
+    ensures clears { OnOk result (clears_env command.new ≡ clears_env command.old) }
+{
+    for place in (0..env.len()).rev() {
+        set_variable(command, env.name(place).as_str(), env.value(place).as_str())?;
+    }
+    Ok(())
+}
+
+fn set_variable(command: &mut Command, name: &str, value: &str) -> Result<(), AllocError>
+    ensures vars { OnOk result ((other : Seq ℕ) → command_var command.new other ≡ (if bytes_eq name.now other then Some (Some value.now) else command_var command.old other)) }
+    ensures call { OnOk result (SameProgramAndArgs command.old command.new) }
+    ensures dir { OnOk result (SameDir command.old command.new) }
+    ensures clears { OnOk result (clears_env command.new ≡ clears_env command.old) }
+{
+    command.env(name, value)?;
+    Ok(())
+}

@@ -1,0 +1,166 @@
+// Calls on files of the system.
+//
+// A link in the last part of a path is never followed. What stands at a path is looked at before it is opened, so that
+// a pipe or a device is not opened at all, and the opened file is compared with what was looked at. Between the two
+// another process may still put a pipe there, which would be opened and waited for.
+ghost use Rattle.std.specs.Prelude.{◌≤◌, IfOk, length};
+
+use crate::fault::HostFault;
+use cnb_world::{Bytes, Kind};
+use std::alloc::Global;
+use std::fs::{Metadata, OpenFile, OpenOptions};
+use std::io::{ErrorKind, Read, Seek, SeekFrom, Write};
+use std::os::unix::fs::{MetadataExt, OpenOptionsExt};
+use std::rt::Files;
+use std::{fs, io};
+
+/// What stands at a path. Below what is no folder nothing stands.
+pub fn kind_at(rt: &impl Files, path: &str) -> Result<Kind, HostFault> {
+    match fs::symlink_metadata(rt, path) {
+        Ok(found) => Ok(kind_of(&found)),
+        Err(error) => match error.kind() {
+            ErrorKind::NotFound | ErrorKind::NotADirectory => Ok(Kind::Absent),
+            _ => Err(HostFault::from(error)),
+        },
+    }
+}
+
+fn kind_of(found: &Metadata) -> Kind {
+    if found.is_file() {
+        Kind::File {
+            exec: found.mode() & 0o111 != 0,
+            len: found.len(),
+        }
+    } else if found.is_dir() {
+        Kind::Folder
+    } else if found.is_symlink() {
+        Kind::Link
+    } else {
+        Kind::Odd
+    }
+}
+
+/// The bytes of the regular file at a path from `at` on, at most `max` of them.
+pub fn read_part<R: Files>(
+    rt: &R,
+    alloc: Global,
+    path: &str,
+    at: u64,
+    max: u64,
+) -> Result<Bytes, HostFault>
+    ensures bound { IfOk result (λ bytes. length bytes ≤ max) }
+{
+    let mut options = OpenOptions::new();
+    options.read(true);
+    let mut file = open_regular(rt, &options, path)?;
+    file.seek(SeekFrom::Start(at))?;
+    read_at_most(alloc, &mut file, max)
+}
+
+fn open_regular<R: Files>(rt: &R, options: &OpenOptions, path: &str) -> Result<R::File, HostFault> {
+    let found = fs::symlink_metadata(rt, path)?;
+    if !found.is_file() {
+        return Err(HostFault::Failed);
+    }
+    let file = options.open(rt, path)?;
+    let opened = file.metadata()?;
+    if opened.dev() != found.dev() || opened.ino() != found.ino() {
+        return Err(HostFault::Failed);
+    }
+    Ok(file)
+}
+
+const PIECE: usize = 16384;
+
+pub fn read_at_most<F: Read>(alloc: Global, file: &mut F, max: u64) -> Result<Bytes, HostFault>
+    ensures bound { IfOk result (λ bytes. length bytes ≤ max) }
+{
+    let mut bytes = Vec::new(alloc);
+    let mut piece = [0u8; PIECE];
+    for _ in 0..u64::MAX {
+        let left = max - bytes.len() as u64;
+        let count = read_piece(file, &mut piece, left)?;
+        if count == 0 {
+            return Ok(Bytes::from_vec(bytes));
+        }
+        bytes.extend_from_slice(&piece[..count])?;
+    }
+    Err(HostFault::Failed)
+}
+
+// Reads some bytes, at most `left` of them: none only at the file's end, or where `left` is none.
+fn read_piece<F: Read>(file: &mut F, piece: &mut [u8], left: u64) -> Result<usize, HostFault>
+    ensures bound { IfOk result (λ count. count ≤ left) }
+    ensures fits { IfOk result (λ count. count ≤ length piece.new) }
+{
+    let room = left.min(piece.len() as u64) as usize;
+    if room == 0 {
+        return Ok(0);
+    }
+    for _ in 0..u64::MAX {
+        match file.read(&mut piece[..room]) {
+            Ok(count) => return Ok(count),
+            Err(error) => match error.kind() {
+                ErrorKind::Interrupted => {}
+                _ => return Err(HostFault::from(error)),
+            },
+        }
+    }
+    Err(HostFault::Failed)
+}
+
+const EXECUTABLE: u32 = 0o755;
+
+const PLAIN: u32 = 0o644;
+
+/// Makes an empty file, in place of a regular file that stands there.
+pub fn create_file(rt: &impl Files, path: &str, exec: bool) -> Result<(), HostFault> {
+    match kind_at(rt, path)? {
+        Kind::Absent => {}
+        Kind::File { .. } => fs::remove_file(rt, path)?,
+        Kind::Folder | Kind::Link | Kind::Odd => return Err(HostFault::Failed),
+    }
+    create_new(rt, path, if exec { EXECUTABLE } else { PLAIN })
+}
+
+/// Makes an empty file in place of anything but a folder: a link there is taken away and not written through.
+pub fn fresh_file(rt: &impl Files, path: &str) -> Result<(), HostFault> {
+    match kind_at(rt, path)? {
+        Kind::Absent => {}
+        Kind::File { .. } | Kind::Link | Kind::Odd => fs::remove_file(rt, path)?,
+        Kind::Folder => return Err(HostFault::Failed),
+    }
+    create_new(rt, path, PLAIN)
+}
+
+fn create_new(rt: &impl Files, path: &str, mode: u32) -> Result<(), HostFault> {
+    let mut options = OpenOptions::new();
+    options.write(true).create_new(true).mode(mode);
+    options.open(rt, path)?;
+    Ok(())
+}
+
+/// Adds bytes to the regular file at a path.
+pub fn append_bytes(rt: &impl Files, path: &str, bytes: &[u8]) -> Result<(), HostFault> {
+    let mut options = OpenOptions::new();
+    options.append(true);
+    open_regular(rt, &options, path)?.write_all(bytes)?;
+    Ok(())
+}
+
+/// Makes a folder and those above it that are missing.
+pub fn make_folders(rt: &impl Files, path: &str) -> Result<(), HostFault> {
+    match kind_at(rt, path)? {
+        Kind::Folder => Ok(()),
+        Kind::Absent => Ok(fs::create_dir_all(rt, path)?),
+        Kind::File { .. } | Kind::Link | Kind::Odd => Err(HostFault::Failed),
+    }
+}
+
+/// Gives a regular file a new name, in place of a regular file that has it.
+pub fn rename_file(rt: &impl Files, old: &str, new: &str) -> Result<(), HostFault> {
+    match (kind_at(rt, old)?, kind_at(rt, new)?) {
+        (Kind::File { .. }, Kind::File { .. } | Kind::Absent) => Ok(fs::rename(rt, old, new)?),
+        _ => Err(HostFault::Failed),
+    }
+}

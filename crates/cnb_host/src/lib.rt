@@ -1,0 +1,24 @@
+//! The real outside: files, detect children and standard output over std, with the words and the environment of the
+//! process.
+//!
+//! A contract can't say what a file holds or what a child does. These objects keep what can be said: each failure is
+//! counted, an answer is within its bounds, and a child is handed exactly its job. What the system does is trusted.
+#![tactic(auto)]
+
+mod command;
+mod fault;
+mod files;
+mod names;
+mod process;
+mod sink;
+mod spawner;
+mod world;
+
+pub use command::detect_command;
+pub use process::{StartFault, environment, words};
+pub use sink::StdoutSink;
+pub use spawner::HostSpawner;
+pub use world::HostWorld;
+
+#[cfg(test)]
+mod tests;

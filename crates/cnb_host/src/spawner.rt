@@ -1,0 +1,141 @@
+// Detect children as programs of the system.
+ghost use Rattle.std.specs.Prelude.{◌≡◌, ◌≤◌, ◌++◌, ◌∷◌, [], None, IfOk, OnErr, length};
+ghost use Rattle.std.specs.Result.{result_ok};
+ghost use Rattle.cnb_world.specs.Calls.{CountsDetect};
+
+use crate::command::detect_command;
+use crate::fault::HostFault;
+use crate::files::{fresh_file, make_folders, read_part};
+use cnb_world::{Bytes, DetectFault, DetectJob, Memory, Probed, Spawner, parent_text};
+use std::alloc::Global;
+use std::marker::Model;
+use std::process::Processes;
+use std::rt::Files;
+
+/// The most that is read of a plan file: one byte more than a document may have.
+const PLAN_MAX: u64 = 1048577;
+
+/// A desk that runs each detect child as a program, waits for it, and keeps the list of those that ended. Contracts see
+/// it as that list and the count of the children that gave no answer.
+#[derive(Drop)]
+pub struct HostSpawner<R: Files + Processes + AllocGlobal + Drop> {
+    rt: R,
+    runs: Vec<Row>,
+    faults: u64,
+}
+
+// A child that ended.
+#[derive(Drop)]
+struct Row {
+    job: DetectJob,
+    probed: Probed,
+}
+
+impl Model for Row {
+    ghost use Rattle.cnb_world.specs.Runs.{Ran};
+
+    ghost Value = { Ran };
+
+    ghost view = { λ row. record { job = row.job; probed = row.probed } };
+}
+
+impl<R: Files + Processes + AllocGlobal + Drop> Model for HostSpawner<R> {
+    ghost use Rattle.cnb_host.specs.Desk.{Desk};
+
+    ghost Value = { Desk };
+
+    ghost view = { λ desk. record { runs = desk.runs.items; faults = desk.faults } };
+}
+
+impl<R: Files + Processes + AllocGlobal + Drop> HostSpawner<R> {
+    pub fn new(rt: R) -> HostSpawner<R>
+        ensures runs { result.runs ≡ [] }
+        ensures faults { result.faults ≡ 0 }
+    {
+        let runs = Vec::new(rt.alloc());
+        HostSpawner {
+            rt,
+            runs,
+            faults: 0,
+        }
+    }
+
+    // Takes the memory for the child's row before the child starts.
+    fn run_job(&mut self, job: &DetectJob) -> Result<Probed, HostFault>
+        ensures ok { IfOk result (λ probed. self.new.runs ≡ self.old.runs ++ record { job = job.now; probed = probed } ∷ []) }
+        ensures bound { IfOk result (λ probed. length probed.plan ≤ 1048577) }
+        ensures err { OnErr result (self.new.runs ≡ self.old.runs) }
+        ensures faults { self.new.faults ≡ self.old.faults }
+    {
+        let alloc = self.rt.alloc();
+        let kept = copy_job(alloc, job)?;
+        self.runs.reserve(1)?;
+        let code = run_child(&self.rt, job)?;
+        let plan = read_part(&self.rt, alloc, job.plan.as_str(), 0, PLAN_MAX)?;
+        let row = Row {
+            job: kept,
+            probed: Probed {
+                code,
+                plan: Bytes::of(alloc, plan.as_slice())?,
+            },
+        };
+        self.runs.push(row)?;
+        Ok(Probed { code, plan })
+    }
+
+    fn counted(&mut self, outcome: Result<Probed, HostFault>) -> Result<Probed, DetectFault>
+        ensures value { result_ok result ≡ result_ok outcome }
+        ensures faults { CountsDetect result self.old.faults self.new.faults }
+        ensures runs { self.new.runs ≡ self.old.runs }
+    {
+        match outcome {
+            Ok(probed) => Ok(probed),
+            Err(HostFault::Failed) => {
+                self.faults = self.faults.saturating_add(1);
+                Err(DetectFault::Failed)
+            }
+            Err(HostFault::Memory) => Err(DetectFault::Memory),
+        }
+    }
+}
+
+impl<R: Files + Processes + AllocGlobal + Drop> Spawner for HostSpawner<R> {
+    ghost use Rattle.std.specs.Prelude.{None};
+
+    ghost runs = { λ desk. desk.runs };
+
+    ghost says = { λ _. None };
+
+    ghost faults = { λ desk. desk.faults };
+
+    fn detect(&mut self, job: &DetectJob) -> Result<Probed, DetectFault> {
+        let outcome = self.run_job(job);
+        self.counted(outcome)
+    }
+}
+
+fn copy_job(alloc: Global, job: &DetectJob) -> Result<DetectJob, Memory>
+    ensures { IfOk result (λ copy. copy ≡ job.now) }
+{
+    Ok(DetectJob {
+        id: job.id.copy(alloc)?,
+        version: job.version.copy(alloc)?,
+        program: job.program.copy(alloc)?,
+        platform: job.platform.copy(alloc)?,
+        plan: job.plan.copy(alloc)?,
+        env: job.env.copy()?,
+        dir: job.dir.copy(alloc)?,
+    })
+}
+
+// Makes the plan file, runs the child and waits for it. A child that a signal ended has no code.
+fn run_child<R: Files + Processes + AllocGlobal>(
+    rt: &R,
+    job: &DetectJob,
+) -> Result<Option<i32>, HostFault> {
+    let plan = job.plan.as_str();
+    make_folders(rt, parent_text(plan))?;
+    fresh_file(rt, plan)?;
+    let status = detect_command(rt.alloc(), job)?.status(rt)?;
+    Ok(status.code())
+}
