@@ -1,0 +1,30 @@
+use Rattle.std.proofs.Common.{arith, ap, Err}
+use Rattle.tree_canon.specs.Reading.{IsBytes}
+use Rattle.tree_canon.proofs.Feeds.{keeps_reading, feeds_ok, feeds_err, feeds_divided}
+use Rattle.tree_canon.proofs.decoder.Decoder.feed.Goals as goal
+
+pub invariant_of-self : goal.invariant_of-self
+invariant_of-self c =
+    let fits : IsBytes c.args.piece.now = λ i. omega (arith, c.type_inv.piece i) in
+    keeps_reading c.self.inside.reader c.self.inside.fault c.args.self.now c.args.piece.now fits c.self.view_is c.in_default.is c.self.invariant c.read.new.self c.in-Ok.ensures.ok
+
+pub returns-in-Ok-clause-fed : goal.returns-in-Ok-clause-fed
+returns-in-Ok-clause-fed c =
+    let fits : IsBytes c.args.piece.now = λ i. omega (arith, c.type_inv.piece i) in
+    feeds_ok c.self.inside.reader c.self.inside.fault c.args.self.now c.args.piece.now fits c.self.view_is c.in_default.is c.self.invariant c.read.new.self c.in-Ok.ensures.ok
+
+pub returns-in-Ok-clause-divided : goal.returns-in-Ok-clause-divided
+returns-in-Ok-clause-divided c =
+    let fits : IsBytes c.args.piece.now = λ i. omega (arith, c.type_inv.piece i) in
+    feeds_divided c.self.inside.reader c.self.inside.fault c.args.self.now c.args.piece.now fits c.self.view_is c.in_default.is c.self.invariant
+
+pub returns-in-Err-clause-fed : goal.returns-in-Err-clause-fed
+returns-in-Err-clause-fed c =
+    let fits : IsBytes c.args.piece.now = λ i. omega (arith, c.type_inv.piece i) in
+    feeds_err c.self.inside.reader c.self.inside.fault c.args.self.now c.args.piece.now fits c.self.view_is c.in_default.is c.self.invariant c.in-Err.fault
+    (λ at reason e. c.in-Err.ensures.bad at reason (ap Err e))
+
+pub returns-in-Err-clause-divided : goal.returns-in-Err-clause-divided
+returns-in-Err-clause-divided c =
+    let fits : IsBytes c.args.piece.now = λ i. omega (arith, c.type_inv.piece i) in
+    feeds_divided c.self.inside.reader c.self.inside.fault c.args.self.now c.args.piece.now fits c.self.view_is c.in_default.is c.self.invariant

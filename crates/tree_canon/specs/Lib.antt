@@ -1,0 +1,11 @@
+pub mod Names
+pub mod Spelling
+pub mod Fits
+pub mod Writing
+pub mod CutTree
+pub mod Rules
+pub mod Division
+pub mod Reading
+pub mod Feeding
+pub mod Readers
+pub mod Digest

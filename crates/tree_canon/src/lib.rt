@@ -1,0 +1,25 @@
+//! File trees as values, and the canonical bytes that spell them: each tree has one spelling, and each spelling
+//! has one tree. docs/FORMATS.md describes the bytes.
+#![tactic(auto)]
+
+mod copying;
+mod cut;
+mod decoder;
+mod digest;
+mod fault;
+mod field;
+mod fitting;
+mod node;
+mod reader;
+mod rules;
+mod spelling;
+#[cfg(test)]
+mod tests;
+mod tree;
+
+pub use decoder::Decoder;
+pub use digest::Digest;
+pub use fault::{DecodeFault, Reason, TreeFault};
+pub use node::{Named, Node};
+pub use spelling::encode;
+pub use tree::Tree;
