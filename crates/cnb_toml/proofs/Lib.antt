@@ -1,0 +1,10 @@
+pub mod DataLaws
+pub mod Ids
+pub mod Items
+pub mod Joined
+pub mod Kept
+pub mod Metas
+pub mod Puts
+pub mod RoundTrip
+pub mod Texts
+pub mod Versions

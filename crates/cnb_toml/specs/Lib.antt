@@ -1,0 +1,9 @@
+pub mod Document
+pub mod Fields
+pub mod Form
+pub mod Keys
+pub mod Meta
+pub mod Names
+pub mod Reading
+pub mod Rows
+pub mod Writing

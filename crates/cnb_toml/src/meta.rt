@@ -1,0 +1,385 @@
+// Metadata that is kept and handed on.
+ghost use Rattle.std.specs.Prelude.{ℕ, codes, option_map, ◌≡◌, ◌≤◌, ◌+◌, ◌++◌, ◌∷◌, List as Seq, map, IfOk, IsTrue};
+ghost use Rattle.std.specs.Fmt.{decimal};
+ghost use Rattle.toml.specs.Data.{array, table, no_members, as_table, get_member};
+ghost use Rattle.toml.specs.View.{view, items_of, array_view, table_view};
+ghost use Rattle.cnb_toml.specs.Reading.{Answers, IsFault};
+ghost use Rattle.cnb_toml.specs.Writing.{put_all};
+ghost use Rattle.cnb_toml.specs.Meta.{metadata_in, metadata_table, meta_in, meta_at, items_at, members_at, fault_below, members_of, data_of, entry_of, is_kept};
+
+use crate::fault::DocFault;
+use crate::writing::put;
+use cnb_world::{List, Memory, Text};
+use std::alloc::Global;
+use toml::value::Array;
+use toml::{Table, Value};
+
+/// A value of kept metadata. The keys of a table ascend.
+#[cycle(meta)]
+#[derive(Drop)]
+pub enum Meta {
+    Bool(bool),
+    Int(i64),
+    Text(Text),
+    List(List<Meta>),
+    Table(List<MetaEntry>),
+}
+
+/// A key of a table with its value.
+#[cycle(meta)]
+#[derive(Drop)]
+pub struct MetaEntry {
+    pub key: Text,
+    pub value: Meta,
+}
+
+/// A requirement of a Build Plan: a name, and what the requiring buildpack says about it.
+#[derive(Drop)]
+pub struct Need {
+    pub name: Text,
+    pub meta: Meta,
+}
+
+/// How deep a value may stand: the values of the table that is read stand 1 deep, those in one of them 2 deep.
+const DEEPEST: usize = 32;
+
+impl Meta {
+    /// Reads a table of a document. The fault is MetaKind, with the path of the first value that is neither a truth
+    /// value, a whole number, a text, a list nor a table, or that stands more than 32 deep. `path` is the key path of
+    /// the table itself, which is empty for the document's own table.
+    #[tactic(auto, using(crate::proofs::Kept::read_kept))]
+    pub fn from_table(alloc: Global, table: &Table, path: &str) -> Result<Meta, DocFault>
+        ensures value { Answers result (meta_in path.now (table_view table.now)) }
+        ensures kept { IfOk result (λ meta. IsTrue (is_kept meta)) }
+    {
+        match read_members(alloc, 1, table) {
+            Ok(entries) => Ok(Meta::Table(entries)),
+            Err(fault) if path.is_empty() => Err(fault),
+            Err(fault) => Err(below(alloc, path, fault)),
+        }
+    }
+
+    /// The table that the value is written as; a value that is no table gives an empty one.
+    pub fn to_table(&self, alloc: Global) -> Result<Table, Memory>
+        ensures table { IfOk result (λ table. table_view table ≡ members_of (data_of self.now)) }
+        ensures reads_back { IfOk result (λ table. IsTrue (is_kept self.now)
+            → (path : Seq ℕ) → meta_in path (table_view table) ≡ Ok self.now) }
+    {
+        match self {
+            Meta::Table(entries) => write_table(alloc, entries.as_slice()),
+            _ => Ok(Table::new(alloc)),
+        }
+    }
+
+    #[cycle(copy)]
+    pub fn copy(&self, alloc: Global) -> Result<Meta, Memory>
+        ensures { IfOk result (λ copy. copy ≡ self.now) }
+    {
+        match self {
+            Meta::Bool(truth) => Ok(Meta::Bool(*truth)),
+            Meta::Int(number) => Ok(Meta::Int(*number)),
+            Meta::Text(text) => Ok(Meta::Text(text.copy(alloc)?)),
+            Meta::List(list) => Ok(Meta::List(copy_list(alloc, list.as_slice())?)),
+            Meta::Table(entries) => Ok(Meta::Table(copy_entries(alloc, entries.as_slice())?)),
+        }
+    }
+}
+
+impl Need {
+    pub fn copy(&self, alloc: Global) -> Result<Need, Memory>
+        ensures { IfOk result (λ copy. copy ≡ self.now) }
+    {
+        let name = self.name.copy(alloc)?;
+        let meta = self.meta.copy(alloc)?;
+        Ok(Need { name, meta })
+    }
+}
+
+#[cycle(copy)]
+fn copy_list(alloc: Global, list: &[Meta]) -> Result<List<Meta>, Memory>
+    ensures { IfOk result (λ copies. copies ≡ list.now) }
+{
+    let mut copies = List::new(alloc);
+    for meta in list {
+        copies.push(meta.copy(alloc)?)?;
+    }
+    Ok(copies)
+}
+
+#[cycle(copy)]
+fn copy_entries(alloc: Global, entries: &[MetaEntry]) -> Result<List<MetaEntry>, Memory>
+    ensures { IfOk result (λ copies. copies ≡ entries.now) }
+{
+    let mut copies = List::new(alloc);
+    for entry in entries {
+        copies.push(copy_entry(alloc, entry)?)?;
+    }
+    Ok(copies)
+}
+
+#[cycle(copy)]
+fn copy_entry(alloc: Global, entry: &MetaEntry) -> Result<MetaEntry, Memory>
+    ensures { IfOk result (λ copy. copy ≡ entry.now) }
+{
+    Ok(MetaEntry {
+        key: entry.key.copy(alloc)?,
+        value: entry.value.copy(alloc)?,
+    })
+}
+
+/// The metadata of a table of a document: what stands at its key `metadata`, by default an empty table.
+pub fn metadata_at(alloc: Global, table: &Table) -> Result<Meta, DocFault>
+    ensures { Answers result (metadata_in (table_view table.now)) }
+{
+    match metadata(table) {
+        Some(value) => metadata_table(alloc, value),
+        None => Ok(Meta::Table(List::new(alloc))),
+    }
+}
+
+fn metadata_table(alloc: Global, value: &Value) -> Result<Meta, DocFault>
+    ensures { Answers result (metadata_table (as_table (view value.now))) }
+{
+    match value.as_table() {
+        Some(members) => Meta::from_table(alloc, members, "metadata"),
+        None => Err(DocFault::wrong(alloc).under(alloc, "metadata")),
+    }
+}
+
+fn metadata(table: &Table) -> Option<&Value>
+    ensures { option_map (λ value. view value.now) result ≡ get_member (codes "metadata") (table_view table.now) }
+{
+    table.get("metadata")
+}
+
+#[cycle(read)]
+fn read_value(alloc: Global, depth: usize, key: &str, value: &Value) -> Result<Meta, DocFault>
+    requires { depth ≤ DEEPEST + 1 }
+    ensures { Answers result (meta_at depth key.now (view value.now)) }
+{
+    if depth > DEEPEST {
+        return Err(refused(alloc, key));
+    }
+    match value {
+        Value::Boolean(truth) => Ok(Meta::Bool(*truth)),
+        Value::Integer(number) => Ok(Meta::Int(*number)),
+        Value::String(text) => Ok(Meta::Text(Text::of(alloc, text.as_str())?)),
+        Value::Float(_) => Err(refused(alloc, key)),
+        Value::Datetime(_) => Err(refused(alloc, key)),
+        Value::Array(items) => read_list(alloc, depth, key, items),
+        Value::Table(members) => read_table(alloc, depth, key, members),
+    }
+}
+
+#[cycle(read)]
+fn read_list(alloc: Global, depth: usize, key: &str, items: &Array) -> Result<Meta, DocFault>
+    requires { depth ≤ DEEPEST }
+    ensures { Answers result (meta_at depth key.now (array (array_view items.now))) }
+{
+    match read_items(alloc, depth + 1, items) {
+        Ok(list) => Ok(Meta::List(list)),
+        Err(fault) => Err(below(alloc, key, fault)),
+    }
+}
+
+#[cycle(read)]
+fn read_table(alloc: Global, depth: usize, key: &str, members: &Table) -> Result<Meta, DocFault>
+    requires { depth ≤ DEEPEST }
+    ensures { Answers result (meta_at depth key.now (table (table_view members.now))) }
+{
+    match read_members(alloc, depth + 1, members) {
+        Ok(entries) => Ok(Meta::Table(entries)),
+        Err(fault) => Err(below(alloc, key, fault)),
+    }
+}
+
+#[cycle(read)]
+fn read_items(alloc: Global, depth: usize, items: &Array) -> Result<List<Meta>, DocFault>
+    requires { depth ≤ DEEPEST + 1 }
+    ensures { Answers result (items_at depth 0 (array_view items.now)) }
+{
+    let mut list = List::new(alloc);
+    for (place, item) in items.iter().enumerate() {
+        list.push(read_item(alloc, depth, place, item)?)?;
+    }
+    Ok(list)
+}
+
+#[cycle(read)]
+fn read_item(alloc: Global, depth: usize, place: usize, item: &Value) -> Result<Meta, DocFault>
+    requires { depth ≤ DEEPEST + 1 }
+    ensures { Answers result (meta_at depth (decimal place) (view item.now)) }
+{
+    match format!(in alloc; "{place}") {
+        Ok(key) => read_value(alloc, depth, key.as_str(), item),
+        Err(_) => Err(DocFault::Memory),
+    }
+}
+
+#[cycle(read)]
+fn read_members(alloc: Global, depth: usize, members: &Table) -> Result<List<MetaEntry>, DocFault>
+    requires { depth ≤ DEEPEST + 1 }
+    ensures { Answers result (members_at depth (table_view members.now)) }
+{
+    let mut entries = List::new(alloc);
+    for (key, value) in members.iter() {
+        entries.push(MetaEntry {
+            key: Text::of(alloc, key.as_str())?,
+            value: read_value(alloc, depth, key.as_str(), value)?,
+        })?;
+    }
+    Ok(entries)
+}
+
+fn refused(alloc: Global, key: &str) -> DocFault
+    ensures { IsFault result (DocFault.MetaKind key.now) }
+{
+    match Text::of(alloc, key) {
+        Ok(path) => DocFault::MetaKind(path),
+        Err(Memory) => DocFault::Memory,
+    }
+}
+
+/// The fault of what stands below a key.
+fn below(alloc: Global, key: &str, fault: DocFault) -> DocFault
+    ensures { IsFault result (fault_below key.now fault) }
+{
+    match fault {
+        DocFault::MetaKind(path) => match joined(alloc, key, path.as_str()) {
+            Ok(path) => DocFault::MetaKind(path),
+            Err(Memory) => DocFault::Memory,
+        },
+        other => other,
+    }
+}
+
+fn joined(alloc: Global, key: &str, path: &str) -> Result<Text, Memory>
+    ensures { IfOk result (λ text. text ≡ key.now ++ 46 ∷ path.now) }
+{
+    let mut text = String::from_str(alloc, key)?;
+    text.push_str(".")?;
+    text.push_str(path)?;
+    Ok(Text::from_string(text))
+}
+
+#[cycle(write)]
+fn write_value(alloc: Global, meta: &Meta) -> Result<Value, Memory>
+    ensures { IfOk result (λ value. view value ≡ data_of meta.now) }
+{
+    match meta {
+        Meta::Bool(truth) => Ok(Value::Boolean(*truth)),
+        Meta::Int(number) => Ok(Value::Integer(*number)),
+        Meta::Text(text) => Ok(Value::String(String::from_str(alloc, text.as_str())?)),
+        Meta::List(list) => Ok(Value::Array(write_list(alloc, list.as_slice())?)),
+        Meta::Table(entries) => Ok(Value::Table(write_table(alloc, entries.as_slice())?)),
+    }
+}
+
+#[cycle(write)]
+fn write_list(alloc: Global, list: &[Meta]) -> Result<Array, Memory>
+    ensures { IfOk result (λ items. array_view items ≡ items_of (map data_of list.now)) }
+{
+    let mut items = Array::new(alloc);
+    for meta in list {
+        items.push(write_value(alloc, meta)?)?;
+    }
+    Ok(items)
+}
+
+#[cycle(write)]
+fn write_table(alloc: Global, entries: &[MetaEntry]) -> Result<Table, Memory>
+    ensures { IfOk result (λ table. table_view table ≡ put_all (map entry_of entries.now) no_members) }
+{
+    let mut table = Table::new(alloc);
+    for entry in entries {
+        let value = write_value(alloc, &entry.value)?;
+        put(alloc, &mut table, entry.key.as_str(), value)?;
+    }
+    Ok(table)
+}
+
+#[cfg(test)]
+mod tests {
+    use super::*;
+    use std::alloc::AllocError;
+    use std::test::Fail;
+
+    /// What a text's table is read as at a path: the text of a copy's table, or the path that is refused.
+    fn read(alloc: Global, text: &str, path: &str) -> Result<String, Fail> {
+        let table = toml::table_from_str(alloc, text)?;
+        match Meta::from_table(alloc, &table, path) {
+            Ok(meta) => {
+                let copy = meta.copy(alloc).map_err(|_| AllocError)?;
+                let written = copy.to_table(alloc).map_err(|_| AllocError)?;
+                Ok(toml::table_to_string(alloc, &written)?)
+            }
+            Err(DocFault::MetaKind(path)) => Ok(format!(in alloc; "refused {}", path.as_str())?),
+            Err(_) => Ok(String::from_str(alloc, "another fault")?),
+        }
+    }
+
+    /// Lists within lists at the key `a`, the innermost of which is empty and stands this deep.
+    fn lists(alloc: Global, depth: usize) -> Result<String, Fail> {
+        let mut text = String::from_str(alloc, "a = ")?;
+        for _ in 0..depth {
+            text.push_str("[")?;
+        }
+        for _ in 0..depth {
+            text.push_str("]")?;
+        }
+        text.push_str("\n")?;
+        Ok(text)
+    }
+
+    #[test]
+    fn tables(rt: HostRuntime) -> Result<(), Fail> {
+        let alloc = rt.alloc();
+        for (text, path, want) in [
+            ("", "m", ""),
+            ("a = 1\n", "m", "a = 1\n"),
+            (
+                "b = true\na = -9223372036854775808\n",
+                "m",
+                "a = -9223372036854775808\nb = true\n",
+            ),
+            (
+                "a = [1, \"x\", [false]]\n",
+                "m",
+                "a = [1, \"x\", [false]]\n",
+            ),
+            ("[b]\nc = \"\"\n[a]\n", "m", "[a]\n\n[b]\nc = \"\"\n"),
+            ("a = [1, 2.5]", "m", "refused m.a.1"),
+            ("a = 1.5", "metadata", "refused metadata.a"),
+            ("a = 1.5", "", "refused a"),
+            ("\"\" = 1.5", "m", "refused m."),
+            ("a = 2024-01-01", "m", "refused m.a"),
+            ("b = inf\na = 07:32:00", "m", "refused m.a"),
+            (
+                "b = 1.5\n[a]\nz = 1\nc = [{ d = nan }]",
+                "m",
+                "refused m.a.c.0.d",
+            ),
+            (
+                "[[a]]\n[[a]]\nb = 1979-05-27T07:32:00Z",
+                "layers.0.metadata",
+                "refused layers.0.metadata.a.1.b",
+            ),
+        ] {
+            assert_eq!(rt; read(alloc, text, path)?.as_str(), want, "{text}");
+        }
+        Ok(())
+    }
+
+    #[test]
+    fn depths(rt: HostRuntime) -> Result<(), Fail> {
+        let alloc = rt.alloc();
+        let kept = lists(alloc, 32)?;
+        assert_eq!(rt; read(alloc, kept.as_str(), "m")?.as_str(), kept.as_str());
+        let deeper = read(alloc, lists(alloc, 33)?.as_str(), "m")?;
+        assert_eq!(rt;
+            deeper.as_str(),
+            "refused m.a.0.0.0.0.0.0.0.0.0.0.0.0.0.0.0.0.0.0.0.0.0.0.0.0.0.0.0.0.0.0.0.0"
+        );
+        Ok(())
+    }
+}
