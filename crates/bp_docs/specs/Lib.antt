@@ -1,0 +1,3 @@
+pub mod BuildPlan
+pub mod Descriptor
+pub mod Order

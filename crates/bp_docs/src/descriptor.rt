@@ -1,0 +1,40 @@
+// Buildpack descriptors and orders.
+use cnb_toml::{BpId, BpVersion, Key};
+use cnb_world::{List, Text};
+
+/// One entry of a group of an order (buildpack.md, "buildpack.toml (TOML)", `order.group`).
+#[derive(Drop)]
+pub struct Entry {
+    pub id: BpId,
+    pub version: Option<BpVersion>,
+    pub optional: bool,
+}
+
+/// The entries of one group, in order.
+pub type Group = List<Entry>;
+
+/// Groups, in the order in which they are tried.
+pub type Order = List<List<Entry>>;
+
+/// What a descriptor describes: a component buildpack, a composite one, or one of another Buildpack API, of which
+/// nothing else is known.
+#[derive(Drop)]
+pub enum Body {
+    Component { clear_env: bool },
+    Composite(Order),
+    Foreign(Text),
+}
+
+/// A `buildpack.toml`.
+#[derive(Drop)]
+pub struct Descriptor {
+    pub key: Key,
+    pub body: Body,
+}
+
+/// The table `buildpack` of a descriptor.
+#[derive(Drop)]
+pub(crate) struct Head {
+    pub(crate) key: Key,
+    pub(crate) clear_env: bool,
+}

@@ -1,0 +1,15 @@
+//! The documents that buildpacks and orders are written in: `buildpack.toml`, the order, the Build Plan.
+#![tactic(auto)]
+
+mod build_plan;
+mod buildpack;
+mod descriptor;
+mod order;
+
+pub use build_plan::{PlanOption, read_build_plan};
+pub use buildpack::read_buildpack;
+pub use descriptor::{Body, Descriptor, Entry, Group, Order};
+pub use order::read_order;
+
+#[cfg(test)]
+mod tests;
