@@ -1,0 +1,13 @@
+pub mod Places
+pub mod Walks
+pub mod Levels
+pub mod Distinct
+pub mod Sizes
+pub mod Tables
+pub mod Finds
+pub mod Faults
+pub mod Counted
+pub mod Keys
+pub mod Marks
+pub mod Meeting
+pub mod Accepted

@@ -1,0 +1,43 @@
+-- Tables with a value for each descriptor of a catalog.
+use Rattle.std.proofs.Common.{◌≡◌, ℕ, ◌<◌, List, ◌∷◌, map, sym, ◌∙◌, ap, subst, length, arith}
+use Rattle.std.specs.Prelude.{Option, Some}
+use Rattle.std.specs.List.{slice_get}
+use Rattle.std.specs.Option.{option_map}
+use Rattle.std.proofs.lemmas.Option.{slice_get-map, slice_get_within}
+use Rattle.bp_docs.specs.declared.descriptor.Entry.{Entry}
+use Rattle.bp_docs.specs.declared.descriptor.Body.{Body}
+use Rattle.bp_docs.specs.declared.descriptor.Body.TheVariants.{Component, Composite}
+use Rattle.bp_docs.specs.declared.descriptor.Descriptor.{Descriptor}
+use Rattle.order_expand.specs.declared.member.Member.{Member}
+use Rattle.order_expand.specs.declared.size.Size.{Size}
+use Rattle.order_expand.specs.Groups.{in_front, in_front_of}
+use Rattle.order_expand.specs.Sizes.{size_of}
+
+some_injective : {X : Type 0} (x y : X) → Some x ≡ Some y → x ≡ y
+some_injective x y e = cc
+
+-- what stands in a table at a descriptor's place
+pub in_table : {X : Type 0} (f : Descriptor → X) (table : List X) (catalog : List Descriptor) (place : ℕ) (descriptor : Descriptor) (x : X) →
+    table ≡ map f catalog → slice_get catalog place ≡ Some descriptor → slice_get table place ≡ Some x → x ≡ f descriptor
+in_table f table catalog place descriptor x t d e =
+    some_injective x (f descriptor) (sym e ∙ (ap (λ ys. slice_get ys place) t ∙ (slice_get-map f catalog place ∙ ap (option_map f) d)))
+
+-- a descriptor's place is in each table
+pub place_in_table : {X : Type 0} (table : List X) (catalog : List Descriptor) (place : ℕ) (descriptor : Descriptor) →
+    length table ≡ length catalog → slice_get catalog place ≡ Some descriptor → place < length table
+place_in_table table catalog place descriptor e d = let h = slice_get_within catalog place descriptor d in omega arith
+
+-- ---- an entry's groups by what it names
+
+pub component_in_front : (groups_of : List (List Entry) → List (List Member)) (entry : Entry) (o : Option Descriptor) (d : Descriptor) (clear_env : _) (groups : List (List Member)) (size : Size) →
+    Some d ≡ o → d.body ≡ Component clear_env → ((member : Member) → size ≡ size_of (map (λ group. member ∷ group) groups)) → size ≡ size_of (in_front_of groups_of entry o groups)
+component_in_front groups_of entry o d clear_env groups size n b each =
+    let member : Member = record { key = d.key; optional = entry.optional; clear_env = clear_env } in
+    subst (λ (o : Option Descriptor). size ≡ size_of (in_front_of groups_of entry o groups)) n
+    (subst (λ (body : Body). size ≡ size_of (in_front groups_of entry d.key body groups)) (sym b) (each member))
+
+pub composite_in_front : (groups_of : List (List Entry) → List (List Member)) (entry : Entry) (o : Option Descriptor) (d : Descriptor) (order : List (List Entry)) (groups : List (List Member)) (size : Size) →
+    Some d ≡ o → d.body ≡ Composite order → size ≡ size_of (in_front groups_of entry d.key (Composite order) groups) → size ≡ size_of (in_front_of groups_of entry o groups)
+composite_in_front groups_of entry o d order groups size n b e =
+    subst (λ (o : Option Descriptor). size ≡ size_of (in_front_of groups_of entry o groups)) n
+    (subst (λ (body : Body). size ≡ size_of (in_front groups_of entry d.key body groups)) (sym b) e)

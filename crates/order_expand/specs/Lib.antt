@@ -1,0 +1,10 @@
+pub mod Added
+pub mod Catalog
+pub mod Check
+pub mod Examples
+pub mod Groups
+pub mod Places
+pub mod Chosen
+pub mod Sizes
+pub mod Nesting
+pub mod Met
