@@ -1,0 +1,56 @@
+-- The first passing trial, found by one trial after another.
+use Rattle.std.proofs.Common.{◌≡◌, ℕ, ◌+◌, ◌≤◌, List, ◌∷◌, length, drop, refl, ◌∙◌, ap, Option, Some, None, Ok, Bool, true, false, cond}
+use Rattle.std.specs.Prelude.{slice_get, nat_lt}
+use Rattle.std.proofs.lemmas.List.{drop_more, drop_all}
+use Rattle.std.proofs.lemmas.Option.{slice_get_within, get_or_from_slice_get}
+use Rattle.plan_resolve.specs.declared.rows.TrialRow.{TrialRow}
+use Rattle.plan_resolve.specs.declared.rows.AliveRow.{AliveRow}
+use Rattle.plan_resolve.specs.declared.rows.Resolved.{Resolved}
+use Rattle.plan_resolve.specs.Trials.{kept_of}
+use Rattle.plan_resolve.specs.Choices.{choices_of, choice_count}
+use Rattle.plan_resolve.specs.Resolution.{first_passing, resolved_at, Resolution, TooMany, passes_or_fails, resolution, ResolvesAs}
+
+drop_at : (trials : List (List TrialRow)) (number : ℕ) (trial : List TrialRow) → slice_get trials number ≡ Some trial → drop number trials ≡ trial ∷ drop (number + 1) trials
+drop_at trials number trial e =
+    drop_more trials number trial (slice_get_within trials number trial e)
+    ∙ ap (λ t. t ∷ drop (number + 1) trials) (get_or_from_slice_get trials number trial trial e)
+
+abbrev answer_of : List AliveRow → ℕ → List TrialRow → Option Resolved → Option (List ℕ) → Option Resolved
+answer_of rows number trial later kept = elim kept [ Some set ↦ Some (resolved_at rows number trial set) | None ↦ later ]
+
+pub next_fails : (rows : List AliveRow) (trials : List (List TrialRow)) (number : ℕ) (trial : List TrialRow) → slice_get trials number ≡ Some trial → kept_of trial ≡ None →
+    first_passing rows number (drop number trials) ≡ first_passing rows (number + 1) (drop (number + 1) trials)
+next_fails rows trials number trial e fails =
+    ap (first_passing rows number) (drop_at trials number trial e)
+    ∙ ap (answer_of rows number trial (first_passing rows (number + 1) (drop (number + 1) trials))) fails
+
+pub next_passes : (rows : List AliveRow) (trials : List (List TrialRow)) (number : ℕ) (trial : List TrialRow) (set : List ℕ) → slice_get trials number ≡ Some trial → kept_of trial ≡ Some set →
+    first_passing rows number (drop number trials) ≡ Some (resolved_at rows number trial set)
+next_passes rows trials number trial set e passes =
+    ap (first_passing rows number) (drop_at trials number trial e)
+    ∙ ap (answer_of rows number trial (first_passing rows (number + 1) (drop (number + 1) trials))) passes
+
+pub none_left : (rows : List AliveRow) (trials : List (List TrialRow)) (number : ℕ) → length trials ≤ number → first_passing rows number (drop number trials) ≡ None
+none_left rows trials number le = ap (first_passing rows number) (drop_all number trials le)
+
+-- ---- the answer
+
+pub count_none : (b : Bool) (n : ℕ) → None ≡ cond b None (Some n) → b ≡ true
+count_none true n e = refl
+count_none false n e = absurd cc
+
+pub count_some : (b : Bool) (m n : ℕ) → Some m ≡ cond b None (Some n) → (b ≡ false) × (m ≡ n)
+count_some true m n e = absurd cc
+count_some false m n e = (refl, cc)
+
+pub resolution_many : (rows : List AliveRow) → nat_lt 65536 (choice_count rows) ≡ true → resolution rows ≡ TooMany
+unfolding resolution
+resolution_many rows many = ap (λ b. elim b [ true ↦ TooMany | false ↦ passes_or_fails (first_passing rows 0 (choices_of rows)) ]) many
+
+pub resolution_tried : (rows : List AliveRow) → nat_lt 65536 (choice_count rows) ≡ false → resolution rows ≡ passes_or_fails (first_passing rows 0 (choices_of rows))
+unfolding resolution
+resolution_tried rows few = ap (λ b. elim b [ true ↦ TooMany | false ↦ passes_or_fails (first_passing rows 0 (choices_of rows)) ]) few
+
+pub resolves : (passing : Option Resolved) (resolution : Resolution) → resolution ≡ passes_or_fails passing → ResolvesAs (Ok passing) resolution
+resolves None resolution e = e
+resolves (Some resolved) resolution e = e

@@ -1,0 +1,31 @@
+-- One round of taking away the buildpacks that do not hold.
+use Rattle.std.specs.Prelude.{ℕ, Bool, true, List, [], ◌∷◌, ◌&&◌, ◌||◌, nat_lt, reverse, slice_get, if◌then◌else◌, Option, Some, None}
+use Rattle.std.specs.List.{filter, list_any, list_all}
+use Rattle.plan_resolve.specs.declared.rows.TrialRow.{TrialRow}
+use Rattle.plan_resolve.specs.Trials.{has_name, has_need, provided_at, required_at, holds, is_optional_at}
+
+-- each place is greater than those before it
+abbrev pub is_ascending : List ℕ → Bool
+is_ascending [] = true
+is_ascending (place ∷ places) = list_all (nat_lt place) places && is_ascending places
+
+-- some of these places provides the name
+abbrev pub is_provided_by : List TrialRow → List ℕ → List ℕ → Bool
+is_provided_by trial places name = list_any (λ place. has_name (provided_at trial place) name) places
+
+-- some of these places requires the name
+abbrev pub is_required_by : List TrialRow → List ℕ → List ℕ → Bool
+is_required_by trial places name = list_any (λ place. has_need (required_at trial place) name) places
+
+-- whether what a buildpack requires is provided before it, and what it provides is required behind it
+abbrev pub row_holds : List TrialRow → List ℕ → List ℕ → TrialRow → Bool
+row_holds trial before behind row =
+    list_all (λ need. is_provided_by trial (reverse before) need.name) row.needs && list_all (is_required_by trial behind) row.provides
+
+-- whether each of a set's places, the required ones at least, holds
+abbrev pub required_hold : List TrialRow → List ℕ → Bool
+required_hold trial set = list_all (λ place. holds trial set place || is_optional_at (slice_get trial place)) set
+
+-- the places that hold, where the required ones do
+abbrev pub holding_of : List TrialRow → List ℕ → Option (List ℕ)
+holding_of trial set = if required_hold trial set then Some (filter (holds trial set) set) else None

@@ -1,0 +1,17 @@
+//! Which of a group's alternatives hold together, and the plan that they make.
+#![tactic(auto)]
+
+mod borrowed;
+mod choosing;
+mod kept_rows;
+mod plan;
+mod pruning;
+mod resolution;
+mod rows;
+#[cfg(test)]
+mod tests;
+mod trial;
+
+pub use resolution::{PlanFault, resolve};
+pub use rows::{Alive, AliveRow, Resolved, Trial, TrialRow};
+pub use trial::kept;

@@ -1,0 +1,147 @@
+// Which buildpacks of a trial hold together: those that do not are taken away until nothing changes.
+ghost use Rattle.std.specs.Prelude.{◌≡◌, ◌<◌, ◌^◌, IsTrue, IfOk, length, reverse, slice_get, slice_index};
+ghost use Rattle.std.specs.Option.{option_map};
+ghost use Rattle.std.specs.List.{list_all};
+ghost use Rattle.plan_resolve.specs.Trials.{has_name, has_need, provided_at, required_at, holds, is_optional_at, numbers_below, kept_of};
+ghost use Rattle.plan_resolve.specs.Pruning.{is_ascending, is_provided_by, is_required_by, row_holds, holding_of};
+
+use crate::borrowed::BorrowedRow;
+use cnb_toml::Need;
+use cnb_world::{Memory, Text};
+use std::alloc::Global;
+
+/// Whether a name is among these.
+pub fn has_name(names: &[Text], name: &str) -> bool
+    ensures { result ≡ has_name names.now name.now }
+{
+    names.iter().any(|other| name == other.as_str())
+}
+
+fn has_need(needs: &[Need], name: &str) -> bool
+    ensures { result ≡ has_need needs.now name.now }
+{
+    needs.iter().any(|need| name == need.name.as_str())
+}
+
+fn provides(trial: &[BorrowedRow], place: u32, name: &str) -> bool
+    ensures { result ≡ has_name (provided_at trial.now place) name.now }
+{
+    match trial.get(place as usize) {
+        Some(row) => has_name(row.provides(), name),
+        None => false,
+    }
+}
+
+fn requires_name(trial: &[BorrowedRow], place: u32, name: &str) -> bool
+    ensures { result ≡ has_need (required_at trial.now place) name.now }
+{
+    match trial.get(place as usize) {
+        Some(row) => has_need(row.needs(), name),
+        None => false,
+    }
+}
+
+fn is_provided_by(trial: &[BorrowedRow], places: &[u32], name: &str) -> bool
+    ensures { result ≡ is_provided_by trial.now (reverse places.now) name.now }
+{
+    places
+        .iter()
+        .rev()
+        .any(|place| provides(trial, *place, name))
+}
+
+fn is_required_by(trial: &[BorrowedRow], places: &[u32], name: &str) -> bool
+    ensures { result ≡ is_required_by trial.now places.now name.now }
+{
+    places
+        .iter()
+        .any(|place| requires_name(trial, *place, name))
+}
+
+fn are_provided(trial: &[BorrowedRow], before: &[u32], needs: &[Need]) -> bool
+    ensures { result ≡ list_all (λ need. is_provided_by trial.now (reverse before.now) need.name) needs.now }
+{
+    needs
+        .iter()
+        .all(|need| is_provided_by(trial, before, need.name.as_str()))
+}
+
+fn are_required(trial: &[BorrowedRow], behind: &[u32], names: &[Text]) -> bool
+    ensures { result ≡ list_all (is_required_by trial.now behind.now) names.now }
+{
+    names
+        .iter()
+        .all(|name| is_required_by(trial, behind, name.as_str()))
+}
+
+/// Whether a buildpack holds by the places before and behind it, its own among both.
+fn row_holds(trial: &[BorrowedRow], before: &[u32], behind: &[u32], row: &BorrowedRow) -> bool
+    ensures { result ≡ row_holds trial.now before.now behind.now row.now }
+{
+    are_provided(trial, before, row.needs()) && are_required(trial, behind, row.provides())
+}
+
+/// Whether the buildpack at a place of an ascending set holds. It is looked for outwards, since most stand near.
+fn holds(trial: &[BorrowedRow], set: &[u32], index: usize) -> bool
+    requires within { index < length set.now }
+    requires ascending { IsTrue (is_ascending set.now) }
+    ensures { result ≡ holds trial.now set.now (slice_index set.now index) }
+{
+    let (before, behind) = (&set[..index + 1], &set[index..]);
+    match trial.get(set[index] as usize) {
+        Some(row) => row_holds(trial, before, behind, row),
+        None => true,
+    }
+}
+
+fn is_optional(trial: &[BorrowedRow], place: u32) -> bool
+    ensures { result ≡ is_optional_at (slice_get trial.now place) }
+{
+    match trial.get(place as usize) {
+        Some(row) => row.is_optional(),
+        None => true,
+    }
+}
+
+/// The places of a set that hold, or none where a required one does not.
+fn holding(alloc: Global, trial: &[BorrowedRow], set: &[u32]) -> Result<Option<Vec<u32>>, Memory>
+    requires { IsTrue (is_ascending set.now) }
+    ensures { IfOk result (λ held. option_map (λ places. places.items) held ≡ holding_of trial.now set.now) }
+{
+    let mut held = Vec::new(alloc);
+    for (index, place) in set.iter().enumerate() {
+        if holds(trial, set, index) {
+            held.push(*place)?;
+        } else if !is_optional(trial, *place) {
+            return Ok(None);
+        }
+    }
+    Ok(Some(held))
+}
+
+fn numbers_below(alloc: Global, count: u32) -> Result<Vec<u32>, Memory>
+    ensures { IfOk result (λ numbers. numbers.items ≡ numbers_below count) }
+{
+    let mut numbers = Vec::with_capacity(alloc, count as usize)?;
+    for number in 0..count {
+        numbers.push(number)?;
+    }
+    Ok(numbers)
+}
+
+/// The places that a trial keeps, ascending, or none where the trial fails.
+pub fn kept_places(alloc: Global, trial: &[BorrowedRow]) -> Result<Option<Vec<u32>>, Memory>
+    requires { length trial.now < 2 ^ 32 }
+    ensures { IfOk result (λ kept. option_map (λ places. places.items) kept ≡ kept_of trial.now) }
+{
+    let mut set = numbers_below(alloc, trial.len() as u32)?;
+    'rounds: loop {
+        let Some(held) = holding(alloc, trial, set.as_slice())? else {
+            return Ok(None);
+        };
+        if held.len() == set.len() {
+            return Ok((!set.is_empty()).then_some(set));
+        }
+        set = held;
+    }
+}

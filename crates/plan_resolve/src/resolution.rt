@@ -1,0 +1,94 @@
+// The first trial that passes.
+ghost use Rattle.std.specs.Prelude.{◌≡◌, ◌<◌, ◌^◌, IsTrue, IfOk, length};
+ghost use Rattle.std.specs.List.{list_all};
+ghost use Rattle.plan_resolve.specs.Choices.{choices_of, choice_count};
+ghost use Rattle.plan_resolve.specs.Resolution.{resolution, ResolvesAs, has_options, first_passing, resolved_at};
+
+use crate::borrowed::BorrowedRow;
+use crate::choosing::{chosen, trial_count};
+use crate::kept_rows::kept_rows;
+use crate::plan::plan;
+use crate::pruning::kept_places;
+use crate::rows::{Alive, AliveRow, Resolved};
+use cnb_world::{List, Memory};
+use std::alloc::Global;
+
+/// Why a group's trials were not resolved.
+#[derive(Clone, Copy, Debug, PartialEq, Eq)]
+pub enum PlanFault {
+    /// There are more than 65,536.
+    ManyTrials,
+    Memory,
+}
+
+fn list_of(alloc: Global, places: &[u32]) -> Result<List<u32>, Memory>
+    ensures { IfOk result (λ list. list ≡ places.now) }
+{
+    let mut list = List::new(alloc);
+    for place in places {
+        list.push(*place)?;
+    }
+    Ok(list)
+}
+
+/// What is resolved where the trial of a number keeps these places.
+fn resolved<'a>(
+    alloc: Global,
+    rows: &'a [AliveRow],
+    trials: u32,
+    number: u32,
+    trial: &'a [BorrowedRow<'a>],
+    places: &[u32],
+) -> Result<Resolved, Memory>
+    requires { trials ≡ choice_count rows.now }
+    ensures { IfOk result (λ resolved. resolved ≡ resolved_at rows.now number trial.now places.now) }
+{
+    let rows = kept_rows(alloc, rows, trial, places)?;
+    let plan = plan(alloc, rows.as_slice())?;
+    let kept = list_of(alloc, places)?;
+    Ok(Resolved {
+        trial: number,
+        trials,
+        kept,
+        plan,
+    })
+}
+
+/// The first of all trials that passes.
+fn first_passing(alloc: Global, rows: &[AliveRow], trials: u32) -> Result<Option<Resolved>, Memory>
+    requires len { length rows.now < 2 ^ 32 }
+    requires count { trials ≡ choice_count rows.now }
+    ensures { IfOk result (λ passing. passing ≡ first_passing rows.now 0 (choices_of rows.now)) }
+{
+    for number in 0..trials {
+        let trial = chosen(alloc, rows, trials, number)?;
+        if let Some(places) = kept_places(alloc, trial.as_slice())? {
+            let resolved = resolved(
+                alloc,
+                rows,
+                trials,
+                number,
+                trial.as_slice(),
+                places.as_slice(),
+            )?;
+            return Ok(Some(resolved));
+        }
+    }
+    Ok(None)
+}
+
+/// The first trial of a group that passes, with its plan.
+pub fn resolve(alloc: Global, alive: &Alive) -> Result<Option<Resolved>, PlanFault>
+    requires rows { length alive.now < 2 ^ 32 }
+    requires options { IsTrue (list_all has_options alive.now) }
+    ensures { ResolvesAs result (resolution alive.now) }
+{
+    let rows = alive.as_slice();
+    let Some(trials) = trial_count(rows) else {
+        return Err(PlanFault::ManyTrials);
+    };
+    match first_passing(alloc, rows, trials) {
+        Ok(passing) => Ok(passing),
+        Err(Memory) => Err(PlanFault::Memory),
+    }
+}
