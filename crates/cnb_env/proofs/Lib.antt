@@ -1,0 +1,4 @@
+pub mod FileLemmas
+pub mod FolderLemmas
+pub mod Listing
+pub mod Texts

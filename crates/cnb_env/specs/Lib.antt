@@ -1,0 +1,4 @@
+pub mod Contents
+pub mod Counts
+pub mod Files
+pub mod Platform

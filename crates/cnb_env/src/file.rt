@@ -1,0 +1,112 @@
+// One environment file.
+ghost use Rattle.std.specs.Prelude.{◌≡◌, ◌≤◌, ◌==◌, IfSome, IsTrue, Ok, length, ℕ};
+ghost use Rattle.std.specs.List.{list_any};
+ghost use Rattle.cnb_world.specs.Path.{is_part, joined};
+ghost use Rattle.cnb_world.specs.Tree.{item_at};
+ghost use Rattle.cnb_env.specs.Contents.{Reads, contents_of, file_at, file_of, has_equals};
+ghost use Rattle.cnb_env.specs.Counts.{CountsFiles};
+ghost use Rattle.cnb_env.specs.Files.{value_in};
+
+use crate::fault::blamed;
+use crate::files::{EnvFault, EnvFile};
+use cnb_toml::DocFault;
+use cnb_world::{Bytes, Kind, LimitKind, Path, Text, World};
+use std::alloc::Global;
+
+/// The longest environment file, in bytes.
+const LONGEST_FILE: u64 = 1048576;
+
+// The bytes of a regular file.
+fn contents<W: World>(alloc: Global, world: &mut W, path: &Path) -> Result<Option<Bytes>, EnvFault>
+    ensures reads { IfSome (W.tree world.old) (λ files. Reads result (contents_of (item_at files path.now))) }
+    ensures tree { W.tree world.new ≡ W.tree world.old }
+    ensures files { CountsFiles result (W.file_faults world.old) (W.file_faults world.new) }
+    ensures children { W.child_faults world.new ≡ W.child_faults world.old }
+    ensures runs { W.runs world.new ≡ W.runs world.old }
+    ensures misused { W.misused world.new ≡ W.misused world.old }
+{
+    match world.kind(path) {
+        Ok(Kind::File { len, .. }) if len > LONGEST_FILE => Err(EnvFault::Limit(
+            LimitKind::Document,
+        )),
+        Ok(Kind::File { .. }) => match world.read(path, 0, LONGEST_FILE) {
+            Ok(bytes) => Ok(Some(bytes)),
+            Err(fault) => Err(blamed(alloc, path, fault)),
+        },
+        Ok(_) => Ok(None),
+        Err(fault) => Err(blamed(alloc, path, fault)),
+    }
+}
+
+fn has_zero(bytes: &[u8]) -> bool
+    ensures { result ≡ list_any (λ byte. byte == 0) bytes.now }
+{
+    bytes.iter().any(|byte| *byte == 0)
+}
+
+fn has_equals(name: &[u8]) -> bool
+    ensures { result ≡ has_equals name.now }
+{
+    name.iter().any(|byte| *byte == b'=')
+}
+
+// The value that a file's bytes are.
+#[tactic(auto, using(crate::proofs::Texts::is_text, crate::proofs::Texts::is_no_text))]
+fn value_in(alloc: Global, path: &Path, bytes: &[u8]) -> Result<Text, EnvFault>
+    ensures reads { Reads result (value_in path.now bytes.now) }
+    ensures files { (n : ℕ) → CountsFiles result n n }
+{
+    match std::str::from_utf8(bytes) {
+        Err(_) => Err(EnvFault::Document(path.copy(alloc)?, DocFault::NotUtf8)),
+        Ok(_) if has_zero(bytes) => Err(EnvFault::Document(
+            path.copy(alloc)?,
+            DocFault::Wrong(Text::of(alloc, "value")?),
+        )),
+        Ok(text) => Ok(Text::of(alloc, text)?),
+    }
+}
+
+// The variable's file of a name, from the bytes of the regular file there.
+fn file_of(
+    alloc: Global,
+    path: &Path,
+    name: &Text,
+    found: Option<Bytes>,
+) -> Result<Option<EnvFile>, EnvFault>
+    ensures reads { Reads result (file_of name.now path.now (Ok found)) }
+    ensures files { (n : ℕ) → CountsFiles result n n }
+{
+    match found {
+        Some(bytes) => {
+            let value = value_in(alloc, path, bytes.as_slice())?;
+            let name = name.copy(alloc)?;
+            Ok(Some(EnvFile { name, value }))
+        }
+        None => Ok(None),
+    }
+}
+
+/// The variable's file of a name in the folder.
+#[tactic(auto, using(crate::proofs::FileLemmas::counts_after, crate::proofs::FileLemmas::file_fits))]
+pub(crate) fn read_file<W: World>(
+    alloc: Global,
+    world: &mut W,
+    folder: &Path,
+    name: &Text,
+) -> Result<Option<EnvFile>, EnvFault>
+    requires part { IsTrue (is_part name.now) }
+    requires short { length folder.now ≤ 8196 }
+    ensures reads { IfSome (W.tree world.old) (λ files. Reads result (file_at files folder.now name.now)) }
+    ensures tree { W.tree world.new ≡ W.tree world.old }
+    ensures files { CountsFiles result (W.file_faults world.old) (W.file_faults world.new) }
+    ensures children { W.child_faults world.new ≡ W.child_faults world.old }
+    ensures runs { W.runs world.new ≡ W.runs world.old }
+    ensures misused { W.misused world.new ≡ W.misused world.old }
+{
+    if has_equals(name.as_str().as_bytes()) {
+        return Ok(None);
+    }
+    let path = folder.below(alloc, name.as_str())?;
+    let found = contents(alloc, world, &path)?;
+    Ok(file_of(alloc, &path, name, found)?)
+}
