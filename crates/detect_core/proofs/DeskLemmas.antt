@@ -1,0 +1,49 @@
+-- A search over the first of some desks is a detection.
+use Rattle.std.proofs.Common.{◌≡◌, ◌∙◌, refl, sym, ap, subst, ◌<◌, List, [], ◌∷◌, map, get_or, length, arith}
+use Rattle.std.specs.Prelude.{Result, slice_set}
+use Rattle.std.proofs.Math.Seq.{drop-append_seam}
+use Rattle.cnb_world.specs.Runs.{Ran}
+use Rattle.bp_docs.specs.declared.descriptor.Entry.{Entry}
+use Rattle.bp_docs.specs.declared.descriptor.Descriptor.{Descriptor}
+use Rattle.order_expand.specs.Groups.{listed_groups}
+use Rattle.detect_core.specs.declared.chosen.Chosen.{Chosen}
+use Rattle.detect_core.specs.declared.chosen.DetectEnd.{DetectEnd}
+use Rattle.detect_core.specs.declared.chosen.DetectFrame.{DetectFrame}
+use Rattle.detect_core.specs.Answer.{build_plan, says}
+use Rattle.detect_core.specs.Detection.{first_trial, asked_members, asked_keys, has_erred}
+use Rattle.detect_core.specs.Job.{detect_job}
+use Rattle.detect_core.specs.Search.{first_runs, since, DetectsAs, OnDetected}
+use Rattle.detect_core.specs.Searching.{IsSearch}
+
+-- the answer and the children of a detection that ran these
+pub record IsDetection (frame : DetectFrame) (catalog : List Descriptor) (order : List (List Entry)) (ran : List Ran) (result : Result Chosen DetectEnd) : Type 0 where
+  pub detects : DetectsAs result (first_trial (says build_plan ran) catalog order) (asked_keys (says build_plan ran) catalog order) (has_erred (says build_plan ran) catalog order)
+  pub asked : OnDetected result (map (λ r. r.job) ran ≡ map (detect_job frame) (asked_members (says build_plan ran) catalog order))
+
+detection_of : (frame : DetectFrame) (catalog : List Descriptor) (order : List (List Entry)) (r0 r1 : List Ran) (result : Result Chosen DetectEnd) (s : IsSearch frame (listed_groups catalog order) r0 r1 result) →
+    IsDetection frame catalog order s.ran result
+unfolding first_trial asked_members
+detection_of frame catalog order r0 r1 result s = record { detects = s.detects; asked = s.asked }
+
+searched : (frame : DetectFrame) (catalog : List Descriptor) (order : List (List Entry)) (r0 r1 : List Ran) (result : Result Chosen DetectEnd) → IsSearch frame (listed_groups catalog order) r0 r1 result →
+    IsDetection frame catalog order (since r0 r1) result
+searched frame catalog order r0 r1 result s =
+    subst (λ (ran : List Ran). IsDetection frame catalog order ran result)
+    (sym (ap (since r0) s.runs ∙ drop-append_seam r0 s.ran)) (detection_of frame catalog order r0 r1 result s)
+
+-- the first of some desks, before and after it is set
+first_before : {S : Type 0} (runs : S → List Ran) (desks : List S) (desk : S) → 0 < length desks → desk ≡ get_or desks 0 desk → first_runs runs desks ≡ runs desk
+first_before runs [] desk some is = absurd (omega arith)
+first_before runs (first ∷ desks) desk some is = ap runs (sym is)
+
+first_after : {S : Type 0} (runs : S → List Ran) (desks : List S) (desk : S) → 0 < length desks → first_runs runs (slice_set desks 0 desk) ≡ runs desk
+first_after runs [] desk some = absurd (omega arith)
+first_after runs (first ∷ desks) desk some = refl
+
+pub searched_first : {S : Type 0} (runs : S → List Ran) (desks : List S) (old new : S) (frame : DetectFrame) (catalog : List Descriptor) (order : List (List Entry)) (result : Result Chosen DetectEnd) →
+    0 < length desks → old ≡ get_or desks 0 old → IsSearch frame (listed_groups catalog order) (runs old) (runs new) result →
+    IsDetection frame catalog order (since (first_runs runs desks) (first_runs runs (slice_set desks 0 new))) result
+searched_first runs desks old new frame catalog order result some is s =
+    subst (λ (ran : List Ran). IsDetection frame catalog order ran result)
+    (λ i. since (sym (first_before runs desks old some is) i) (sym (first_after runs desks new some) i))
+    (searched frame catalog order (runs old) (runs new) result s)

@@ -1,0 +1,16 @@
+pub mod AskingLemmas
+pub mod JudgingLemmas
+pub mod EndingLemmas
+pub mod MemberLemmas
+pub mod AnswerLemmas
+pub mod SearchLemmas
+pub mod LimitLemmas
+pub mod TurnLemmas
+pub mod DeskLemmas
+pub mod PathLemmas
+pub mod EnvironmentLemmas
+pub mod PlanNameLemmas
+pub mod ListLemmas
+pub mod OwnIdLemmas
+pub mod PlanDocLemmas
+pub mod WrittenLemmas

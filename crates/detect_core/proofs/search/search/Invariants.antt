@@ -1,0 +1,12 @@
+use Rattle.std.proofs.Common.{◌≡◌, length}
+use Rattle.order_expand.specs.Groups.{listed_groups}
+use Rattle.detect_core.proofs.SearchLemmas.{IsAt}
+use Rattle.detect_core.proofs.search.search.Given as goal
+
+abbrev pub invariant-loop-kept : goal.invariant-loop-kept
+invariant-loop-kept g l =
+    IsAt l.frame (listed_groups l.catalog l.order) l.walk l.place (g.S.Spawner.runs l.initial.desk) (g.S.Spawner.runs l.desk) l.kept l.erred
+    × (g.S.Spawner.faults l.desk ≡ g.S.Spawner.faults l.initial.desk)
+
+abbrev pub decreases-loop-kept : goal.decreases-loop-kept
+decreases-loop-kept g l = length l.walk

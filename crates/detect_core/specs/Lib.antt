@@ -1,0 +1,11 @@
+pub mod Answer
+pub mod Asking
+pub mod Detection
+pub mod Ending
+pub mod Examples
+pub mod Job
+pub mod Judging
+pub mod Kept
+pub mod PlanName
+pub mod Search
+pub mod Searching

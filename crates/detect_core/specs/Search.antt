@@ -1,0 +1,79 @@
+-- What a call that detects says of its answer, of the children that it ran and of the desks' faults.
+use Rattle.std.specs.Prelude.{ℕ, ◌≡◌, ◌≤◌, ◌&&◌, Bool, List, [], ◌∷◌, ◌++◌, codes, drop, length, map, nat_le, take, Option, Some, None, Result, Ok, Err}
+use Rattle.cnb_world.specs.Calls.{Rose}
+use Rattle.cnb_world.specs.Runs.{Ran}
+use Rattle.cnb_toml.specs.declared.names.Key.{Key}
+use Rattle.run_docs.specs.declared.group.GroupRow.{GroupRow}
+use Rattle.order_expand.specs.declared.member.Member.{Member}
+use Rattle.plan_resolve.specs.declared.rows.Resolved.{Resolved}
+use Rattle.detect_core.specs.declared.chosen.Chosen.{Chosen}
+use Rattle.detect_core.specs.declared.chosen.DetectEnd.{DetectEnd}
+use Rattle.detect_core.specs.declared.chosen.DetectEnd.TheVariants.{NoGroup, ManyTrials, Child, Memory}
+use Rattle.detect_core.specs.declared.chosen.DetectFrame.{DetectFrame}
+use Rattle.detect_core.specs.Detection.{Ending, TooManyTrials, FirstTrial, members_of}
+use Rattle.detect_core.specs.Job.{detect_job}
+
+-- the children that a desk ran in the call
+abbrev pub since : List Ran → List Ran → List Ran
+since old new = drop (length old) new
+
+-- what the first of some desks has run, and its faults
+abbrev pub first_runs : {S : Type 0} → (S → List Ran) → List S → List Ran
+first_runs runs [] = []
+first_runs runs (desk ∷ desks) = runs desk
+
+abbrev pub first_faults : {S : Type 0} → (S → ℕ) → List S → ℕ
+first_faults faults [] = 0
+first_faults faults (desk ∷ desks) = faults desk
+
+-- the chosen group, each buildpack with the API that it is written for
+abbrev pub group_rows : List Key → List GroupRow
+group_rows keys = map (λ key. record { key = key; api = codes "0.10" }) keys
+
+-- a choice is that of the first trial that passes
+pub record IsChoice (chosen : Chosen) (at : ℕ) (resolved : Resolved) (kept keys : List Key) : Type 0 where
+  pub group : chosen.group ≡ group_rows kept
+  pub plan : chosen.plan ≡ resolved.plan
+  pub place : chosen.place ≡ at
+  pub trial : chosen.trial ≡ resolved.trial
+  pub trials : chosen.trials ≡ resolved.trials
+  pub asked : chosen.asked ≡ keys
+
+-- the answer of a detection that ended so, where an asked child erred or not; a failed desk and want of memory say nothing
+abbrev pub DetectsAs : Result Chosen DetectEnd → Option Ending → List Key → Bool → Type 0
+DetectsAs (Ok chosen) (Some (FirstTrial place resolved group)) asked erred = IsChoice chosen place resolved group asked
+DetectsAs (Ok chosen) (Some (TooManyTrials place)) asked erred = ⊥
+DetectsAs (Ok chosen) None asked erred = ⊥
+DetectsAs (Err ManyTrials) (Some (TooManyTrials place)) asked erred = Unit {0}
+DetectsAs (Err ManyTrials) (Some (FirstTrial place resolved group)) asked erred = ⊥
+DetectsAs (Err ManyTrials) None asked erred = ⊥
+DetectsAs (Err (NoGroup told)) None asked erred = told ≡ erred
+DetectsAs (Err (NoGroup told)) (Some ending) asked erred = ⊥
+DetectsAs (Err Child) ending asked erred = Unit {0}
+DetectsAs (Err Memory) ending asked erred = Unit {0}
+
+-- the fact, unless a desk failed or memory ran out
+abbrev pub OnDetected : Result Chosen DetectEnd → Type 0 → Type 0
+OnDetected (Ok chosen) P = P
+OnDetected (Err (NoGroup erred)) P = P
+OnDetected (Err ManyTrials) P = P
+OnDetected (Err Child) P = Unit {0}
+OnDetected (Err Memory) P = Unit {0}
+
+-- a desk's faults: `Child` comes where the count rose
+abbrev pub CountsDetection : {T : Type 0} → Result T DetectEnd → ℕ → ℕ → Type 0
+CountsDetection (Err Child) before now = Rose before now
+CountsDetection (Err Memory) before now = before ≤ now
+CountsDetection result before now = now ≡ before
+
+-- the new list is the old with more behind it
+abbrev pub IsExtended : List Ran → List Ran → Type 0
+IsExtended old new = (more : List Ran) × (new ≡ old ++ more)
+
+-- the first of the members of some groups, each buildpack once, were asked in order
+abbrev pub AsksSome : DetectFrame → List (List Member) → List Ran → Type 0
+AsksSome frame groups rans = (count : ℕ) × (map (λ ran. ran.job) rans ≡ map (detect_job frame) (take count (members_of groups)))
+
+-- the folders of a frame are short enough that every path that is made of them is a path
+abbrev pub is_short : DetectFrame → Bool
+is_short frame = nat_le (length frame.buildpacks) 4096 && nat_le (length frame.app) 4096 && nat_le (length frame.platform) 4096 && nat_le (length frame.work) 4096

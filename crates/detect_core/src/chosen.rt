@@ -1,0 +1,72 @@
+// What a detection is asked and answers.
+use bp_docs::PlanOption;
+use cnb_env::EnvFile;
+use cnb_toml::Key;
+use cnb_world::{DetectFault, Env, List, Memory, Path};
+use run_docs::{GroupDoc, PlanDoc};
+
+/// What all detect children of one call have in common: the folders, the environment that was handed in, and the
+/// platform's environment files.
+#[derive(Drop)]
+pub struct DetectFrame {
+    pub buildpacks: Path,
+    pub app: Path,
+    pub platform: Path,
+    pub work: Path,
+    pub env: Env,
+    pub files: List<EnvFile>,
+}
+
+/// What a detect child's end says (buildpack.md, "Detection").
+#[derive(Drop)]
+pub enum Verdict {
+    Pass(List<PlanOption>),
+    Fail,
+    Error,
+}
+
+/// The choice: the group and its plan, the group's place among the listed groups, the number of the passing trial
+/// and of all trials of that group, and the buildpacks that were asked, in order.
+#[derive(Drop)]
+pub struct Chosen {
+    pub group: GroupDoc,
+    pub plan: PlanDoc,
+    pub place: u32,
+    pub trial: u32,
+    pub trials: u32,
+    pub asked: List<Key>,
+}
+
+/// Why no group was chosen.
+#[derive(Drop)]
+pub enum DetectEnd {
+    NoGroup { erred: bool },
+    ManyTrials,
+    Child,
+    Memory,
+}
+
+impl From<Memory> for DetectEnd {
+    ghost use Rattle.std.specs.Prelude.{◌≡◌};
+    ghost use Rattle.detect_core.specs.declared.chosen.DetectEnd.TheVariants.{Memory};
+
+    ghost from_gives = { λ _ end. end ≡ Memory };
+
+    fn from(_: Memory) -> Self {
+        DetectEnd::Memory
+    }
+}
+
+impl From<DetectFault> for DetectEnd {
+    ghost use Rattle.std.specs.Prelude.{◌≡◌};
+    ghost use Rattle.detect_core.specs.Searching.{end_of_fault};
+
+    ghost from_gives = { λ fault end. end ≡ end_of_fault fault };
+
+    fn from(fault: DetectFault) -> Self {
+        match fault {
+            DetectFault::Failed => DetectEnd::Child,
+            DetectFault::Memory => DetectEnd::Memory,
+        }
+    }
+}
