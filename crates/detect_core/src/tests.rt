@@ -57,9 +57,15 @@ fn replies(alloc: Global, text: &str) -> Result<List<Reply>, Fail> {
     for word in text.split_whitespace() {
         let (id, end) = word.split_once('=').ok_or("no `=`")?;
         let (code, plan) = if let Some((code, name)) = end.split_once('+') {
-            (code, format!(in alloc; "[[provides]]\nname = \"{name}\"\n")?)
+            (
+                code,
+                format!(in alloc; "[[provides]]\nname = \"{name}\"\n")?,
+            )
         } else if let Some((code, name)) = end.split_once('-') {
-            (code, format!(in alloc; "[[requires]]\nname = \"{name}\"\n")?)
+            (
+                code,
+                format!(in alloc; "[[requires]]\nname = \"{name}\"\n")?,
+            )
         } else {
             (end, String::new(alloc))
         };
@@ -153,17 +159,53 @@ fn the_first_group_that_passes(rt: HostRuntime) -> Result<(), Fail> {
     let alloc = rt.alloc();
     let catalog = catalog(alloc, "a b c")?;
     for (groups, table, answer) in [
-        ("a | b", "a=100 b=0", "group 1: b, plan, trial 0 of 1; asked a b"),
-        ("a | b", "a=0 b=0", "group 0: a, plan, trial 0 of 1; asked a"),
-        ("a b | c", "a=0 b=100 c=0", "group 1: c, plan, trial 0 of 1; asked a b c"),
-        ("a b? | c", "a=0 b=100 c=0", "group 0: a, plan, trial 0 of 1; asked a b"),
+        (
+            "a | b",
+            "a=100 b=0",
+            "group 1: b, plan, trial 0 of 1; asked a b",
+        ),
+        (
+            "a | b",
+            "a=0 b=0",
+            "group 0: a, plan, trial 0 of 1; asked a",
+        ),
+        (
+            "a b | c",
+            "a=0 b=100 c=0",
+            "group 1: c, plan, trial 0 of 1; asked a b c",
+        ),
+        (
+            "a b? | c",
+            "a=0 b=100 c=0",
+            "group 0: a, plan, trial 0 of 1; asked a b",
+        ),
         ("a? b?", "a=100 b=100", "none passes; asked a b"),
         ("a", "a=1", "none passes, one erred; asked a"),
-        ("a | b", "a=7 b=0", "group 1: b, plan, trial 0 of 1; asked a b"),
-        ("a b | a c", "a=0 b=100 c=0", "group 1: a c, plan, trial 0 of 1; asked a b c"),
-        ("a b", "a=0+x b=0-x", "group 0: a b, plan x, trial 0 of 1; asked a b"),
-        ("a b | c", "a=0-x b=0+x c=0", "group 1: c, plan, trial 0 of 1; asked a b c"),
-        ("a b? | c", "a=0 b=0+x c=0", "group 0: a, plan, trial 0 of 1; asked a b"),
+        (
+            "a | b",
+            "a=7 b=0",
+            "group 1: b, plan, trial 0 of 1; asked a b",
+        ),
+        (
+            "a b | a c",
+            "a=0 b=100 c=0",
+            "group 1: a c, plan, trial 0 of 1; asked a b c",
+        ),
+        (
+            "a b",
+            "a=0+x b=0-x",
+            "group 0: a b, plan x, trial 0 of 1; asked a b",
+        ),
+        (
+            "a b | c",
+            "a=0-x b=0+x c=0",
+            "group 1: c, plan, trial 0 of 1; asked a b c",
+        ),
+        (
+            "a b? | c",
+            "a=0 b=0+x c=0",
+            "group 0: a, plan, trial 0 of 1; asked a b",
+        ),
         ("a | b", "b=0", "a child gave no answer; asked"),
     ] {
         let order = order(alloc, groups)?;
