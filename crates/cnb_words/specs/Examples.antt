@@ -1,0 +1,39 @@
+-- What the definitions say of some words.
+use Rattle.std.specs.Prelude.{◌≡◌, refl, ℕ, List, [], ◌∷◌, codes, Ok, Err}
+use Rattle.cnb_words.specs.Words.{asked_by}
+use Rattle.cnb_words.specs.declared.detect.DetectWords.{DetectWords}
+use Rattle.cnb_words.specs.declared.fault.WordsFault.TheVariants.{NotBuilt, Usage}
+use Rattle.cnb_words.specs.declared.words.Asked.TheVariants.{Detect}
+
+abbrev detect_with : ℕ → DetectWords
+detect_with workers = record { order = codes "/o"; buildpacks = codes "/b"; app = codes "/a"; platform = codes "/p"; work = codes "/w"; workers = workers }
+
+-- the words `detect` with all its options but `--workers`, in front of others
+abbrev detect_before : List (List ℕ) → List (List ℕ)
+detect_before words =
+    codes "lifecycle" ∷ codes "detect" ∷ codes "--order" ∷ codes "/o" ∷ codes "--buildpacks=/b" ∷ codes "--app" ∷ codes "/a"
+    ∷ codes "--platform=/p" ∷ codes "--work" ∷ codes "/w" ∷ words
+
+pub eight_workers_where_none_is_given : asked_by (detect_before []) ≡ Ok (Detect (detect_with 8))
+eight_workers_where_none_is_given = refl
+
+pub a_number_of_workers : asked_by (detect_before (codes "--workers=64" ∷ [])) ≡ Ok (Detect (detect_with 64))
+a_number_of_workers = refl
+
+pub no_65_workers : asked_by (detect_before (codes "--workers" ∷ codes "65" ∷ [])) ≡ Err Usage
+no_65_workers = refl
+
+pub no_option_stands_twice : asked_by (detect_before (codes "--work=/w" ∷ [])) ≡ Err Usage
+no_option_stands_twice = refl
+
+pub no_value_in_a_word_of_its_own_begins_with_a_dash : asked_by (detect_before (codes "--workers" ∷ codes "-8" ∷ [])) ≡ Err Usage
+no_value_in_a_word_of_its_own_begins_with_a_dash = refl
+
+pub another_command_is_not_judged : asked_by (codes "lifecycle" ∷ codes "create" ∷ codes "--" ∷ []) ≡ Err (NotBuilt (codes "create"))
+another_command_is_not_judged = refl
+
+pub a_process_is_launched : asked_by (codes "/r/cnb/process/web" ∷ codes "detect" ∷ []) ≡ Err (NotBuilt (codes "launch"))
+a_process_is_launched = refl
+
+pub no_process_is_two_dots : asked_by (codes "/cnb/process/.." ∷ []) ≡ Err Usage
+no_process_is_two_dots = refl

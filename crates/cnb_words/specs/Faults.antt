@@ -1,0 +1,18 @@
+-- Refusals of words.
+use Rattle.std.specs.Prelude.{◌≡◌, Option, Some, None, Result, Ok, Err}
+use Rattle.cnb_world.specs.declared.path.PathFault.{PathFault}
+use Rattle.cnb_world.specs.declared.path.PathFault.TheVariants as path_fault
+use Rattle.cnb_words.specs.declared.fault.WordsFault.{WordsFault}
+use Rattle.cnb_words.specs.declared.fault.WordsFault.TheVariants.{Usage, NotBuilt, Memory}
+
+-- a text that is no path is no value
+abbrev pub fault_of_path : PathFault → WordsFault
+fault_of_path path_fault.NotPath = Usage
+fault_of_path path_fault.Memory = Memory
+
+-- words are read as this value, and are refused where there is none, unless memory ran out
+abbrev pub Reads : {T : Type 0} → Result T WordsFault → Option T → Type 0
+Reads (Ok value) want = want ≡ Some value
+Reads (Err Usage) want = want ≡ None
+Reads (Err Memory) want = Unit {0}
+Reads (Err (NotBuilt name)) want = ⊥

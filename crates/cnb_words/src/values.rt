@@ -1,0 +1,77 @@
+// The values of options.
+ghost use Rattle.std.specs.Prelude.{◌≡◌, ◌≤◌, IfOk, IfSome, length};
+ghost use Rattle.cnb_words.specs.Faults.{Reads};
+ghost use Rattle.cnb_words.specs.Values.{is_short_path, leading_digit, number_in, path_in, two_digits, workers_in};
+
+use crate::fault::WordsFault;
+use cnb_world::Path;
+use std::alloc::Global;
+
+const LONGEST_PATH: usize = 4096;
+
+const MOST_WORKERS: usize = 64;
+
+/// Whether a text is a path of at most 4,096 bytes.
+pub(crate) fn is_short_path(text: &str) -> bool
+    ensures { result ≡ is_short_path text.now }
+{
+    text.len() <= LONGEST_PATH && Path::is_path(text)
+}
+
+/// The path that a text is, of at most 4,096 bytes.
+pub(crate) fn path_in(alloc: Global, text: &str) -> Result<Path, WordsFault>
+    ensures reads { Reads result (path_in text.now) }
+    ensures short { IfOk result (λ path. length path ≤ 4096) }
+{
+    if text.len() > LONGEST_PATH {
+        return Err(WordsFault::Usage);
+    }
+    let path = Path::parse(alloc, text)?;
+    Ok(path)
+}
+
+fn leading_digit(digit: u8) -> Option<usize>
+    ensures number { result ≡ leading_digit digit }
+    ensures some { IfSome result (λ number. 1 ≤ number) }
+{
+    if digit.is_ascii_digit() && digit != b'0' {
+        Some((digit - b'0') as usize)
+    } else {
+        None
+    }
+}
+
+fn two_digits(tens: u8, ones: u8) -> Option<usize>
+    ensures number { result ≡ two_digits tens ones }
+    ensures some { IfSome result (λ number. 1 ≤ number) }
+{
+    if tens.is_ascii_digit() && tens != b'0' && ones.is_ascii_digit() {
+        Some((tens - b'0') as usize * 10 + (ones - b'0') as usize)
+    } else {
+        None
+    }
+}
+
+#[tactic(auto, using(crate::proofs::Numbers::one_digit, crate::proofs::Numbers::two_digits_are, crate::proofs::Numbers::no_digit, crate::proofs::Numbers::many_digits))]
+fn number_in(text: &[u8]) -> Option<usize>
+    ensures number { result ≡ number_in text.now }
+    ensures some { IfSome result (λ number. 1 ≤ number) }
+{
+    match text {
+        [ones] => leading_digit(*ones),
+        [tens, ones] => two_digits(*tens, *ones),
+        _ => None,
+    }
+}
+
+/// The number of workers that a text is.
+pub(crate) fn workers_in(text: &[u8]) -> Result<usize, WordsFault>
+    ensures reads { Reads result (workers_in text.now) }
+    ensures some { IfOk result (λ workers. 1 ≤ workers) }
+    ensures few { IfOk result (λ workers. workers ≤ 64) }
+{
+    match number_in(text) {
+        Some(number) if number <= MOST_WORKERS => Ok(number),
+        _ => Err(WordsFault::Usage),
+    }
+}
