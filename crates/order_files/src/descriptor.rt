@@ -1,0 +1,85 @@
+// The descriptor of a version of a buildpack.
+ghost use Rattle.std.specs.Prelude.{◌≡◌, ◌≤◌, ℕ, IfOk, IfSome, length};
+ghost use Rattle.std.specs.Option.{option_map};
+ghost use Rattle.cnb_world.specs.Calls.{MayMisuse};
+ghost use Rattle.order_files.specs.Counts.{CountsFiles};
+ghost use Rattle.order_files.specs.Descriptor.{described, descriptor_at, is_fit_descriptor, with_folder_names};
+ghost use Rattle.order_files.specs.Places.{BelongsTo, IsPlaced};
+ghost use Rattle.order_files.specs.Reading.{Reads};
+
+use crate::document::read_document;
+use crate::fault::{ReadFault, read_at};
+use bp_docs::{Descriptor, read_buildpack};
+use cnb_toml::DocFault;
+use cnb_world::{Bytes, Path, Text, World};
+use std::alloc::Global;
+
+// A descriptor whose folders have its names.
+fn with_folder_names(
+    alloc: Global,
+    path: &Path,
+    id_folder: &Text,
+    version: &Text,
+    descriptor: Descriptor,
+) -> Result<Descriptor, ReadFault>
+    ensures reads { Reads result (with_folder_names path.now id_folder.now version.now descriptor) }
+    ensures placed { IfOk result (BelongsTo id_folder.now version.now) }
+    ensures files { (n : ℕ) → CountsFiles result n n }
+{
+    let own_folder = descriptor.key.id.folder(alloc)?;
+    if own_folder.as_str() != id_folder.as_str() {
+        let key = Text::of(alloc, "buildpack.id")?;
+        return Err(ReadFault::Document(path.copy(alloc)?, DocFault::Wrong(key)));
+    }
+    if descriptor.key.version.as_str() != version.as_str() {
+        let key = Text::of(alloc, "buildpack.version")?;
+        return Err(ReadFault::Document(path.copy(alloc)?, DocFault::Wrong(key)));
+    }
+    Ok(descriptor)
+}
+
+// The descriptor that a document is.
+fn described(
+    alloc: Global,
+    path: &Path,
+    id_folder: &Text,
+    version: &Text,
+    found: Option<Bytes>,
+) -> Result<Option<Descriptor>, ReadFault>
+    ensures reads { Reads result (described path.now id_folder.now version.now found) }
+    ensures placed { IfOk result (IsPlaced id_folder.now version.now) }
+    ensures files { (n : ℕ) → CountsFiles result n n }
+{
+    match found {
+        Some(bytes) => {
+            let read = read_at(alloc, path, read_buildpack(alloc, bytes.as_slice()))?;
+            let descriptor = with_folder_names(alloc, path, id_folder, version, read)?;
+            Ok(Some(descriptor))
+        }
+        None => Ok(None),
+    }
+}
+
+/// The descriptor in the folder of a version, where it has one. `id_folder` is the name of the folder above.
+#[tactic(auto, using(crate::proofs::Lengths::document_fits, crate::proofs::Steps::counts_after))]
+pub(crate) fn read_descriptor<W: World>(
+    alloc: Global,
+    world: &mut W,
+    folder: &Path,
+    id_folder: &Text,
+    version: &Text,
+) -> Result<Option<Descriptor>, ReadFault>
+    requires { length folder.now ≤ 4608 }
+    ensures reads { IfSome (W.tree world.old) (λ files. Reads result (descriptor_at files folder.now id_folder.now version.now)) }
+    ensures placed { IfOk result (IsPlaced id_folder.now version.now) }
+    ensures tree { W.tree world.new ≡ W.tree world.old }
+    ensures files { CountsFiles result (W.file_faults world.old) (W.file_faults world.new) }
+    ensures children { W.child_faults world.new ≡ W.child_faults world.old }
+    ensures runs { W.runs world.new ≡ W.runs world.old }
+    ensures misused { MayMisuse (option_map (λ files. is_fit_descriptor files folder.now) (W.tree world.old)) (W.misused world.old) (W.misused world.new) }
+{
+    let path = folder.below(alloc, "buildpack.toml")?;
+    let found = read_document(alloc, world, &path)?;
+    let descriptor = described(alloc, &path, id_folder, version, found)?;
+    Ok(descriptor)
+}

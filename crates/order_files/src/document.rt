@@ -1,0 +1,35 @@
+// One document.
+ghost use Rattle.std.specs.Prelude.{◌≡◌, IfSome};
+ghost use Rattle.std.specs.Option.{option_map};
+ghost use Rattle.cnb_world.specs.Calls.{MayMisuse};
+ghost use Rattle.cnb_world.specs.Tree.{is_file_or_absent, item_at};
+ghost use Rattle.order_files.specs.Counts.{CountsFiles};
+ghost use Rattle.order_files.specs.Reading.{Reads, document_at};
+
+use crate::fault::{ReadFault, blamed};
+use cnb_world::{Bytes, LimitKind, Path, Whole, World, read_whole};
+use std::alloc::Global;
+
+/// The longest document, in bytes.
+const LONGEST_DOCUMENT: u64 = 1048576;
+
+/// The bytes of the document at a path, where one is there.
+pub(crate) fn read_document<W: World>(
+    alloc: Global,
+    world: &mut W,
+    path: &Path,
+) -> Result<Option<Bytes>, ReadFault>
+    ensures reads { IfSome (W.tree world.old) (λ files. Reads result (document_at files path.now)) }
+    ensures tree { W.tree world.new ≡ W.tree world.old }
+    ensures files { CountsFiles result (W.file_faults world.old) (W.file_faults world.new) }
+    ensures children { W.child_faults world.new ≡ W.child_faults world.old }
+    ensures runs { W.runs world.new ≡ W.runs world.old }
+    ensures misused { MayMisuse (option_map (λ files. is_file_or_absent (item_at files path.now)) (W.tree world.old)) (W.misused world.old) (W.misused world.new) }
+{
+    match read_whole(world, path, LONGEST_DOCUMENT) {
+        Ok(Whole::Absent) => Ok(None),
+        Ok(Whole::Large(_)) => Err(ReadFault::Limit(LimitKind::Document)),
+        Ok(Whole::Bytes(bytes)) => Ok(Some(bytes)),
+        Err(fault) => Err(blamed(alloc, path, fault)),
+    }
+}

@@ -1,0 +1,68 @@
+// Why files were not read.
+ghost use Rattle.std.specs.Prelude.{◌≡◌, ℕ, Err};
+ghost use Rattle.order_files.specs.Counts.{CountsFiles};
+ghost use Rattle.order_files.specs.Reading.{Blames, Reads, read_at};
+
+use cnb_toml::DocFault;
+use cnb_world::{FileFault, LimitKind, Memory, Path};
+use std::alloc::{AllocError, Global};
+
+/// Why a document, or a folder of documents, was not read: a call on a path failed, a document is refused, or it is too long.
+#[derive(Drop)]
+pub enum ReadFault {
+    File(Path),
+    Document(Path, DocFault),
+    Limit(LimitKind),
+    Memory,
+}
+
+impl From<Memory> for ReadFault {
+    ghost use Rattle.std.specs.Prelude.{◌≡◌};
+    ghost use Rattle.order_files.specs.declared.fault.ReadFault.TheVariants.{Memory};
+
+    ghost from_gives = { λ _ fault. fault ≡ Memory };
+
+    fn from(_: Memory) -> Self {
+        ReadFault::Memory
+    }
+}
+
+impl From<AllocError> for ReadFault {
+    ghost use Rattle.std.specs.Prelude.{◌≡◌};
+    ghost use Rattle.order_files.specs.declared.fault.ReadFault.TheVariants.{Memory};
+
+    ghost from_gives = { λ _ fault. fault ≡ Memory };
+
+    fn from(_: AllocError) -> Self {
+        ReadFault::Memory
+    }
+}
+
+// The refusal where a call on a path gave no answer.
+pub(crate) fn blamed(alloc: Global, path: &Path, fault: FileFault) -> ReadFault
+    ensures { Blames path.now fault result }
+{
+    match fault {
+        FileFault::Failed => match path.copy(alloc) {
+            Ok(path) => ReadFault::File(path),
+            Err(Memory) => ReadFault::Memory,
+        },
+        FileFault::Memory => ReadFault::Memory,
+    }
+}
+
+// What the reader of a document answered, for the document at a path.
+pub(crate) fn read_at<T: Drop>(
+    alloc: Global,
+    path: &Path,
+    answer: Result<T, DocFault>,
+) -> Result<T, ReadFault>
+    ensures reads { Reads result (read_at path.now answer) }
+    ensures files { (n : ℕ) → CountsFiles result n n }
+{
+    match answer {
+        Ok(value) => Ok(value),
+        Err(DocFault::Memory) => Err(ReadFault::Memory),
+        Err(fault) => Err(ReadFault::Document(path.copy(alloc)?, fault)),
+    }
+}

@@ -1,0 +1,95 @@
+// The versions of a buildpack in a catalog.
+ghost use Rattle.std.specs.Prelude.{◌≡◌, ◌≤◌, List as Seq, ℕ, Ok, IfOk, IfSome, IsTrue, false, length};
+ghost use Rattle.std.specs.Option.{option_map};
+ghost use Rattle.cnb_world.specs.Calls.{AreNames, MayMisuse};
+ghost use Rattle.cnb_world.specs.Path.{is_part};
+ghost use Rattle.order_files.specs.Catalog.{are_fit_versions, followed_by, is_fit_version, listed, version_in, versions_in};
+ghost use Rattle.order_files.specs.Counts.{CountsFiles};
+ghost use Rattle.order_files.specs.Places.{IsPlaced, KeepsOtherIds, KeepsOthers, has_place};
+ghost use Rattle.order_files.specs.Reading.{Reads};
+
+use crate::descriptor::read_descriptor;
+use crate::fault::ReadFault;
+use crate::folder::is_folder;
+use bp_docs::Descriptor;
+use cnb_world::{Memory, Path, Text, World};
+use order_expand::{Catalog, CatalogFault};
+use std::alloc::Global;
+
+// The catalog with a descriptor at its end, of whose folder it has none yet.
+fn with_descriptor(
+    mut catalog: Catalog,
+    id_folder: &Text,
+    version: &Text,
+    found: Option<Descriptor>,
+) -> Result<Catalog, Memory>
+    requires placed { IsPlaced id_folder.now version.now found }
+    requires vacant { has_place catalog id_folder.now version.now ≡ false }
+    ensures added { IfOk result (λ new. followed_by (Ok catalog) (listed (Ok found)) ≡ Ok new) }
+    ensures others { IfOk result (KeepsOthers id_folder.now version.now catalog) }
+{
+    let Some(descriptor) = found else {
+        return Ok(catalog);
+    };
+    match catalog.add(descriptor) {
+        Ok(()) => Ok(catalog),
+        Err(CatalogFault::Memory) => Err(Memory),
+        Err(CatalogFault::Twice(_)) => unreachable!(),
+    }
+}
+
+// The catalog with what a name in the folder of an id gives.
+#[tactic(auto, using(crate::proofs::Lengths::version_fits))]
+fn with_version<W: World>(
+    alloc: Global,
+    world: &mut W,
+    catalog: Catalog,
+    folder: &Path,
+    id_folder: &Text,
+    version: &Text,
+) -> Result<Catalog, ReadFault>
+    requires part { IsTrue (is_part version.now) }
+    requires short { length folder.now ≤ 4352 }
+    requires vacant { has_place catalog id_folder.now version.now ≡ false }
+    ensures reads { IfSome (W.tree world.old) (λ files. Reads result (followed_by (Ok catalog) (version_in files folder.now id_folder.now version.now))) }
+    ensures others { IfOk result (KeepsOthers id_folder.now version.now catalog) }
+    ensures tree { W.tree world.new ≡ W.tree world.old }
+    ensures files { CountsFiles result (W.file_faults world.old) (W.file_faults world.new) }
+    ensures children { W.child_faults world.new ≡ W.child_faults world.old }
+    ensures runs { W.runs world.new ≡ W.runs world.old }
+    ensures misused { MayMisuse (option_map (λ files. is_fit_version files folder.now version.now) (W.tree world.old)) (W.misused world.old) (W.misused world.new) }
+{
+    let place = folder.below(alloc, version.as_str())?;
+    if !is_folder(alloc, world, &place)? {
+        return Ok(catalog);
+    }
+    let found = read_descriptor(alloc, world, &place, id_folder, version)?;
+    let catalog = with_descriptor(catalog, id_folder, version, found)?;
+    Ok(catalog)
+}
+
+/// The catalog with the versions of these names in the folder of an id, in order.
+pub(crate) fn with_versions<W: World>(
+    alloc: Global,
+    world: &mut W,
+    mut catalog: Catalog,
+    folder: &Path,
+    id_folder: &Text,
+    versions: &[Text],
+) -> Result<Catalog, ReadFault>
+    requires names { AreNames versions.now }
+    requires short { length folder.now ≤ 4352 }
+    requires vacant { (version : Seq ℕ) → has_place catalog id_folder.now version ≡ false }
+    ensures reads { IfSome (W.tree world.old) (λ files. Reads result (followed_by (Ok catalog) (versions_in files folder.now id_folder.now versions.now))) }
+    ensures others { IfOk result (KeepsOtherIds id_folder.now catalog) }
+    ensures tree { W.tree world.new ≡ W.tree world.old }
+    ensures files { CountsFiles result (W.file_faults world.old) (W.file_faults world.new) }
+    ensures children { W.child_faults world.new ≡ W.child_faults world.old }
+    ensures runs { W.runs world.new ≡ W.runs world.old }
+    ensures misused { MayMisuse (option_map (λ files. are_fit_versions files folder.now versions.now) (W.tree world.old)) (W.misused world.old) (W.misused world.new) }
+{
+    for version in versions {
+        catalog = with_version(alloc, world, catalog, folder, id_folder, version)?;
+    }
+    Ok(catalog)
+}
