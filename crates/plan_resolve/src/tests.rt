@@ -11,6 +11,8 @@ use run_docs::PlanEntry;
 use std::alloc::Global;
 use std::test::Fail;
 
+mod drawn;
+
 /// A row of a trial: whether it is optional, the names that it provides and those that it requires.
 type Row<'a> = (bool, &'a str, &'a str);
 
@@ -81,17 +83,26 @@ fn options(alloc: Global, by: &str, rows: &[(&str, &str)]) -> Result<List<PlanOp
     Ok(options)
 }
 
+fn alive_row(
+    alloc: Global,
+    id: &str,
+    optional: bool,
+    rows: &[(&str, &str)],
+) -> Result<AliveRow, Fail> {
+    let version = BpVersion::parse(alloc, "1.0.0")?;
+    let options = options(alloc, id, rows)?;
+    let id = BpId::parse(alloc, id)?;
+    Ok(AliveRow {
+        key: Key { id, version },
+        optional,
+        options,
+    })
+}
+
 fn alive(alloc: Global, rows: &[Passed]) -> Result<Alive, Fail> {
     let mut alive = List::new(alloc);
     for row in rows {
-        let id = BpId::parse(alloc, row.0)?;
-        let version = BpVersion::parse(alloc, "1.0.0")?;
-        let options = options(alloc, row.0, row.2)?;
-        alive.push(AliveRow {
-            key: Key { id, version },
-            optional: row.1,
-            options,
-        })?;
+        alive.push(alive_row(alloc, row.0, row.1, row.2)?)?;
     }
     Ok(alive)
 }
@@ -186,14 +197,7 @@ fn trials(rt: HostRuntime) -> Result<(), Fail> {
 fn doubtful(alloc: Global, count: usize) -> Result<Alive, Fail> {
     let mut alive = List::new(alloc);
     for _ in 0..count {
-        let id = BpId::parse(alloc, "a")?;
-        let version = BpVersion::parse(alloc, "1.0.0")?;
-        let options = options(alloc, "a", &[("", "w"), ("", "")])?;
-        alive.push(AliveRow {
-            key: Key { id, version },
-            optional: false,
-            options,
-        })?;
+        alive.push(alive_row(alloc, "a", false, &[("", "w"), ("", "")])?)?;
     }
     Ok(alive)
 }
