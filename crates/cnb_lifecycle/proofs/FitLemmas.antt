@@ -1,0 +1,111 @@
+-- Where both documents can be written, the plan can be written after the group.
+use Rattle.std.proofs.Common.{◌≡◌, ◌∙◌, refl, sym, ap, subst, ℕ, ◌+◌, ◌<◌, ◌≤◌, Bool, true, false, cond, not, ◌&&◌, ◌||◌, ◌==◌, List, [], ◌∷◌, ◌++◌, length, length-append, arith, is_some, Option, Some, None}
+use Rattle.std.specs.Option.{option_map}
+use Rattle.std.specs.List.{list_all}
+use Rattle.std.specs.Str.{bytes_eq}
+use Rattle.std.specs.FinMap.{get}
+use Rattle.std.proofs.lemmas.List.Folds.{list_all-append}
+use Rattle.cnb_world.specs.declared.world.Item.{Item}
+use Rattle.cnb_world.specs.declared.world.Item.TheVariants.{Folder}
+use Rattle.cnb_world.specs.Calls.{MayMisuse}
+use Rattle.cnb_world.specs.Path.{parent_of, beside, is_path}
+use Rattle.cnb_world.specs.Tree.{Tree, item_at, is_root, is_folder, is_file_or_absent, folders_from, folders_above, can_make_folder, folder_made}
+use Rattle.cnb_world.specs.Whole.{written, can_write}
+use Rattle.cnb_world.proofs.Trees.{get-insert_other, get-remove_bytes}
+use Rattle.cnb_world.proofs.Folders.{get-with_folders}
+use Rattle.cnb_lifecycle.specs.Documents.{group_path, plan_path, can_write_choice}
+use Rattle.cnb_lifecycle.proofs.DocumentLemmas.{AreApart, apart, longer, unlike, written_other}
+
+-- a folder or nothing
+abbrev fits : Option Item → Bool
+fits found = is_folder found || not (is_some found)
+
+made_fits : (root made : Bool) (old : Option Item) → fits (cond root (Some Folder) old) ≡ true → fits (cond root (Some Folder) (cond (made && not root) (Some Folder) old)) ≡ true
+made_fits true made old h = refl
+made_fits false true old h = refl
+made_fits false false old h = h
+
+short_get : (t : Tree) (g bytes r : List ℕ) → length r < length g → get (written g bytes t) r ≡ get (folder_made (parent_of g) t) r
+short_get t g bytes r h = get-insert_other _ g _ r (λ e. let same : length r ≡ length g = ap length e in omega arith) ∙ get-remove_bytes _ (beside g) r ∙ ap (λ b. cond b None (get (folder_made (parent_of g) t) r)) (unlike r (beside g) (λ e. omega (arith, longer g)))
+
+short_fits : (t : Tree) (g bytes r : List ℕ) → length r < length g → fits (item_at t r) ≡ true → fits (item_at (written g bytes t) r) ≡ true
+short_fits t g bytes r h old = ap (λ v. fits (cond (is_root r) (Some Folder) v)) (short_get t g bytes r h ∙ get-with_folders (folders_above (parent_of g) ++ parent_of g ∷ []) t r) ∙ made_fits (is_root r) _ (get t r) old
+
+two : (a b : Bool) → (a && b) ≡ true → (a ≡ true) × (b ≡ true)
+two true b h = (refl, h)
+two false b h = absurd (cc)
+
+both : (a b : Bool) → a ≡ true → b ≡ true → (a && b) ≡ true
+both a b x y = ap (λ v. v && b) x ∙ y
+
+one_more : (F G : List ℕ → Bool) (b : Bool) (x : List ℕ) (xs : List (List ℕ)) → (F x ≡ true → G x ≡ true) → (list_all F xs ≡ true → list_all G xs ≡ true) → list_all F (cond b (x ∷ xs) xs) ≡ true → list_all G (cond b (x ∷ xs) xs) ≡ true
+one_more F G true x xs f rest h = let parts = two (F x) (list_all F xs) h in both (G x) (list_all G xs) (f parts.0) (rest parts.1)
+one_more F G false x xs f rest h = rest h
+
+all_short : (F G : List ℕ → Bool) (n : ℕ) → ((r : List ℕ) → length r ≤ n → F r ≡ true → G r ≡ true) → (front rest : List ℕ) → length front + length rest ≤ n → list_all F (folders_from front rest) ≡ true → list_all G (folders_from front rest) ≡ true
+all_short F G n f front [] le h = refl
+all_short F G n f front (c ∷ cs) le h = one_more F G (c == 47 && not (bytes_eq front [])) front (folders_from (front ++ c ∷ []) cs) (f front (omega arith)) (all_short F G n f (front ++ c ∷ []) cs (omega (arith, length-append front (c ∷ [])))) h
+
+make_folder_after : (t : Tree) (g bytes q : List ℕ) → length q < length g → can_make_folder t q ≡ true → can_make_folder (written g bytes t) q ≡ true
+make_folder_after t g bytes q h ok =
+    let F : List ℕ → Bool = λ r. fits (item_at t r) in
+    let G : List ℕ → Bool = λ r. fits (item_at (written g bytes t) r) in
+    let step : (r : List ℕ) → length r ≤ length q → F r ≡ true → G r ≡ true = λ r le x. short_fits t g bytes r (omega arith) x in
+    let parts = two (list_all F (folders_above q)) (list_all F (q ∷ [])) (sym (list_all-append F (folders_above q) (q ∷ [])) ∙ ok) in
+    list_all-append G (folders_above q) (q ∷ []) ∙ both _ _ (all_short F G (length q) step [] q (omega arith) parts.0)
+    (let last = two (F q) true parts.1 in both (G q) true (step q (omega arith) last.0) refl)
+
+allows_plan : (work bytes : List ℕ) (t : Tree) → is_path work ≡ true → can_write (plan_path work) t ≡ true → can_write (plan_path work) (written (group_path work) bytes t) ≡ true
+allows_plan work bytes t path h =
+    let a : AreApart work (group_path work) (plan_path work) = apart work path in
+    let more : length (group_path work) ≡ length (plan_path work) + 1 = a.other in
+    let folder : length (parent_of (group_path work)) ≡ length work = ap length a.folder in
+    let plan_folder : length (parent_of (plan_path work)) ≡ length work = ap length a.plan_folder in
+    let below : length work < length (plan_path work) = a.plan_below in
+    let outer = two (is_file_or_absent (item_at t (plan_path work)) && is_file_or_absent (item_at t (beside (plan_path work)))) (can_make_folder t (parent_of (plan_path work))) h in
+    let docs = two (is_file_or_absent (item_at t (plan_path work))) (is_file_or_absent (item_at t (beside (plan_path work)))) outer.0 in
+    both _ _ (both _ _
+    (ap is_file_or_absent (written_other t (group_path work) (plan_path work) bytes (λ e. omega arith) (λ e. omega arith) (omega arith)) ∙ docs.0)
+    (ap is_file_or_absent (written_other t (group_path work) (beside (plan_path work)) bytes (λ e. omega (arith, longer (plan_path work))) (λ e. omega (arith, longer (plan_path work))) (omega (arith, longer (plan_path work)))) ∙ docs.1))
+    (make_folder_after t (group_path work) bytes (parent_of (plan_path work)) (omega arith) outer.1)
+
+may_by : (x y z : Bool) (a b c : ℕ) → (y ≡ true → z ≡ true) → MayMisuse (Some x) a b → MayMisuse (Some z) b c → MayMisuse (Some (x && y)) a c
+may_by true true z a b c f first second = let P : Bool → Type 0 = λ v. MayMisuse (Some v) b c in let same : c ≡ b = subst P (f refl) second in same ∙ first
+may_by true false true a b c f first second = omega (arith, first, second)
+may_by true false false a b c f first second = omega (arith, first, second)
+may_by false y true a b c f first second = omega (arith, first, second)
+may_by false y false a b c f first second = omega (arith, first, second)
+
+-- one call after another: what both allow counts no misuse
+pub may_then : (F G : Tree → Bool) (step : Tree → Tree) → ((t : Tree) → G t ≡ true → G (step t) ≡ true) → (o o1 : Option Tree) (a b c : ℕ) → o1 ≡ option_map step o → MayMisuse (option_map F o) a b → MayMisuse (option_map G o1) b c → MayMisuse (option_map (λ t. F t && G t) o) a c
+may_then F G step keeps None o1 a b c e first second = let same : c ≡ b = subst (λ v. MayMisuse (option_map G v) b c) e second in same ∙ first
+may_then F G step keeps (Some t) o1 a b c e first second = may_by (F t) (G t) (G (step t)) a b c (keeps t) first (subst (λ v. MayMisuse (option_map G v) b c) e second)
+
+first_alone : (x y : Bool) (a b : ℕ) → MayMisuse (Some x) a b → MayMisuse (Some (x && y)) a b
+first_alone true true a b h = h
+first_alone true false a b h = omega (arith, h)
+first_alone false y a b h = h
+
+pub may_first : (F G : Tree → Bool) (o : Option Tree) (a b : ℕ) → MayMisuse (option_map F o) a b → MayMisuse (option_map (λ t. F t && G t) o) a b
+may_first F G None a b h = h
+may_first F G (Some t) a b h = first_alone (F t) (G t) a b h
+
+same_map : (o : Option Tree) → o ≡ option_map (λ t. t) o
+same_map None = refl
+same_map (Some t) = refl
+
+-- the same where the first call leaves the files
+pub may_same : (F G : Tree → Bool) (o o1 : Option Tree) (a b c : ℕ) → o1 ≡ o → MayMisuse (option_map F o) a b → MayMisuse (option_map G o1) b c → MayMisuse (option_map (λ t. F t && G t) o) a c
+may_same F G o o1 a b c e first second = may_then F G (λ t. t) (λ t h. h) o o1 a b c (e ∙ same_map o) first second
+
+pub may_write : (work bytes : List ℕ) (o o1 : Option Tree) (a b c : ℕ) → is_path work ≡ true → o1 ≡ option_map (written (group_path work) bytes) o → MayMisuse (option_map (can_write (group_path work)) o) a b → MayMisuse (option_map (can_write (plan_path work)) o1) b c → MayMisuse (option_map (can_write_choice work) o) a c
+may_write work bytes o o1 a b c path e first second = may_then (can_write (group_path work)) (can_write (plan_path work)) (written (group_path work) bytes) (λ t h. allows_plan work bytes t path h) o o1 a b c e first second
+
+-- where no call is made
+pub still : (o : Option Tree) (F : Tree → Bool) (a : ℕ) → MayMisuse (option_map F o) a a
+still None F a = refl
+still (Some t) F a = by (F t)
+  where
+    by : (v : Bool) → MayMisuse (Some v) a a
+    by true = refl
+    by false = omega arith

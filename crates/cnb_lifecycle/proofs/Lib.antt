@@ -1,0 +1,5 @@
+pub mod ChoiceLemmas
+pub mod DocumentLemmas
+pub mod EndLemmas
+pub mod FitLemmas
+pub mod SinkLemmas

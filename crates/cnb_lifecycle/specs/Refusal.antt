@@ -1,0 +1,88 @@
+-- The exit status of a refusal (platform.md, "Exit Codes", and own), and the words of its error line.
+use Rattle.std.specs.Prelude.{ℕ, true, false, List, ◌∷◌, ◌++◌, codes, if◌then◌else◌, Option, Some, None}
+use Rattle.cnb_world.specs.declared.limits.LimitKind.{LimitKind}
+use Rattle.cnb_world.specs.declared.limits.LimitKind.TheVariants.{Groups, Entries, Nesting, Trials, Tree, Depth, Document as DocumentLimit}
+use Rattle.cnb_toml.specs.declared.fault.DocFault.{DocFault}
+use Rattle.cnb_toml.specs.declared.fault.DocFault.TheVariants as fault
+use Rattle.cnb_lifecycle.specs.declared.refusal.Refusal.{Refusal}
+use Rattle.cnb_lifecycle.specs.declared.refusal.Refusal.TheVariants.{Usage, File, Memory, Document, Child, Limit, NotBuilt, PlatformApi, BuildpackApi, Order, NoGroup}
+
+abbrev pub code_of : Refusal → ℕ
+code_of Usage = 1
+code_of (File path) = 2
+code_of Memory = 3
+code_of (Document path fault) = 4
+code_of Child = 5
+code_of (Limit kind) = 6
+code_of (NotBuilt text) = 9
+code_of (PlatformApi text) = 11
+code_of (BuildpackApi text) = 12
+code_of (Order id ambiguous) = 13
+code_of (NoGroup false) = 20
+code_of (NoGroup true) = 21
+
+abbrev pub name_of : Refusal → List ℕ
+name_of Usage = codes "Usage"
+name_of (File path) = codes "File"
+name_of Memory = codes "Memory"
+name_of (Document path fault) = codes "Document"
+name_of Child = codes "Child"
+name_of (Limit kind) = codes "Limit"
+name_of (NotBuilt text) = codes "NotBuilt"
+name_of (PlatformApi text) = codes "PlatformApi"
+name_of (BuildpackApi text) = codes "BuildpackApi"
+name_of (Order id ambiguous) = codes "Order"
+name_of (NoGroup erred) = codes "NoGroup"
+
+abbrev pub limit_name : LimitKind → List ℕ
+limit_name Groups = codes "groups"
+limit_name Entries = codes "entries"
+limit_name Nesting = codes "nesting"
+limit_name Trials = codes "trials"
+limit_name Tree = codes "tree"
+limit_name Depth = codes "depth"
+limit_name DocumentLimit = codes "document"
+
+abbrev pub fault_name : DocFault → List ℕ
+fault_name fault.Absent = codes "Absent"
+fault_name fault.NotUtf8 = codes "NotUtf8"
+fault_name fault.NotToml = codes "NotToml"
+fault_name (fault.MetaKind path) = codes "MetaKind"
+fault_name (fault.Missing path) = codes "Missing"
+fault_name (fault.Wrong path) = codes "Wrong"
+fault_name (fault.Name path) = codes "Name"
+fault_name fault.Memory = codes "Memory"
+
+-- the key path of a fault, where it has one
+abbrev pub fault_path : DocFault → Option (List ℕ)
+fault_path (fault.MetaKind path) = Some path
+fault_path (fault.Missing path) = Some path
+fault_path (fault.Wrong path) = Some path
+fault_path (fault.Name path) = Some path
+fault_path fault.Absent = None
+fault_path fault.NotUtf8 = None
+fault_path fault.NotToml = None
+fault_path fault.Memory = None
+
+-- two texts with a space between
+abbrev pub spaced : List ℕ → List ℕ → List ℕ
+spaced first second = first ++ 32 ∷ second
+
+-- a text with another behind it, where there is one
+abbrev pub with_text : List ℕ → Option (List ℕ) → List ℕ
+with_text first None = first
+with_text first (Some second) = spaced first second
+
+-- what stands behind the name
+abbrev pub detail_of : Refusal → Option (List ℕ)
+detail_of Usage = None
+detail_of (File path) = Some path
+detail_of Memory = None
+detail_of (Document path fault) = Some (with_text (spaced path (fault_name fault)) (fault_path fault))
+detail_of Child = None
+detail_of (Limit kind) = Some (limit_name kind)
+detail_of (NotBuilt text) = Some text
+detail_of (PlatformApi text) = Some text
+detail_of (BuildpackApi text) = Some text
+detail_of (Order id ambiguous) = Some (spaced (if ambiguous then codes "Ambiguous" else codes "Absent") id)
+detail_of (NoGroup erred) = None
