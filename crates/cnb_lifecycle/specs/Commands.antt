@@ -14,9 +14,9 @@ use Rattle.cnb_lifecycle.specs.Faults.{of_words_fault}
 use Rattle.cnb_lifecycle.specs.Steps.{◌>>=◌}
 
 -- the answer is this one, or memory ran out
-abbrev pub Commands : {A : Type 0} → Result A Refusal → Result A Refusal → Type 0
-Commands (Err Memory) want = Unit {0}
-Commands result want = result ≡ want
+abbrev pub CommandsAs : {A : Type 0} → Result A Refusal → Result A Refusal → Type 0
+CommandsAs (Err Memory) want = Unit {0}
+CommandsAs result want = result ≡ want
 
 abbrev pub of_api : Option (List ℕ) → Result (Unit {0}) Refusal
 of_api None = Ok tt

@@ -1,4 +1,4 @@
--- The exit status of a refusal (platform.md, "Exit Codes", and own), and the words of its error line.
+-- The exit status of a refusal (platform.md, "detector", and own), and the words of its error line.
 use Rattle.std.specs.Prelude.{ℕ, true, false, List, ◌∷◌, ◌++◌, codes, if◌then◌else◌, Option, Some, None}
 use Rattle.cnb_world.specs.declared.limits.LimitKind.{LimitKind}
 use Rattle.cnb_world.specs.declared.limits.LimitKind.TheVariants.{Groups, Entries, Nesting, Trials, Tree, Depth, Document as DocumentLimit}

@@ -1,7 +1,7 @@
 // What is asked for.
 ghost use Rattle.std.specs.Prelude.{◌≡◌, ℕ, IfOk, IsTrue, map, string_bytes};
 ghost use Rattle.cnb_words.specs.Words.{AsksWithinLimits};
-ghost use Rattle.cnb_lifecycle.specs.Commands.{command_in, platform_api, Commands};
+ghost use Rattle.cnb_lifecycle.specs.Commands.{command_in, platform_api, CommandsAs};
 ghost use Rattle.cnb_lifecycle.specs.Steps.{StepChildren, StepFiles};
 
 use crate::refusal::Refusal;
@@ -14,7 +14,7 @@ const PLATFORM_API: &str = "0.12";
 
 // Refuses another Platform API than the one that is served (platform.md, "Platform API Compatibility").
 fn platform_api(alloc: Global, env: &Env) -> Result<(), Refusal>
-    ensures command { Commands result (platform_api env.now) }
+    ensures command { CommandsAs result (platform_api env.now) }
     ensures files { (n : ℕ) → StepFiles result n n }
     ensures children { (n : ℕ) → StepChildren result n n }
 {
@@ -27,7 +27,7 @@ fn platform_api(alloc: Global, env: &Env) -> Result<(), Refusal>
 /// The command that the words ask for, where it is served under this environment.
 #[tactic(auto, unfolding(crate::specs::Commands::command_in))]
 pub(crate) fn command(alloc: Global, words: &[String], env: &Env) -> Result<Asked, Refusal>
-    ensures command { Commands result (command_in (map string_bytes words.now) env.now) }
+    ensures command { CommandsAs result (command_in (map string_bytes words.now) env.now) }
     ensures short { IfOk result AsksWithinLimits }
     ensures files { (n : ℕ) → StepFiles result n n }
     ensures children { (n : ℕ) → StepChildren result n n }

@@ -7,7 +7,7 @@ use cnb_toml::{BpId, DocFault};
 use cnb_world::{LimitKind, Memory, Path, Text};
 use std::alloc::Global;
 
-/// Why a command ends before its work is done (platform.md, "Exit Codes", and this implementation's own).
+/// Why a command ends before its work is done (platform.md, "detector", and this implementation's own).
 #[derive(Drop)]
 pub enum Refusal {
     /// The words are no command.

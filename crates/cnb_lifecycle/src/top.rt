@@ -4,7 +4,7 @@ ghost use Rattle.std.specs.Option.{option_map};
 ghost use Rattle.cnb_world.specs.Calls.{MayMisuse};
 ghost use Rattle.detect_core.specs.Search.{first_faults, first_runs, IsExtended};
 ghost use Rattle.cnb_lifecycle.specs.Choice.{detect_choice, detect_jobs, new_runs, AsksIn};
-ghost use Rattle.cnb_lifecycle.specs.Commands.{command_in, OnDetect, OnRefused, Commands};
+ghost use Rattle.cnb_lifecycle.specs.Commands.{command_in, OnDetect, OnRefused, CommandsAs};
 ghost use Rattle.cnb_lifecycle.specs.Detection.{is_fit_detect, text_of, IsGroupOldOrNew, IsPlanOldOrNew, KeepsFiles, WritesChoice};
 ghost use Rattle.cnb_lifecycle.specs.Ends.{AsksWith, CauseOfChild, CauseOfFile, EndsWith, IsCut, IsRefusedAs, KeepsUnless, OnCut, PrintsLine, PrintsText, WritesWhereDone};
 ghost use Rattle.cnb_lifecycle.specs.Printing.{CountsOutput};
@@ -30,7 +30,7 @@ fn run_words<W: World, S: Spawner + Send, R: Threads + Sync>(
     desks: &mut Vec<S>,
 ) -> Result<Text, Refusal>
     requires { 0 < length desks.old.items }
-    ensures refused { OnRefused (command_in (map string_bytes words.now) env.now) (λ refusal. Commands result (Err refusal)) }
+    ensures refused { OnRefused (command_in (map string_bytes words.now) env.now) (λ refusal. CommandsAs result (Err refusal)) }
     ensures idle { OnRefused (command_in (map string_bytes words.now) env.now) (λ refusal. (W.tree world.new ≡ W.tree world.old) × (first_runs S.runs desks.new.items ≡ first_runs S.runs desks.old.items)) }
     ensures comes { OnDetect (command_in (map string_bytes words.now) env.now) (λ detect. IfSome (W.tree world.old) (λ files. Answers result (text_of (detect_choice detect env.now (new_runs S.runs desks.old.items desks.new.items) files)))) }
     ensures writes { OnDetect (command_in (map string_bytes words.now) env.now) (λ detect. WritesChoice result detect (W.tree world.old) (W.tree world.new) (detect_choice detect env.now (new_runs S.runs desks.old.items desks.new.items))) }
