@@ -49,7 +49,10 @@ fn start(rt: &HostRuntime) -> Result<Started, StartFault>
 }
 
 // The exit status where the words can't be handed on: nothing is printed.
-fn fault_code(fault: StartFault) -> u8 {
+fn fault_code(fault: StartFault) -> u8
+    ensures text { fault ≡ StartFault.NotText → result ≡ 1 }
+    ensures memory { fault ≡ StartFault.Memory → result ≡ 3 }
+{
     match fault {
         StartFault::NotText => 1,
         StartFault::Memory => 3,
