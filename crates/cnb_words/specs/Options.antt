@@ -23,7 +23,7 @@ abbrev pub begins_with_dash : List ℕ → Bool
 begins_with_dash [] = false
 begins_with_dash (byte ∷ bytes) = byte == 45
 
--- `--name value`: a value in a word of its own doesn't begin with `-`
+-- `--name value`, where no dash leads the value
 abbrev pub in_two_words : List ℕ → List ℕ → Option Given
 in_two_words name value = if begins_with_dash value then None else option_with name value
 
