@@ -3,6 +3,9 @@
 
 ghost use Rattle.std.specs.Prelude.{◌≡◌, IfOk, length};
 
+#[cfg(test)]
+mod tests;
+
 use cnb_host::{HostSpawner, HostWorld, StartFault, StdoutSink, environment, words};
 use cnb_lifecycle::lifecycle;
 use cnb_world::{Env, Shelf};
