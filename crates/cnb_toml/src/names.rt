@@ -3,6 +3,9 @@ ghost use Rattle.std.specs.Prelude.{◌≡◌, ◌↔◌, ℕ, List, IsTrue, IsE
 ghost use Rattle.semver.specs.Identifiers.{parts_of};
 ghost use Rattle.std.specs.List.{list_all};
 ghost use Rattle.std.specs.Str.{bytes_eq};
+ghost use Rattle.std.specs.Hash as fed;
+ghost use Rattle.std.specs.Cmp.Rules.{comparing, hashing};
+ghost use Rattle.std.proofs.Common.{rules};
 ghost use Rattle.cnb_world.specs.Path.{is_part};
 ghost use Rattle.cnb_toml.specs.Names.{is_id_byte, is_reserved, is_bp_id, is_release, is_bp_version, folder_of};
 
@@ -10,6 +13,7 @@ use crate::fault::NameFault;
 use cnb_world::{Memory, Text};
 use semver::Version;
 use std::alloc::Global;
+use std::hash::{Hash, Hasher};
 use std::marker::Model;
 
 /// A buildpack's id (buildpack.md, "buildpack.toml (TOML)", `buildpack.id`), which contracts see as its bytes.
@@ -29,6 +33,30 @@ impl Model for BpId {
     ghost invariant = { λ a. IsTrue (is_bp_id (string_bytes a.text)) };
 }
 
+impl PartialEq for BpId {
+    ghost eq = { bytes_eq };
+
+    ghost laws = { Prim.search (comparing, rules) };
+
+    fn eq(&self, other: &BpId) -> bool {
+        self.text.as_str() == other.text.as_str()
+    }
+}
+
+impl Eq for BpId {
+    ghost laws = { Prim.search (comparing, rules) };
+}
+
+impl Hash for BpId {
+    ghost hash_input = { fed.str };
+
+    ghost respects_eq = { Prim.search (hashing, rules) };
+
+    fn hash<H: Hasher>(&self, state: &mut H) {
+        self.text.hash(state);
+    }
+}
+
 /// A buildpack's version: three numbers joined by dots, which contracts see as its bytes.
 #[derive(Drop)]
 pub struct BpVersion {
@@ -46,8 +74,32 @@ impl Model for BpVersion {
     ghost invariant = { λ a. IsTrue (is_bp_version (string_bytes a.text)) };
 }
 
+impl PartialEq for BpVersion {
+    ghost eq = { bytes_eq };
+
+    ghost laws = { Prim.search (comparing, rules) };
+
+    fn eq(&self, other: &BpVersion) -> bool {
+        self.text.as_str() == other.text.as_str()
+    }
+}
+
+impl Eq for BpVersion {
+    ghost laws = { Prim.search (comparing, rules) };
+}
+
+impl Hash for BpVersion {
+    ghost hash_input = { fed.str };
+
+    ghost respects_eq = { Prim.search (hashing, rules) };
+
+    fn hash<H: Hasher>(&self, state: &mut H) {
+        self.text.hash(state);
+    }
+}
+
 /// What tells one buildpack from another: its id and its version.
-#[derive(Drop)]
+#[derive(PartialEq, Eq, Hash, Drop)]
 pub struct Key {
     pub id: BpId,
     pub version: BpVersion,
@@ -131,13 +183,6 @@ impl BpId {
     {
         Ok(Text::from_string(folder_text(alloc, self.text.as_str())?))
     }
-
-    /// Whether another id is the same.
-    pub fn same(&self, other: &BpId) -> bool
-        ensures { result ≡ bytes_eq self.now other.now }
-    {
-        self.text.as_str() == other.text.as_str()
-    }
 }
 
 impl BpVersion {
@@ -169,12 +214,5 @@ impl BpVersion {
         Ok(BpVersion {
             text: String::from_str(alloc, self.text.as_str())?,
         })
-    }
-
-    /// Whether another version is the same.
-    pub fn same(&self, other: &BpVersion) -> bool
-        ensures { result ≡ bytes_eq self.now other.now }
-    {
-        self.text.as_str() == other.text.as_str()
     }
 }

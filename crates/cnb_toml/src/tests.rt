@@ -87,7 +87,7 @@ fn folders(rt: HostRuntime) -> Result<(), Fail> {
         let id = BpId::parse(rt.alloc(), text)?;
         let copy = id.copy(rt.alloc())?;
         let folder = copy.folder(rt.alloc())?;
-        assert!(rt; id.same(&copy));
+        assert!(rt; id == copy);
         assert_eq!(rt; folder.as_str(), want);
     }
     Ok(())

@@ -61,11 +61,11 @@ impl From<AllocFailed<Descriptor>> for CatalogFault {
 fn may_mean(entry: &Entry, descriptor: &Descriptor) -> bool
     ensures { result ≡ may_mean entry.now descriptor.now }
 {
-    if !entry.id.same(&descriptor.key.id) {
+    if entry.id != descriptor.key.id {
         return false;
     }
     match &entry.version {
-        Some(version) => version.same(&descriptor.key.version),
+        Some(version) => *version == descriptor.key.version,
         None => true,
     }
 }
@@ -99,7 +99,7 @@ impl Catalog {
     {
         self.descriptors
             .iter()
-            .any(|descriptor| key.same(&descriptor.key))
+            .any(|descriptor| *key == descriptor.key)
     }
 
     /// Adds a descriptor.

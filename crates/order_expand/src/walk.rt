@@ -57,7 +57,7 @@ fn has_id(members: &[Member], chosen: &Chosen) -> bool
 {
     members
         .iter()
-        .any(|member| member.key.id.same(&chosen.descriptor.key.id))
+        .any(|member| member.key.id == chosen.descriptor.key.id)
 }
 
 /// Adds a member behind the others, unless one of its id is there.

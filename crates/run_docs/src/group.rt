@@ -47,7 +47,7 @@ impl RowForm for GroupRow {
 fn is_listed(rows: &[GroupRow], id: &BpId) -> bool
     ensures { result ≡ is_listed rows.now id.now }
 {
-    rows.iter().any(|row| row.key.id.same(id))
+    rows.iter().any(|row| row.key.id == *id)
 }
 
 /// Reads `group.toml`. The first fault in the order of keys and rows is answered, as `group.1.id`.
