@@ -4,6 +4,7 @@ use Rattle.std.specs.Option.{option_map}
 use Rattle.std.specs.List.{list_all}
 use Rattle.std.specs.Str.{bytes_eq}
 use Rattle.std.specs.FinMap.{get}
+use Rattle.std.proofs.lemmas.Bool.{and_parts, and_from}
 use Rattle.std.proofs.lemmas.List.Folds.{list_all-append}
 use Rattle.cnb_world.specs.declared.world.Item.{Item}
 use Rattle.cnb_world.specs.declared.world.Item.TheVariants.{Folder}
@@ -31,15 +32,8 @@ short_get t g bytes r h = get-insert_other _ g _ r (λ e. let same : length r �
 short_fits : (t : Tree) (g bytes r : List ℕ) → length r < length g → fits (item_at t r) ≡ true → fits (item_at (written g bytes t) r) ≡ true
 short_fits t g bytes r h old = ap (λ v. fits (cond (is_root r) (Some Folder) v)) (short_get t g bytes r h ∙ get-with_folders (folders_above (parent_of g) ++ parent_of g ∷ []) t r) ∙ made_fits (is_root r) _ (get t r) old
 
-two : (a b : Bool) → (a && b) ≡ true → (a ≡ true) × (b ≡ true)
-two true b h = (refl, h)
-two false b h = absurd (cc)
-
-both : (a b : Bool) → a ≡ true → b ≡ true → (a && b) ≡ true
-both a b x y = ap (λ v. v && b) x ∙ y
-
 one_more : (F G : List ℕ → Bool) (b : Bool) (x : List ℕ) (xs : List (List ℕ)) → (F x ≡ true → G x ≡ true) → (list_all F xs ≡ true → list_all G xs ≡ true) → list_all F (cond b (x ∷ xs) xs) ≡ true → list_all G (cond b (x ∷ xs) xs) ≡ true
-one_more F G true x xs f rest h = let parts = two (F x) (list_all F xs) h in both (G x) (list_all G xs) (f parts.0) (rest parts.1)
+one_more F G true x xs f rest h = let parts = and_parts (F x) (list_all F xs) h in and_from (G x) (list_all G xs) (f parts.0) (rest parts.1)
 one_more F G false x xs f rest h = rest h
 
 all_short : (F G : List ℕ → Bool) (n : ℕ) → ((r : List ℕ) → length r ≤ n → F r ≡ true → G r ≡ true) → (front rest : List ℕ) → length front + length rest ≤ n → list_all F (folders_from front rest) ≡ true → list_all G (folders_from front rest) ≡ true
@@ -51,9 +45,9 @@ make_folder_after t g bytes q h ok =
     let F : List ℕ → Bool = λ r. fits (item_at t r) in
     let G : List ℕ → Bool = λ r. fits (item_at (written g bytes t) r) in
     let step : (r : List ℕ) → length r ≤ length q → F r ≡ true → G r ≡ true = λ r le x. short_fits t g bytes r (omega arith) x in
-    let parts = two (list_all F (folders_above q)) (list_all F (q ∷ [])) (sym (list_all-append F (folders_above q) (q ∷ [])) ∙ ok) in
-    list_all-append G (folders_above q) (q ∷ []) ∙ both _ _ (all_short F G (length q) step [] q (omega arith) parts.0)
-    (let last = two (F q) true parts.1 in both (G q) true (step q (omega arith) last.0) refl)
+    let parts = and_parts (list_all F (folders_above q)) (list_all F (q ∷ [])) (sym (list_all-append F (folders_above q) (q ∷ [])) ∙ ok) in
+    list_all-append G (folders_above q) (q ∷ []) ∙ and_from _ _ (all_short F G (length q) step [] q (omega arith) parts.0)
+    (let last = and_parts (F q) true parts.1 in and_from (G q) true (step q (omega arith) last.0) refl)
 
 allows_plan : (work bytes : List ℕ) (t : Tree) → is_path work ≡ true → can_write (plan_path work) t ≡ true → can_write (plan_path work) (written (group_path work) bytes t) ≡ true
 allows_plan work bytes t path h =
@@ -62,9 +56,9 @@ allows_plan work bytes t path h =
     let folder : length (parent_of (group_path work)) ≡ length work = ap length a.folder in
     let plan_folder : length (parent_of (plan_path work)) ≡ length work = ap length a.plan_folder in
     let below : length work < length (plan_path work) = a.plan_below in
-    let outer = two (is_file_or_absent (item_at t (plan_path work)) && is_file_or_absent (item_at t (beside (plan_path work)))) (can_make_folder t (parent_of (plan_path work))) h in
-    let docs = two (is_file_or_absent (item_at t (plan_path work))) (is_file_or_absent (item_at t (beside (plan_path work)))) outer.0 in
-    both _ _ (both _ _
+    let outer = and_parts (is_file_or_absent (item_at t (plan_path work)) && is_file_or_absent (item_at t (beside (plan_path work)))) (can_make_folder t (parent_of (plan_path work))) h in
+    let docs = and_parts (is_file_or_absent (item_at t (plan_path work))) (is_file_or_absent (item_at t (beside (plan_path work)))) outer.0 in
+    and_from _ _ (and_from _ _
     (ap is_file_or_absent (written_other t (group_path work) (plan_path work) bytes (λ e. omega arith) (λ e. omega arith) (omega arith)) ∙ docs.0)
     (ap is_file_or_absent (written_other t (group_path work) (beside (plan_path work)) bytes (λ e. omega (arith, longer (plan_path work))) (λ e. omega (arith, longer (plan_path work))) (omega (arith, longer (plan_path work)))) ∙ docs.1))
     (make_folder_after t (group_path work) bytes (parent_of (plan_path work)) (omega arith) outer.1)

@@ -30,7 +30,7 @@ choice_by erred (Some (FirstTrial place resolved kept)) = Ok (record { group = g
 choice_by erred (Some (TooManyTrials place)) = Err (Limit Trials)
 choice_by erred None = Err (NoGroup erred)
 
--- the children that the first of some desks ran in a call
+-- the children that the first of some spawners ran in a call
 abbrev pub new_runs : {S : Type 0} → (S → List Ran) → List S → List S → List Ran
 new_runs runs old new = since (first_runs runs old) (first_runs runs new)
 

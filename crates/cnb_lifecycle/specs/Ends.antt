@@ -102,7 +102,7 @@ CauseOfFile (Refused (File path)) before now = Rose before now
 CauseOfFile (Refused Memory) before now = before ≤ now
 CauseOfFile (Refused refusal) before now = now ≡ before
 
--- the same of `Child` and a desk's count
+-- the same of `Child` and a spawner's count
 abbrev pub CauseOfChild : Status → ℕ → ℕ → Type 0
 CauseOfChild Done before now = now ≡ before
 CauseOfChild Output before now = before ≤ now

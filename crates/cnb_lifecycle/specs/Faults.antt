@@ -3,10 +3,8 @@ use Rattle.std.specs.Prelude.{true, false}
 use Rattle.cnb_world.specs.declared.limits.LimitKind.TheVariants as limit
 use Rattle.cnb_words.specs.declared.fault.WordsFault.{WordsFault}
 use Rattle.cnb_words.specs.declared.fault.WordsFault.TheVariants as words
-use Rattle.order_files.specs.declared.fault.ReadFault.{ReadFault}
-use Rattle.order_files.specs.declared.fault.ReadFault.TheVariants as read
-use Rattle.cnb_env.specs.declared.files.EnvFault.{EnvFault}
-use Rattle.cnb_env.specs.declared.files.EnvFault.TheVariants as env
+use Rattle.doc_files.specs.declared.fault.ReadFault.{ReadFault}
+use Rattle.doc_files.specs.declared.fault.ReadFault.TheVariants as read
 use Rattle.order_expand.specs.declared.order.OrderFault.{OrderFault}
 use Rattle.order_expand.specs.declared.order.OrderFault.TheVariants as order
 use Rattle.detect_core.specs.declared.chosen.DetectEnd.{DetectEnd}
@@ -24,12 +22,6 @@ of_read_fault (read.File path) = File path
 of_read_fault (read.Document path fault) = Document path fault
 of_read_fault (read.Limit kind) = Limit kind
 of_read_fault read.Memory = Memory
-
-abbrev pub of_env_fault : EnvFault → Refusal
-of_env_fault (env.File path) = File path
-of_env_fault (env.Document path fault) = Document path fault
-of_env_fault (env.Limit kind) = Limit kind
-of_env_fault env.Memory = Memory
 
 abbrev pub of_order_fault : OrderFault → Refusal
 of_order_fault (order.Absent id) = Order id false

@@ -26,7 +26,7 @@ StepFiles (Err (File path)) before now = Rose before now
 StepFiles (Err Memory) before now = before ≤ now
 StepFiles result before now = now ≡ before
 
--- the count of a desk's faults: `Child` comes where it rose
+-- the count of a spawner's faults: `Child` comes where it rose
 abbrev pub StepChildren : {A : Type 0} → Result A Refusal → ℕ → ℕ → Type 0
 StepChildren (Err Child) before now = Rose before now
 StepChildren (Err Memory) before now = before ≤ now

@@ -25,27 +25,27 @@ fn choose<S: Spawner + Send, R: Threads + Sync>(
     rt: &R,
     alloc: Global,
     prepared: &Prepared,
-    desks: &mut Vec<S>,
+    spawners: &mut Vec<S>,
     workers: usize,
 ) -> Result<Chosen, Refusal>
     requires order { IsOk (checked prepared.now.catalog prepared.now.order) }
     requires short { IsTrue (is_short prepared.now.frame) }
-    requires desks { 0 < length desks.old.items }
+    requires spawners { 0 < length spawners.old.items }
     requires workers { 0 < workers }
-    ensures chooses { Chooses result (choice_of prepared.now (new_runs S.runs desks.old.items desks.new.items)) }
-    ensures asks { OnStep result (map (λ ran. ran.job) (new_runs S.runs desks.old.items desks.new.items) ≡ jobs_of prepared.now (new_runs S.runs desks.old.items desks.new.items)) }
+    ensures chooses { Chooses result (choice_of prepared.now (new_runs S.runs spawners.old.items spawners.new.items)) }
+    ensures asks { OnStep result (map (λ ran. ran.job) (new_runs S.runs spawners.old.items spawners.new.items) ≡ jobs_of prepared.now (new_runs S.runs spawners.old.items spawners.new.items)) }
     ensures written { IfOk result (λ chosen. IsTrue (is_group_doc chosen.group) × IsTrue (is_plan_doc chosen.plan)) }
-    ensures grows { IsExtended (first_runs S.runs desks.old.items) (first_runs S.runs desks.new.items) }
-    ensures others { drop 1 desks.new.items ≡ drop 1 desks.old.items }
+    ensures grows { IsExtended (first_runs S.runs spawners.old.items) (first_runs S.runs spawners.new.items) }
+    ensures others { drop 1 spawners.new.items ≡ drop 1 spawners.old.items }
     ensures files { (n : ℕ) → StepFiles result n n }
-    ensures children { StepChildren result (first_faults S.faults desks.old.items) (first_faults S.faults desks.new.items) }
+    ensures children { StepChildren result (first_faults S.faults spawners.old.items) (first_faults S.faults spawners.new.items) }
 {
     let chosen = detect(
         rt,
         alloc,
         &prepared.order,
         &prepared.catalog,
-        desks,
+        spawners,
         workers,
         &prepared.frame,
     )?;
@@ -60,22 +60,22 @@ pub(crate) fn choose_group<W: World, S: Spawner + Send, R: Threads + Sync>(
     words: &DetectWords,
     env: &Env,
     world: &mut W,
-    desks: &mut Vec<S>,
+    spawners: &mut Vec<S>,
 ) -> Result<Chosen, Refusal>
     requires short { KeepsLimits words.now }
-    requires desks { 0 < length desks.old.items }
-    ensures chooses { IfSome (W.tree world.old) (λ files. Chooses result (detect_choice words.now env.now (new_runs S.runs desks.old.items desks.new.items) files)) }
-    ensures asks { IfSome (W.tree world.old) (λ files. AsksIn result (map (λ ran. ran.job) (new_runs S.runs desks.old.items desks.new.items)) (detect_jobs words.now env.now (new_runs S.runs desks.old.items desks.new.items) files)) }
+    requires spawners { 0 < length spawners.old.items }
+    ensures chooses { IfSome (W.tree world.old) (λ files. Chooses result (detect_choice words.now env.now (new_runs S.runs spawners.old.items spawners.new.items) files)) }
+    ensures asks { IfSome (W.tree world.old) (λ files. AsksIn result (map (λ ran. ran.job) (new_runs S.runs spawners.old.items spawners.new.items)) (detect_jobs words.now env.now (new_runs S.runs spawners.old.items spawners.new.items) files)) }
     ensures written { IfOk result (λ chosen. IsTrue (is_group_doc chosen.group) × IsTrue (is_plan_doc chosen.plan)) }
-    ensures grows { IsExtended (first_runs S.runs desks.old.items) (first_runs S.runs desks.new.items) }
-    ensures others { drop 1 desks.new.items ≡ drop 1 desks.old.items }
+    ensures grows { IsExtended (first_runs S.runs spawners.old.items) (first_runs S.runs spawners.new.items) }
+    ensures others { drop 1 spawners.new.items ≡ drop 1 spawners.old.items }
     ensures tree { W.tree world.new ≡ W.tree world.old }
     ensures files { StepFiles result (W.file_faults world.old) (W.file_faults world.new) }
-    ensures children { StepChildren result (first_faults S.faults desks.old.items) (first_faults S.faults desks.new.items) }
+    ensures children { StepChildren result (first_faults S.faults spawners.old.items) (first_faults S.faults spawners.new.items) }
     ensures world_children { W.child_faults world.new ≡ W.child_faults world.old }
     ensures runs { W.runs world.new ≡ W.runs world.old }
     ensures misused { MayMisuse (option_map (is_fit_preparation words.now) (W.tree world.old)) (W.misused world.old) (W.misused world.new) }
 {
     let prepared = prepare(alloc, words, env, world)?;
-    choose(rt, alloc, &prepared, desks, words.workers)
+    choose(rt, alloc, &prepared, spawners, words.workers)
 }

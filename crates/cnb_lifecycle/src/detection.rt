@@ -24,25 +24,25 @@ pub(crate) fn detect_command<W: World, S: Spawner + Send, R: Threads + Sync>(
     words: &DetectWords,
     env: &Env,
     world: &mut W,
-    desks: &mut Vec<S>,
+    spawners: &mut Vec<S>,
 ) -> Result<Text, Refusal>
     requires short { KeepsLimits words.now }
-    requires desks { 0 < length desks.old.items }
-    ensures comes { IfSome (W.tree world.old) (λ files. Answers result (text_of (detect_choice words.now env.now (new_runs S.runs desks.old.items desks.new.items) files))) }
-    ensures writes { WritesChoice result words.now (W.tree world.old) (W.tree world.new) (detect_choice words.now env.now (new_runs S.runs desks.old.items desks.new.items)) }
-    ensures group { IsGroupOldOrNew words.now (W.tree world.old) (W.tree world.new) (detect_choice words.now env.now (new_runs S.runs desks.old.items desks.new.items)) }
-    ensures plan { IsPlanOldOrNew words.now (W.tree world.old) (W.tree world.new) (detect_choice words.now env.now (new_runs S.runs desks.old.items desks.new.items)) }
+    requires spawners { 0 < length spawners.old.items }
+    ensures comes { IfSome (W.tree world.old) (λ files. Answers result (text_of (detect_choice words.now env.now (new_runs S.runs spawners.old.items spawners.new.items) files))) }
+    ensures writes { WritesChoice result words.now (W.tree world.old) (W.tree world.new) (detect_choice words.now env.now (new_runs S.runs spawners.old.items spawners.new.items)) }
+    ensures group { IsGroupOldOrNew words.now (W.tree world.old) (W.tree world.new) (detect_choice words.now env.now (new_runs S.runs spawners.old.items spawners.new.items)) }
+    ensures plan { IsPlanOldOrNew words.now (W.tree world.old) (W.tree world.new) (detect_choice words.now env.now (new_runs S.runs spawners.old.items spawners.new.items)) }
     ensures kept { KeepsFiles result (W.tree world.old) (W.tree world.new) }
-    ensures asks { IfSome (W.tree world.old) (λ files. AsksIn result (map (λ ran. ran.job) (new_runs S.runs desks.old.items desks.new.items)) (detect_jobs words.now env.now (new_runs S.runs desks.old.items desks.new.items) files)) }
-    ensures grows { IsExtended (first_runs S.runs desks.old.items) (first_runs S.runs desks.new.items) }
-    ensures others { drop 1 desks.new.items ≡ drop 1 desks.old.items }
+    ensures asks { IfSome (W.tree world.old) (λ files. AsksIn result (map (λ ran. ran.job) (new_runs S.runs spawners.old.items spawners.new.items)) (detect_jobs words.now env.now (new_runs S.runs spawners.old.items spawners.new.items) files)) }
+    ensures grows { IsExtended (first_runs S.runs spawners.old.items) (first_runs S.runs spawners.new.items) }
+    ensures others { drop 1 spawners.new.items ≡ drop 1 spawners.old.items }
     ensures files { StepFiles result (W.file_faults world.old) (W.file_faults world.new) }
-    ensures children { StepChildren result (first_faults S.faults desks.old.items) (first_faults S.faults desks.new.items) }
+    ensures children { StepChildren result (first_faults S.faults spawners.old.items) (first_faults S.faults spawners.new.items) }
     ensures world_children { W.child_faults world.new ≡ W.child_faults world.old }
     ensures runs { W.runs world.new ≡ W.runs world.old }
     ensures misused { MayMisuse (option_map (is_fit_detect words.now) (W.tree world.old)) (W.misused world.old) (W.misused world.new) }
 {
-    let chosen = choose_group(rt, alloc, words, env, world, desks)?;
+    let chosen = choose_group(rt, alloc, words, env, world, spawners)?;
     let text = choice_text(alloc, chosen.group.as_slice(), chosen.plan.as_slice().len())?;
     write_choice(alloc, world, &words.work, &chosen.group, &chosen.plan)?;
     Ok(text)

@@ -1,11 +1,10 @@
 // The refusals that the faults of the steps come to.
 use crate::refusal::Refusal;
-use cnb_env::EnvFault;
 use cnb_words::WordsFault;
 use cnb_world::{LimitKind, Memory};
 use detect_core::DetectEnd;
+use doc_files::ReadFault;
 use order_expand::OrderFault;
-use order_files::ReadFault;
 use std::alloc::AllocError;
 
 impl From<Memory> for Refusal {
@@ -57,22 +56,6 @@ impl From<ReadFault> for Refusal {
             ReadFault::Document(path, fault) => Refusal::Document(path, fault),
             ReadFault::Limit(kind) => Refusal::Limit(kind),
             ReadFault::Memory => Refusal::Memory,
-        }
-    }
-}
-
-impl From<EnvFault> for Refusal {
-    ghost use Rattle.std.specs.Prelude.{◌≡◌};
-    ghost use Rattle.cnb_lifecycle.specs.Faults.{of_env_fault};
-
-    ghost from_gives = { λ fault given. given ≡ of_env_fault fault };
-
-    fn from(fault: EnvFault) -> Self {
-        match fault {
-            EnvFault::File(path) => Refusal::File(path),
-            EnvFault::Document(path, fault) => Refusal::Document(path, fault),
-            EnvFault::Limit(kind) => Refusal::Limit(kind),
-            EnvFault::Memory => Refusal::Memory,
         }
     }
 }

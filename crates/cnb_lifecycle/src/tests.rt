@@ -226,8 +226,8 @@ fn told<R: Threads + Sync>(rt: &R, alloc: Global, row: &Row) -> Result<String, F
         List::new(alloc),
         failing(alloc, row.failing, "files")?,
     )?;
-    let mut desks = Vec::new(alloc);
-    desks.push(MemSpawner::new(
+    let mut spawners = Vec::new(alloc);
+    spawners.push(MemSpawner::new(
         alloc,
         replies(alloc, row.replies)?,
         failing(alloc, row.failing, "children")?,
@@ -246,15 +246,15 @@ fn told<R: Threads + Sync>(rt: &R, alloc: Global, row: &Row) -> Result<String, F
         &words,
         &env,
         &mut world,
-        &mut desks,
+        &mut spawners,
         &mut shelves,
         &mut out,
     );
     let mut told = format!(in alloc; "{}", status.code())?;
     tell_lines(&mut told, out.as_slice())?;
     told.push_str("; asked")?;
-    for desk in &desks {
-        for run in desk.runs() {
+    for spawner in &spawners {
+        for run in spawner.runs() {
             push_all(
                 &mut told,
                 &[" ", run.job.id.as_str(), "@", run.job.version.as_str()],

@@ -13,16 +13,16 @@ use std::alloc::AllocError;
 use std::process::ExitCode;
 
 /// One for each worker that the words may ask for.
-const DESKS: usize = 64;
+const SPAWNERS: usize = 64;
 
-fn make_desks(rt: &HostRuntime) -> Result<Vec<HostSpawner<HostRuntime>>, AllocError>
-    ensures { IfOk result (λ desks. length desks.items ≡ DESKS) }
+fn make_spawners(rt: &HostRuntime) -> Result<Vec<HostSpawner<HostRuntime>>, AllocError>
+    ensures { IfOk result (λ spawners. length spawners.items ≡ SPAWNERS) }
 {
-    let mut desks = Vec::new(rt.alloc());
-    for _ in 0..DESKS {
-        desks.push(HostSpawner::new(rt.clone()?))?;
+    let mut spawners = Vec::new(rt.alloc());
+    for _ in 0..SPAWNERS {
+        spawners.push(HostSpawner::new(rt.clone()?))?;
     }
-    Ok(desks)
+    Ok(spawners)
 }
 
 // What the process was started with, and the system that it works on.
@@ -31,12 +31,12 @@ struct Started {
     words: Vec<String>,
     env: Env,
     world: HostWorld<HostRuntime>,
-    desks: Vec<HostSpawner<HostRuntime>>,
+    spawners: Vec<HostSpawner<HostRuntime>>,
     out: StdoutSink<HostRuntime>,
 }
 
 fn start(rt: &HostRuntime) -> Result<Started, StartFault>
-    ensures { IfOk result (λ started. length started.desks.items ≡ DESKS) }
+    ensures { IfOk result (λ started. length started.spawners.items ≡ SPAWNERS) }
 {
     let words = words(rt)?;
     let Ok(env) = environment(rt) else {
@@ -46,7 +46,7 @@ fn start(rt: &HostRuntime) -> Result<Started, StartFault>
         words,
         env,
         world: HostWorld::new(rt.clone()?),
-        desks: make_desks(rt)?,
+        spawners: make_spawners(rt)?,
         out: StdoutSink::new(rt.clone()?),
     })
 }
@@ -74,7 +74,7 @@ fn main(rt: HostRuntime) -> ExitCode {
         started.words.as_slice(),
         &started.env,
         &mut started.world,
-        &mut started.desks,
+        &mut started.spawners,
         &mut shelves,
         &mut started.out,
     );

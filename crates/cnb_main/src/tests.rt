@@ -1,5 +1,5 @@
 // The program over a folder of the system: what it writes there.
-use crate::make_desks;
+use crate::make_spawners;
 use cnb_host::HostWorld;
 use cnb_lifecycle::lifecycle;
 use cnb_world::{Env, List, MemSink, Path, Shelf, World};
@@ -73,7 +73,7 @@ fn the_documents_in_a_folder_are_the_choice(rt: HostRuntime) -> Result<(), Fail>
     write_buildpack(&rt, &mut world, folder.as_str(), "a", 100)?;
     write_buildpack(&rt, &mut world, folder.as_str(), "b", 0)?;
     let words = words(&rt, folder.as_str())?;
-    let mut desks = make_desks(&rt)?;
+    let mut spawners = make_spawners(&rt)?;
     let mut shelves: Vec<Box<dyn Shelf>> = Vec::new(rt.alloc());
     let mut out = MemSink::new(rt.alloc(), List::new(rt.alloc()))?;
     let environment = Env::new(rt.alloc());
@@ -83,7 +83,7 @@ fn the_documents_in_a_folder_are_the_choice(rt: HostRuntime) -> Result<(), Fail>
         words.as_slice(),
         &environment,
         &mut world,
-        &mut desks,
+        &mut spawners,
         &mut shelves,
         &mut out,
     );

@@ -1,7 +1,8 @@
 -- What asking one more member adds.
-use Rattle.std.proofs.Common.{◌≡◌, ◌∙◌, refl, sym, ap, subst, ℕ, ◌+◌, ◌<◌, suc, Bool, true, false, List, [], ◌∷◌, ◌++◌, map, take, drop, get_or, length, append_assoc, append-nil}
-use Rattle.std.specs.Prelude.{◌||◌, if◌then◌else◌, Result, Ok, Err, OnErr}
+use Rattle.std.proofs.Common.{◌≡◌, ◌∙◌, refl, sym, ap, subst, ℕ, ◌+◌, ◌<◌, suc, Bool, true, false, cond, List, [], ◌∷◌, ◌++◌, map, take, drop, get_or, length, append_assoc, append-nil}
+use Rattle.std.specs.Prelude.{◌||◌, if◌then◌else◌, Option, Some, None, Result, Ok, Err, OnErr}
 use Rattle.std.specs.List.{list_any}
+use Rattle.std.specs.Option.{is_some}
 use Rattle.std.proofs.lemmas.List.{map-append, take_more, take-append-drop}
 use Rattle.std.proofs.Math.Seq.{drop-cons}
 use Rattle.cnb_world.specs.declared.child.DetectJob.{DetectJob}
@@ -10,10 +11,9 @@ use Rattle.cnb_toml.specs.declared.names.Key.{Key}
 use Rattle.cnb_toml.specs.Keys.{same_key}
 use Rattle.order_expand.specs.declared.member.Member.{Member}
 use Rattle.detect_core.specs.declared.chosen.DetectFrame.{DetectFrame}
-use Rattle.detect_core.specs.declared.kept.AnswerRow.{AnswerRow}
 use Rattle.detect_core.specs.Answer.{key_of}
 use Rattle.detect_core.specs.Job.{detect_job}
-use Rattle.detect_core.specs.Kept.{row_of, keys_of, has_key}
+use Rattle.detect_core.specs.Kept.{AnswerRow, row_of, keys_of, kept_for, has_key}
 use Rattle.detect_core.specs.Asking.{unmet, Runs, RunsAll, RunsFirst}
 
 pub map-map : {X Y Z : Type 0} (g : Y → Z) (f : X → Y) (xs : List X) → map g (map f xs) ≡ map (λ x. g (f x)) xs
@@ -22,7 +22,10 @@ map-map g f (x ∷ xs) = ap (λ zs. g (f x) ∷ zs) (map-map g f xs)
 
 pub any-keys : (rows : List AnswerRow) (key : Key) → list_any (same_key key) (keys_of rows) ≡ has_key rows key
 any-keys [] key = refl
-any-keys (row ∷ rows) key = ap (λ b. same_key key row.key || b) (any-keys rows key)
+any-keys (row ∷ rows) key = elim (same_key key row.0) as (λ b. (b || list_any (same_key key) (keys_of rows)) ≡ is_some (cond b (Some row.1) (kept_for rows key))) [
+  | true ↦ refl
+  | false ↦ any-keys rows key
+]
 
 pub on_err : {A E : Type 0} {P : Type 0} (r : Result A E) → P → OnErr r P
 on_err (Ok value) p = tt
@@ -55,14 +58,14 @@ ran_one frame member runs runs' ran job grown = record { ran = ran ∷ []; runs 
 
 pub asked_one : (frame : DetectFrame) (member : Member) (runs runs' : List Ran) (kept kept' : List AnswerRow) (ran : Ran) (key : Key) →
     has_key kept member.key ≡ false → ran.job ≡ detect_job frame member → key ≡ member.key →
-    runs' ≡ runs ++ ran ∷ [] → kept' ≡ kept ++ record { key = key; probed = ran.probed } ∷ [] →
+    runs' ≡ runs ++ ran ∷ [] → kept' ≡ kept ++ (key, ran.probed) ∷ [] →
     RunsAll frame (if list_any (same_key member.key) (keys_of kept) then [] else member ∷ []) runs runs' kept kept'
 unfolding ran_one
 asked_one frame member runs runs' kept kept' ran key new job is_key grown added =
     let same : key ≡ key_of ran = is_key ∙ (λ i. let j = sym job i in record { id = j.id; version = j.version }) in
     subst (λ (b : Bool). RunsAll frame (if b then [] else member ∷ []) runs runs' kept kept') (sym (any-keys kept member.key ∙ new)) record {
       run = ran_one frame member runs runs' ran job grown;
-      kept = added ∙ ap (λ (k : Key). kept ++ record { key = k; probed = ran.probed } ∷ []) same;
+      kept = added ∙ ap (λ (k : Key). kept ++ (k, ran.probed) ∷ []) same;
     }
 
 pub asked_first : (frame : DetectFrame) (member : Member) (runs runs' : List Ran) (kept : List AnswerRow) (ran : Ran) →
@@ -108,13 +111,13 @@ pub ran_keys : (frame : DetectFrame) (members : List Member) (ran : List Ran) �
     map (λ r. r.job) ran ≡ map (detect_job frame) members → keys_of (map row_of ran) ≡ map (λ m. m.key) members
 ran_keys frame members ran jobs =
     let key = λ (j : DetectJob). let k : Key = record { id = j.id; version = j.version } in k in
-    map-map (λ (row : AnswerRow). row.key) row_of ran ∙ (sym (map-map key (λ (r : Ran). r.job) ran)
+    map-map (λ (row : AnswerRow). row.0) row_of ran ∙ (sym (map-map key (λ (r : Ran). r.job) ran)
     ∙ (ap (map key) jobs ∙ map-map key (detect_job frame) members))
 
 pub kept_keys : (frame : DetectFrame) (members : List Member) (r0 r1 : List Ran) (k0 k1 : List AnswerRow) →
     RunsAll frame members r0 r1 k0 k1 → keys_of k1 ≡ keys_of k0 ++ map (λ m. m.key) members
 kept_keys frame members r0 r1 k0 k1 a =
-    ap keys_of a.kept ∙ (map-append (λ (row : AnswerRow). row.key) k0 (map row_of a.run.ran) ∙ ap (λ ks. keys_of k0 ++ ks) (ran_keys frame members a.run.ran a.run.jobs))
+    ap keys_of a.kept ∙ (map-append (λ (row : AnswerRow). row.0) k0 (map row_of a.run.ran) ∙ ap (λ ks. keys_of k0 ++ ks) (ran_keys frame members a.run.ran a.run.jobs))
 
 -- the members that are met in two lists, one behind the other
 pub unmet-append : (keys : List Key) (xs ys : List Member) → unmet keys (xs ++ ys) ≡ unmet keys xs ++ unmet (keys ++ map (λ m. m.key) (unmet keys xs)) ys

@@ -1,3 +1,4 @@
+pub mod KeptLemmas
 pub mod AskingLemmas
 pub mod JudgingLemmas
 pub mod EndingLemmas
@@ -6,7 +7,7 @@ pub mod AnswerLemmas
 pub mod SearchLemmas
 pub mod LimitLemmas
 pub mod TurnLemmas
-pub mod DeskLemmas
+pub mod SpawnerLemmas
 pub mod PathLemmas
 pub mod EnvironmentLemmas
 pub mod PlanNameLemmas

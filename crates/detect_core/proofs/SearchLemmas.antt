@@ -15,14 +15,13 @@ use Rattle.detect_core.specs.declared.chosen.DetectEnd.TheVariants.{NoGroup, Man
 use Rattle.detect_core.specs.declared.chosen.DetectFrame.{DetectFrame}
 use Rattle.detect_core.specs.declared.chosen.Verdict.{Verdict}
 use Rattle.detect_core.specs.declared.judging.Judged.{Judged}
-use Rattle.detect_core.specs.declared.kept.AnswerRow.{AnswerRow}
 use Rattle.detect_core.specs.Answer.{is_error, key_of, recorded, answer_or_error, build_plan, says}
 use Rattle.detect_core.specs.Asking.{unmet, RunsAll, RunsFirst}
 use Rattle.detect_core.specs.Detection.{Ending, TooManyTrials, FirstTrial, ending_of_rows, ending_at, first_ending, reached, members_of}
 use Rattle.detect_core.specs.Ending.{EndsGroup}
 use Rattle.detect_core.specs.Job.{detect_job}
 use Rattle.detect_core.specs.Judging.{IsJudged, alive_rows}
-use Rattle.detect_core.specs.Kept.{row_of, keys_of, kept_says}
+use Rattle.detect_core.specs.Kept.{AnswerRow, row_of, keys_of, kept_says}
 use Rattle.detect_core.specs.Search.{DetectsAs, OnDetected, AsksSome}
 use Rattle.detect_core.specs.Searching.{IsSearch}
 use Rattle.detect_core.proofs.AskingLemmas.{map-map, ran_keys}
@@ -42,7 +41,7 @@ pub record IsUnderWay (frame : DetectFrame) (asked done : List (List Member)) (r
 pub under_way_start : (frame : DetectFrame) (runs : List Ran) → IsUnderWay frame [] [] runs runs [] false
 under_way_start frame runs = record { ran = []; runs = sym (append-nil runs); rows = refl; jobs = refl; none = refl; errs = refl }
 
--- a search that stopped for a failed desk or for want of memory
+-- a search that stopped for a failed spawner or for want of memory
 pub record IsStopped (frame : DetectFrame) (groups : List (List Member)) (runs_old runs_new : List Ran) : Type 0 where
   pub ran : List Ran
   pub runs : runs_new ≡ runs_old ++ ran
@@ -79,7 +78,7 @@ module _ (frame : DetectFrame) (done : List (List Member)) (group : List Member)
   met_keys = ap keys_of s.rows ∙ ran_keys frame met s.ran s.jobs
 
   answered_keys : map key_of s.ran ≡ keys_of_members met
-  answered_keys = sym (map-map (λ (row : AnswerRow). row.key) row_of s.ran) ∙ ran_keys frame met s.ran s.jobs
+  answered_keys = sym (map-map (λ (row : AnswerRow). row.0) row_of s.ran) ∙ ran_keys frame met s.ran s.jobs
 
   -- the first of the group's members were asked
   pub stopped_in : (r2 : List Ran) → RunsFirst frame (unmet (keys_of k1) group) r1 r2 → IsStopped frame (done ++ group ∷ left) r0 r2

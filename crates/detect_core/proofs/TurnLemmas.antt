@@ -10,7 +10,7 @@ use Rattle.detect_core.specs.declared.chosen.DetectEnd.{DetectEnd}
 use Rattle.detect_core.specs.declared.chosen.DetectEnd.TheVariants.{NoGroup}
 use Rattle.detect_core.specs.declared.chosen.DetectFrame.{DetectFrame}
 use Rattle.detect_core.specs.declared.judging.Judged.{Judged}
-use Rattle.detect_core.specs.declared.kept.AnswerRow.{AnswerRow}
+use Rattle.detect_core.specs.Kept.{AnswerRow}
 use Rattle.detect_core.specs.Asking.{unmet, RunsAll, RunsFirst}
 use Rattle.detect_core.specs.Detection.{ending_of_rows}
 use Rattle.detect_core.specs.Ending.{EndsGroup}
@@ -52,7 +52,7 @@ module _ (frame : DetectFrame) (listed left : List (List Member)) (place : ℕ) 
     whole : s.done ++ group ∷ later ≡ listed
     whole = ap (λ gs. s.done ++ gs) (sym next) ∙ sym s.parts
 
-    -- a failed desk, or no memory
+    -- a failed spawner, or no memory
     pub stopped_asking : (asked : List Member) (r2 : List Ran) → asked ≡ group → RunsFirst frame (unmet (keys_of k1) asked) r1 r2 → IsStopped frame listed r0 r2
     stopped_asking asked r2 is a =
         subst (λ (gs : List (List Member)). IsStopped frame gs r0 r2) whole

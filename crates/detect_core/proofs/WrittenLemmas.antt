@@ -36,7 +36,7 @@ use Rattle.detect_core.specs.declared.chosen.Verdict.TheVariants.{Pass, Fail, Er
 use Rattle.detect_core.specs.Answer.{build_plan, pass_or_error, answer_by, recorded, answer_or_error, says, is_pass, alive_row}
 use Rattle.detect_core.specs.Detection.{Ending, TooManyTrials, FirstTrial, ending_by, ending_of_rows, ending_at, first_ending, first_trial, asked_keys, has_erred}
 use Rattle.detect_core.specs.Search.{group_rows, DetectsAs}
-use Rattle.detect_core.proofs.DeskLemmas.{IsDetection}
+use Rattle.detect_core.proofs.SpawnerLemmas.{IsDetection}
 use Rattle.detect_core.proofs.ListLemmas.{all_each, all_weaker, all_flat}
 use Rattle.detect_core.proofs.OwnIdLemmas.{own_ids, member_id, alive_id, own-distinct, own-alive, own-places, group_of_own}
 use Rattle.detect_core.proofs.PlanDocLemmas.{need_is_kept, row_is_kept, trial_of, plan_written}

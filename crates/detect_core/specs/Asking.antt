@@ -6,9 +6,8 @@ use Rattle.cnb_toml.specs.declared.names.Key.{Key}
 use Rattle.cnb_toml.specs.Keys.{same_key}
 use Rattle.order_expand.specs.declared.member.Member.{Member}
 use Rattle.detect_core.specs.declared.chosen.DetectFrame.{DetectFrame}
-use Rattle.detect_core.specs.declared.kept.AnswerRow.{AnswerRow}
 use Rattle.detect_core.specs.Job.{detect_job}
-use Rattle.detect_core.specs.Kept.{row_of}
+use Rattle.detect_core.specs.Kept.{AnswerRow, row_of}
 
 -- the members whose buildpacks are not among these, each buildpack once, in order of first meeting
 abbrev pub unmet : List Key → List Member → List Member
@@ -16,18 +15,18 @@ unmet keys [] = []
 unmet keys (member ∷ members) =
     if list_any (same_key member.key) keys then unmet keys members else member ∷ unmet (keys ++ member.key ∷ []) members
 
--- a desk ran the children of these members, in order
+-- a spawner ran the children of these members, in order
 pub record Runs (frame : DetectFrame) (members : List Member) (runs_old runs_new : List Ran) : Type 0 where
   pub ran : List Ran
   pub runs : runs_new ≡ runs_old ++ ran
   pub jobs : map (λ r. r.job) ran ≡ map (detect_job frame) members
 
--- a desk ran the children of these members, in order, and their answers were kept
+-- a spawner ran the children of these members, in order, and their answers were kept
 pub record RunsAll (frame : DetectFrame) (members : List Member) (runs_old runs_new : List Ran) (kept_old kept_new : List AnswerRow) : Type 0 where
   pub run : Runs frame members runs_old runs_new
   pub kept : kept_new ≡ kept_old ++ map row_of run.ran
 
--- a desk ran the children of the first of these members, in order
+-- a spawner ran the children of the first of these members, in order
 pub record RunsFirst (frame : DetectFrame) (members : List Member) (runs_old runs_new : List Ran) : Type 0 where
   pub first : List Member
   pub later : List Member

@@ -1,4 +1,4 @@
--- What a call that detects says of its answer, of the children that it ran and of the desks' faults.
+-- What a call that detects says of its answer, of the children that it ran and of the spawners' faults.
 use Rattle.std.specs.Prelude.{ℕ, ◌≡◌, ◌≤◌, ◌&&◌, Bool, List, [], ◌∷◌, ◌++◌, codes, drop, length, map, nat_le, take, Option, Some, None, Result, Ok, Err}
 use Rattle.cnb_world.specs.Calls.{Rose}
 use Rattle.cnb_world.specs.Runs.{Ran}
@@ -13,18 +13,18 @@ use Rattle.detect_core.specs.declared.chosen.DetectFrame.{DetectFrame}
 use Rattle.detect_core.specs.Detection.{Ending, TooManyTrials, FirstTrial, members_of}
 use Rattle.detect_core.specs.Job.{detect_job}
 
--- the children that a desk ran in the call
+-- the children that a spawner ran in the call
 abbrev pub since : List Ran → List Ran → List Ran
 since old new = drop (length old) new
 
--- what the first of some desks has run, and its faults
+-- what the first of some spawners has run, and its faults
 abbrev pub first_runs : {S : Type 0} → (S → List Ran) → List S → List Ran
 first_runs runs [] = []
-first_runs runs (desk ∷ desks) = runs desk
+first_runs runs (spawner ∷ spawners) = runs spawner
 
 abbrev pub first_faults : {S : Type 0} → (S → ℕ) → List S → ℕ
 first_faults faults [] = 0
-first_faults faults (desk ∷ desks) = faults desk
+first_faults faults (spawner ∷ spawners) = faults spawner
 
 -- the chosen group, each buildpack with the API that it is written for
 abbrev pub group_rows : List Key → List GroupRow
@@ -39,7 +39,7 @@ pub record IsChoice (chosen : Chosen) (at : ℕ) (resolved : Resolved) (kept key
   pub trials : chosen.trials ≡ resolved.trials
   pub asked : chosen.asked ≡ keys
 
--- the answer of a detection that ended so, where an asked child erred or not; a failed desk and want of memory say nothing
+-- the answer of a detection that ended so, where an asked child erred or not; a failed spawner and want of memory say nothing
 abbrev pub DetectsAs : Result Chosen DetectEnd → Option Ending → List Key → Bool → Type 0
 DetectsAs (Ok chosen) (Some (FirstTrial place resolved group)) asked erred = IsChoice chosen place resolved group asked
 DetectsAs (Ok chosen) (Some (TooManyTrials place)) asked erred = ⊥
@@ -52,7 +52,7 @@ DetectsAs (Err (NoGroup told)) (Some ending) asked erred = ⊥
 DetectsAs (Err Child) ending asked erred = Unit {0}
 DetectsAs (Err Memory) ending asked erred = Unit {0}
 
--- the fact, unless a desk failed or memory ran out
+-- the fact, unless a spawner failed or memory ran out
 abbrev pub OnDetected : Result Chosen DetectEnd → Type 0 → Type 0
 OnDetected (Ok chosen) P = P
 OnDetected (Err (NoGroup erred)) P = P
@@ -60,7 +60,7 @@ OnDetected (Err ManyTrials) P = P
 OnDetected (Err Child) P = Unit {0}
 OnDetected (Err Memory) P = Unit {0}
 
--- a desk's faults: `Child` comes where the count rose
+-- a spawner's faults: `Child` comes where the count rose
 abbrev pub CountsDetection : {T : Type 0} → Result T DetectEnd → ℕ → ℕ → Type 0
 CountsDetection (Err Child) before now = Rose before now
 CountsDetection (Err Memory) before now = before ≤ now

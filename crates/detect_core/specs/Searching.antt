@@ -14,12 +14,12 @@ use Rattle.detect_core.specs.Detection.{first_ending, reached, members_of}
 use Rattle.detect_core.specs.Job.{detect_job}
 use Rattle.detect_core.specs.Search.{DetectsAs, OnDetected, AsksSome}
 
--- a desk that failed gives `Child`
+-- a spawner that failed gives `Child`
 abbrev pub end_of_fault : DetectFault → DetectEnd
 end_of_fault fault.Failed = Child
 end_of_fault fault.Memory = Memory
 
--- A search over these groups: the children that a desk ran, and the answer by what they said.
+-- A search over these groups: the children that a spawner ran, and the answer by what they said.
 pub record IsSearch (frame : DetectFrame) (groups : List (List Member)) (runs_old runs_new : List Ran) (result : Result Chosen DetectEnd) : Type 0 where
   pub ran : List Ran
   pub runs : runs_new ≡ runs_old ++ ran

@@ -15,18 +15,18 @@ use std::alloc::Global;
 /// Runs the children of those members that were not asked before in this call, each once and in order.
 pub fn ask_group<S: Spawner>(
     alloc: Global,
-    desk: &mut S,
+    spawner: &mut S,
     frame: &DetectFrame,
     group: &[Member],
     kept: &mut Kept,
 ) -> Result<(), DetectFault>
     requires { IsTrue (is_short frame.now) }
-    ensures all { OnOk result (RunsAll frame.now (unmet (keys_of kept.old) group.now) (S.runs desk.old) (S.runs desk.new) kept.old kept.new) }
-    ensures first { OnErr result (RunsFirst frame.now (unmet (keys_of kept.old) group.now) (S.runs desk.old) (S.runs desk.new)) }
-    ensures faults { CountsDetect result (S.faults desk.old) (S.faults desk.new) }
+    ensures all { OnOk result (RunsAll frame.now (unmet (keys_of kept.old) group.now) (S.runs spawner.old) (S.runs spawner.new) kept.old kept.new) }
+    ensures first { OnErr result (RunsFirst frame.now (unmet (keys_of kept.old) group.now) (S.runs spawner.old) (S.runs spawner.new)) }
+    ensures faults { CountsDetect result (S.faults spawner.old) (S.faults spawner.new) }
 {
     for member in group {
-        ask(alloc, desk, frame, member, kept)?;
+        ask(alloc, spawner, frame, member, kept)?;
     }
     Ok(())
 }
@@ -34,15 +34,15 @@ pub fn ask_group<S: Spawner>(
 // Runs the child of a member, unless it was asked before.
 fn ask<S: Spawner>(
     alloc: Global,
-    desk: &mut S,
+    spawner: &mut S,
     frame: &DetectFrame,
     member: &Member,
     kept: &mut Kept,
 ) -> Result<(), DetectFault>
     requires { IsTrue (is_short frame.now) }
-    ensures all { OnOk result (RunsAll frame.now (unmet (keys_of kept.old) (member.now ∷ [])) (S.runs desk.old) (S.runs desk.new) kept.old kept.new) }
-    ensures first { OnErr result (RunsFirst frame.now (unmet (keys_of kept.old) (member.now ∷ [])) (S.runs desk.old) (S.runs desk.new)) }
-    ensures faults { CountsDetect result (S.faults desk.old) (S.faults desk.new) }
+    ensures all { OnOk result (RunsAll frame.now (unmet (keys_of kept.old) (member.now ∷ [])) (S.runs spawner.old) (S.runs spawner.new) kept.old kept.new) }
+    ensures first { OnErr result (RunsFirst frame.now (unmet (keys_of kept.old) (member.now ∷ [])) (S.runs spawner.old) (S.runs spawner.new)) }
+    ensures faults { CountsDetect result (S.faults spawner.old) (S.faults spawner.new) }
 {
     if kept.has(&member.key) {
         return Ok(());
@@ -53,7 +53,7 @@ fn ask<S: Spawner>(
     let Ok(key) = member.key.copy(alloc) else {
         return Err(DetectFault::Memory);
     };
-    let probed = desk.detect(&job)?;
+    let probed = spawner.detect(&job)?;
     let Ok(_) = kept.add(key, probed) else {
         return Err(DetectFault::Memory);
     };

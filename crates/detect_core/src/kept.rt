@@ -1,32 +1,27 @@
 // The answers of a call so far.
-ghost use Rattle.std.specs.Prelude.{◌≡◌, ◌++◌, ◌∷◌, [], IfOk, OnOk, OnErr};
+ghost use Rattle.std.specs.Prelude.{◌≡◌, ◌++◌, ◌∷◌, [], false, IfOk, OnOk, OnErr};
 ghost use Rattle.std.specs.Option.{option_copied};
 
 use cnb_toml::Key;
 use cnb_world::{List, Memory, Probed};
+use indexmap::IndexMap;
 use std::alloc::Global;
 use std::marker::Model;
 
-/// What the child of a buildpack left.
-#[derive(Drop)]
-pub struct AnswerRow {
-    pub key: Key,
-    pub probed: Probed,
-}
-
-/// The answers of a call so far, in the order in which the buildpacks were asked.
+/// What the children of buildpacks left, in the order in which the buildpacks were asked.
 #[derive(Drop)]
 pub struct Kept {
-    rows: Vec<AnswerRow>,
+    answers: IndexMap<Key, Probed>,
 }
 
 impl Model for Kept {
     ghost use Rattle.std.specs.Prelude.{List};
-    ghost use Rattle.detect_core.specs.declared.kept.AnswerRow.{AnswerRow};
+    ghost use Rattle.cnb_toml.specs.declared.names.Key.{Key};
+    ghost use Rattle.cnb_world.specs.declared.child.Probed.{Probed};
 
-    ghost Value = { List AnswerRow };
+    ghost Value = { List (Key × Probed) };
 
-    ghost view = { λ kept. kept.rows.items };
+    ghost view = { λ kept. kept.answers.entries };
 }
 
 impl Kept {
@@ -36,7 +31,7 @@ impl Kept {
         ensures { result ≡ [] }
     {
         Kept {
-            rows: Vec::new(alloc),
+            answers: IndexMap::new(alloc),
         }
     }
 
@@ -44,27 +39,24 @@ impl Kept {
     pub fn probed(&self, key: &Key) -> Option<&Probed>
         ensures { option_copied result ≡ kept_for self.now key.now }
     {
-        for row in &self.rows {
-            if key.same(&row.key) {
-                return Some(&row.probed);
-            }
-        }
-        None
+        self.answers.get(key)
     }
 
     /// Whether a buildpack was asked.
     pub fn has(&self, key: &Key) -> bool
         ensures { result ≡ has_key self.now key.now }
     {
-        self.rows.iter().any(|row| key.same(&row.key))
+        self.answers.contains_key(key)
     }
 
-    /// Adds the answer of a buildpack at the end.
+    /// Adds the answer of a buildpack that was not asked before at the end.
     pub fn add(&mut self, key: Key, probed: Probed) -> Result<(), Memory>
-        ensures ok { OnOk result (self.new ≡ self.old ++ record { key = key; probed = probed } ∷ []) }
+        requires { has_key self.old key ≡ false }
+        ensures ok { OnOk result (self.new ≡ self.old ++ (key, probed) ∷ []) }
         ensures err { OnErr result (self.new ≡ self.old) }
     {
-        Ok(self.rows.push(AnswerRow { key, probed })?)
+        self.answers.insert(key, probed)?;
+        Ok(())
     }
 
     /// The buildpacks that were asked, in order.
@@ -72,8 +64,8 @@ impl Kept {
         ensures { IfOk result (λ keys. keys ≡ keys_of self.now) }
     {
         let mut keys = List::new(alloc);
-        for row in &self.rows {
-            keys.push(row.key.copy(alloc)?)?;
+        for key in self.answers.keys() {
+            keys.push(key.copy(alloc)?)?;
         }
         Ok(keys)
     }

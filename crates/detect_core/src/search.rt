@@ -1,4 +1,4 @@
-// The detection over a desk.
+// The detection over a spawner.
 ghost use Rattle.std.specs.Prelude.{◌≡◌, ◌≤◌, ◌<◌, IfOk, IsOk, IsTrue, OnErr, drop, length, map};
 ghost use Rattle.order_expand.specs.Check.{checked};
 ghost use Rattle.order_expand.specs.Groups.{listed_groups};
@@ -21,37 +21,37 @@ use order_expand::{Catalog, Walk};
 use std::alloc::Global;
 use std::thread::Threads;
 
-/// Chooses the first group and plan that pass (buildpack.md, "Phase #1: Detection"). The first desk runs all children.
+/// Chooses the first group and plan that pass (buildpack.md, "Phase #1: Detection"). The first spawner runs all children.
 pub fn detect<S: Spawner + Send, R: Threads + Sync>(
     rt: &R,
     alloc: Global,
     order: &Order,
     catalog: &Catalog,
-    desks: &mut Vec<S>,
+    spawners: &mut Vec<S>,
     workers: usize,
     frame: &DetectFrame,
 ) -> Result<Chosen, DetectEnd>
     requires order { IsOk (checked catalog.now order.now) }
-    requires desks { 0 < length desks.old.items }
+    requires spawners { 0 < length spawners.old.items }
     requires workers { 0 < workers }
     requires short { IsTrue (is_short frame.now) }
 
     // The answer is that of the first trial that passes, by what the children of this call answered.
-    ensures detects { let answers = since (first_runs S.runs desks.old.items) (first_runs S.runs desks.new.items) in
+    ensures detects { let answers = since (first_runs S.runs spawners.old.items) (first_runs S.runs spawners.new.items) in
         DetectsAs result (first_trial (says build_plan answers) catalog.now order.now) (asked_keys (says build_plan answers) catalog.now order.now) (has_erred (says build_plan answers) catalog.now order.now) }
     // What was chosen can be written and read back.
     ensures written { IfOk result (λ chosen. IsTrue (is_group_doc chosen.group) × IsTrue (is_plan_doc chosen.plan)) }
 
     // Exactly the children were run that had to be asked, each once and in order.
-    ensures asked { let answers = since (first_runs S.runs desks.old.items) (first_runs S.runs desks.new.items) in
+    ensures asked { let answers = since (first_runs S.runs spawners.old.items) (first_runs S.runs spawners.new.items) in
         OnDetected result (map (λ ran. ran.job) answers ≡ map (detect_job frame.now) (asked_members (says build_plan answers) catalog.now order.now)) }
     // After a failure some of the listed groups' members were asked, each at most once.
-    ensures some { OnErr result (AsksSome frame.now (listed_groups catalog.now order.now) (since (first_runs S.runs desks.old.items) (first_runs S.runs desks.new.items))) }
-    ensures grows { IsExtended (first_runs S.runs desks.old.items) (first_runs S.runs desks.new.items) }
-    ensures others { drop 1 desks.new.items ≡ drop 1 desks.old.items }
-    ensures faults { CountsDetection result (first_faults S.faults desks.old.items) (first_faults S.faults desks.new.items) }
+    ensures some { OnErr result (AsksSome frame.now (listed_groups catalog.now order.now) (since (first_runs S.runs spawners.old.items) (first_runs S.runs spawners.new.items))) }
+    ensures grows { IsExtended (first_runs S.runs spawners.old.items) (first_runs S.runs spawners.new.items) }
+    ensures others { drop 1 spawners.new.items ≡ drop 1 spawners.old.items }
+    ensures faults { CountsDetection result (first_faults S.faults spawners.old.items) (first_faults S.faults spawners.new.items) }
 {
-    search(alloc, order, catalog, &mut desks[0], frame)
+    search(alloc, order, catalog, &mut spawners[0], frame)
 }
 
 /// Goes through the listed groups until one ends the search.
@@ -59,20 +59,20 @@ fn search<S: Spawner>(
     alloc: Global,
     order: &Order,
     catalog: &Catalog,
-    desk: &mut S,
+    spawner: &mut S,
     frame: &DetectFrame,
 ) -> Result<Chosen, DetectEnd>
     requires order { IsOk (checked catalog.now order.now) }
     requires short { IsTrue (is_short frame.now) }
-    ensures search { IsSearch frame.now (listed_groups catalog.now order.now) (S.runs desk.old) (S.runs desk.new) result }
-    ensures faults { CountsDetection result (S.faults desk.old) (S.faults desk.new) }
+    ensures search { IsSearch frame.now (listed_groups catalog.now order.now) (S.runs spawner.old) (S.runs spawner.new) result }
+    ensures faults { CountsDetection result (S.faults spawner.old) (S.faults spawner.new) }
 {
     let mut walk = Walk::new(alloc, order, catalog)?;
     let mut kept = Kept::new(alloc);
     let mut erred = false;
     let mut place = 0u32;
     while let Some(group) = walk.next()? {
-        ask_group(alloc, desk, frame, group.as_slice(), &mut kept)?;
+        ask_group(alloc, spawner, frame, group.as_slice(), &mut kept)?;
         let judged = judge(alloc, group.as_slice(), &kept)?;
         erred |= judged.erred;
         if let Some(chosen) = end_of(alloc, &judged, place, &kept)? {

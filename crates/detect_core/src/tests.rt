@@ -175,16 +175,16 @@ fn told<R: Threads + Sync>(
 ) -> Result<String, Fail>
     requires { IsOk (checked catalog.now order.now) }
 {
-    let mut desks = Vec::new(alloc);
-    desks.push(MemSpawner::new(alloc, table, List::new(alloc))?)?;
+    let mut spawners = Vec::new(alloc);
+    spawners.push(MemSpawner::new(alloc, table, List::new(alloc))?)?;
     let frame = frame(alloc)?;
-    let mut told = match detect(rt, alloc, order, catalog, &mut desks, 1, &frame) {
+    let mut told = match detect(rt, alloc, order, catalog, &mut spawners, 1, &frame) {
         Ok(chosen) => told_choice(alloc, &chosen)?,
         Err(end) => told_end(alloc, &end)?,
     };
     told.push_str("; asked")?;
-    for desk in &desks {
-        for run in desk.runs() {
+    for spawner in &spawners {
+        for run in spawner.runs() {
             add_words(&mut told, " ", name(run.job.id.as_str()))?;
         }
     }

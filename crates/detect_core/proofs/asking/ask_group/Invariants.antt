@@ -5,5 +5,5 @@ use Rattle.detect_core.proofs.asking.ask_group.Given as goal
 
 abbrev pub invariant-loop-member : goal.invariant-loop-member
 invariant-loop-member g l =
-    RunsAll l.frame (unmet (keys_of l.initial.kept) (take l.member-index l.group)) (g.S.Spawner.runs l.initial.desk) (g.S.Spawner.runs l.desk) l.initial.kept l.kept
-    × (g.S.Spawner.faults l.desk ≡ g.S.Spawner.faults l.initial.desk)
+    RunsAll l.frame (unmet (keys_of l.initial.kept) (take l.member-index l.group)) (g.S.Spawner.runs l.initial.spawner) (g.S.Spawner.runs l.spawner) l.initial.kept l.kept
+    × (g.S.Spawner.faults l.spawner ≡ g.S.Spawner.faults l.initial.spawner)

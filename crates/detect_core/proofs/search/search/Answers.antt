@@ -10,7 +10,7 @@ use Rattle.detect_core.proofs.search.search.Goals as goal
 
 pub loop-kept-init : goal.loop-kept-init
 loop-kept-init g c = (
-  search_starts c.args.frame.now (listed_groups c.args.catalog.now c.args.order.now) c.in_ok-walk.walk (g.S.Spawner.runs c.args.desk.now) c.new-kept.result
+  search_starts c.args.frame.now (listed_groups c.args.catalog.now c.args.order.now) c.in_ok-walk.walk (g.S.Spawner.runs c.args.spawner.now) c.new-kept.result
       c.in_ok-walk.ensures c.new-kept.ensures,
   refl,
 )
@@ -18,15 +18,15 @@ loop-kept-init g c = (
 pub returns-in_err-walk-clause-search : goal.returns-in_err-walk-clause-search
 returns-in_err-walk-clause-search g c =
     let listed = listed_groups c.args.catalog.now c.args.order.now in
-    let r0 = g.S.Spawner.runs c.args.desk.now in
+    let r0 = g.S.Spawner.runs c.args.spawner.now in
     err_result (IsSearch c.args.frame.now listed r0 r0) c.from_residual.result Memory c.from_residual.ensures.1
     (stopped_by c.args.frame.now listed r0 r0 fault.Memory (stopped_next c.args.frame.now listed listed 0 r0 r0 [] false (search_start c.args.frame.now listed r0)))
 
 pub returns-in_err-group-clause-search : goal.returns-in_err-group-clause-search
 returns-in_err-group-clause-search g c =
     let listed = listed_groups c.args.catalog.now c.args.order.now in
-    let r0 = g.S.Spawner.runs c.args.desk.now in
-    let r1 = g.S.Spawner.runs c.loop-kept.desk in
+    let r0 = g.S.Spawner.runs c.args.spawner.now in
+    let r1 = g.S.Spawner.runs c.loop-kept.spawner in
     err_result (IsSearch c.args.frame.now listed r0 r1) c.from_residual-in_err-group.result Memory c.from_residual-in_err-group.ensures.1
     (stopped_by c.args.frame.now listed r0 r1 fault.Memory
     (stopped_next c.args.frame.now listed c.loop-kept.walk c.loop-kept.place r0 r1 c.loop-kept.kept c.loop-kept.erred c.loop-kept.invariant.0))
@@ -34,9 +34,9 @@ returns-in_err-group-clause-search g c =
 pub returns-in_err-ask_group-clause-search : goal.returns-in_err-ask_group-clause-search
 returns-in_err-ask_group-clause-search g c =
     let listed = listed_groups c.args.catalog.now c.args.order.now in
-    let r0 = g.S.Spawner.runs c.args.desk.now in
-    let r1 = g.S.Spawner.runs c.loop-kept.desk in
-    let r2 = g.S.Spawner.runs c.ask_group.new.desk in
+    let r0 = g.S.Spawner.runs c.args.spawner.now in
+    let r1 = g.S.Spawner.runs c.loop-kept.spawner in
+    let r2 = g.S.Spawner.runs c.ask_group.new.spawner in
     let next : c.loop-kept.walk ≡ c.in-Some.group ∷ c.next.new.self = rw c.in-Some.is at c.in_ok-group.ensures.ok in
     err_result (IsSearch c.args.frame.now listed r0 r2) c.from_residual-in_err-ask_group.result (end_of_fault c.in_err-ask_group.field-0.0) c.from_residual-in_err-ask_group.ensures.1
     (stopped_by c.args.frame.now listed r0 r2 c.in_err-ask_group.field-0.0
@@ -46,9 +46,9 @@ returns-in_err-ask_group-clause-search g c =
 pub returns-in_err-judged-clause-search : goal.returns-in_err-judged-clause-search
 returns-in_err-judged-clause-search g c =
     let listed = listed_groups c.args.catalog.now c.args.order.now in
-    let r0 = g.S.Spawner.runs c.args.desk.now in
-    let r1 = g.S.Spawner.runs c.loop-kept.desk in
-    let r2 = g.S.Spawner.runs c.ask_group.new.desk in
+    let r0 = g.S.Spawner.runs c.args.spawner.now in
+    let r1 = g.S.Spawner.runs c.loop-kept.spawner in
+    let r2 = g.S.Spawner.runs c.ask_group.new.spawner in
     let next : c.loop-kept.walk ≡ c.in-Some.group ∷ c.next.new.self = rw c.in-Some.is at c.in_ok-group.ensures.ok in
     err_result (IsSearch c.args.frame.now listed r0 r2) c.from_residual-in_err-judged.result Memory c.from_residual-in_err-judged.ensures.1
     (stopped_by c.args.frame.now listed r0 r2 fault.Memory
@@ -58,8 +58,8 @@ returns-in_err-judged-clause-search g c =
 pub end_of-requires : goal.end_of-requires
 end_of-requires g c =
     let listed = listed_groups c.args.catalog.now c.args.order.now in
-    let r0 = g.S.Spawner.runs c.args.desk.now in
-    let r1 = g.S.Spawner.runs c.loop-kept.desk in
+    let r0 = g.S.Spawner.runs c.args.spawner.now in
+    let r1 = g.S.Spawner.runs c.loop-kept.spawner in
     let next : c.loop-kept.walk ≡ c.in-Some.group ∷ c.next.new.self = rw c.in-Some.is at c.in_ok-group.ensures.ok in
     short_rows c.args.frame.now listed c.loop-kept.walk c.loop-kept.place r0 r1 c.loop-kept.kept c.loop-kept.erred c.loop-kept.invariant.0
     c.in-Some.group c.next.new.self next c.as_slice-in-Some.result.now c.ask_group.new.kept c.in_ok-judged.judged
@@ -68,8 +68,8 @@ end_of-requires g c =
 pub overflow_add-place : goal.overflow_add-place
 overflow_add-place g c =
     let listed = listed_groups c.args.catalog.now c.args.order.now in
-    let r0 = g.S.Spawner.runs c.args.desk.now in
-    let r1 = g.S.Spawner.runs c.loop-kept.desk in
+    let r0 = g.S.Spawner.runs c.args.spawner.now in
+    let r1 = g.S.Spawner.runs c.loop-kept.spawner in
     let next : c.loop-kept.walk ≡ c.in-Some.group ∷ c.next.new.self = rw c.in-Some.is at c.in_ok-group.ensures.ok in
     let few : c.loop-kept.place + 1 ≤ 4096 =
     few_places c.args.frame.now listed c.loop-kept.walk c.loop-kept.place r0 r1 c.loop-kept.kept c.loop-kept.erred c.loop-kept.invariant.0
@@ -79,9 +79,9 @@ overflow_add-place g c =
 pub returns-in_err-chosen-clause-search : goal.returns-in_err-chosen-clause-search
 returns-in_err-chosen-clause-search g c =
     let listed = listed_groups c.args.catalog.now c.args.order.now in
-    let r0 = g.S.Spawner.runs c.args.desk.now in
-    let r1 = g.S.Spawner.runs c.loop-kept.desk in
-    let r2 = g.S.Spawner.runs c.ask_group.new.desk in
+    let r0 = g.S.Spawner.runs c.args.spawner.now in
+    let r1 = g.S.Spawner.runs c.loop-kept.spawner in
+    let r2 = g.S.Spawner.runs c.ask_group.new.spawner in
     let next : c.loop-kept.walk ≡ c.in-Some.group ∷ c.next.new.self = rw c.in-Some.is at c.in_ok-group.ensures.ok in
     err_result (IsSearch c.args.frame.now listed r0 r2) c.from_residual-in_err-chosen.result c.in_err-chosen.field-0.0 c.from_residual-in_err-chosen.ensures.1
     (turn c.args.frame.now listed c.loop-kept.walk c.loop-kept.place r0 r1 c.loop-kept.kept c.loop-kept.erred c.loop-kept.invariant.0
@@ -91,9 +91,9 @@ returns-in_err-chosen-clause-search g c =
 pub returns-in-Some-2-clause-search : goal.returns-in-Some-2-clause-search
 returns-in-Some-2-clause-search g c =
     let listed = listed_groups c.args.catalog.now c.args.order.now in
-    let r0 = g.S.Spawner.runs c.args.desk.now in
-    let r1 = g.S.Spawner.runs c.loop-kept.desk in
-    let r2 = g.S.Spawner.runs c.ask_group.new.desk in
+    let r0 = g.S.Spawner.runs c.args.spawner.now in
+    let r1 = g.S.Spawner.runs c.loop-kept.spawner in
+    let r2 = g.S.Spawner.runs c.ask_group.new.spawner in
     let next : c.loop-kept.walk ≡ c.in-Some.group ∷ c.next.new.self = rw c.in-Some.is at c.in_ok-group.ensures.ok in
     turn c.args.frame.now listed c.loop-kept.walk c.loop-kept.place r0 r1 c.loop-kept.kept c.loop-kept.erred c.loop-kept.invariant.0
     c.in-Some.group c.next.new.self next c.as_slice.result.now c.as_slice-in-Some.result.now r2 c.ask_group.new.kept c.in_ok-judged.judged (c.loop-kept.erred || c.in_ok-judged.judged.erred)
@@ -102,9 +102,9 @@ returns-in-Some-2-clause-search g c =
 pub loop-kept-preserved : goal.loop-kept-preserved
 loop-kept-preserved g c =
     let listed = listed_groups c.args.catalog.now c.args.order.now in
-    let r0 = g.S.Spawner.runs c.args.desk.now in
-    let r1 = g.S.Spawner.runs c.loop-kept.desk in
-    let r2 = g.S.Spawner.runs c.ask_group.new.desk in
+    let r0 = g.S.Spawner.runs c.args.spawner.now in
+    let r1 = g.S.Spawner.runs c.loop-kept.spawner in
+    let r2 = g.S.Spawner.runs c.ask_group.new.spawner in
     let next : c.loop-kept.walk ≡ c.in-Some.group ∷ c.next.new.self = rw c.in-Some.is at c.in_ok-group.ensures.ok in (
       turn c.args.frame.now listed c.loop-kept.walk c.loop-kept.place r0 r1 c.loop-kept.kept c.loop-kept.erred c.loop-kept.invariant.0
           c.in-Some.group c.next.new.self next c.as_slice.result.now c.as_slice-in-Some.result.now r2 c.ask_group.new.kept c.in_ok-judged.judged (c.loop-kept.erred || c.in_ok-judged.judged.erred)
@@ -115,7 +115,7 @@ loop-kept-preserved g c =
 pub returns-clause-search : goal.returns-clause-search
 returns-clause-search g c =
     let listed = listed_groups c.args.catalog.now c.args.order.now in
-    let r0 = g.S.Spawner.runs c.args.desk.now in
-    let r1 = g.S.Spawner.runs c.loop-kept.desk in
+    let r0 = g.S.Spawner.runs c.args.spawner.now in
+    let r1 = g.S.Spawner.runs c.loop-kept.spawner in
     finished c.args.frame.now listed c.loop-kept.walk c.loop-kept.place r0 r1 c.loop-kept.kept c.loop-kept.erred c.loop-kept.invariant.0
     (rw c.in_default.is at c.in_ok-group.ensures.ok)

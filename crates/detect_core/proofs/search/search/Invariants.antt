@@ -5,8 +5,8 @@ use Rattle.detect_core.proofs.search.search.Given as goal
 
 abbrev pub invariant-loop-kept : goal.invariant-loop-kept
 invariant-loop-kept g l =
-    IsAt l.frame (listed_groups l.catalog l.order) l.walk l.place (g.S.Spawner.runs l.initial.desk) (g.S.Spawner.runs l.desk) l.kept l.erred
-    × (g.S.Spawner.faults l.desk ≡ g.S.Spawner.faults l.initial.desk)
+    IsAt l.frame (listed_groups l.catalog l.order) l.walk l.place (g.S.Spawner.runs l.initial.spawner) (g.S.Spawner.runs l.spawner) l.kept l.erred
+    × (g.S.Spawner.faults l.spawner ≡ g.S.Spawner.faults l.initial.spawner)
 
 abbrev pub decreases-loop-kept : goal.decreases-loop-kept
 decreases-loop-kept g l = length l.walk

@@ -1,4 +1,4 @@
--- A search over the first of some desks is a detection.
+-- A search over the first of some spawners is a detection.
 use Rattle.std.proofs.Common.{◌≡◌, ◌∙◌, refl, sym, ap, subst, ◌<◌, List, [], ◌∷◌, map, get_or, length, arith}
 use Rattle.std.specs.Prelude.{Result, slice_set}
 use Rattle.std.proofs.Math.Seq.{drop-append_seam}
@@ -31,19 +31,19 @@ searched frame catalog order r0 r1 result s =
     subst (λ (ran : List Ran). IsDetection frame catalog order ran result)
     (sym (ap (since r0) s.runs ∙ drop-append_seam r0 s.ran)) (detection_of frame catalog order r0 r1 result s)
 
--- the first of some desks, before and after it is set
-first_before : {S : Type 0} (runs : S → List Ran) (desks : List S) (desk : S) → 0 < length desks → desk ≡ get_or desks 0 desk → first_runs runs desks ≡ runs desk
-first_before runs [] desk some is = absurd (omega arith)
-first_before runs (first ∷ desks) desk some is = ap runs (sym is)
+-- the first of some spawners, before and after it is set
+first_before : {S : Type 0} (runs : S → List Ran) (spawners : List S) (spawner : S) → 0 < length spawners → spawner ≡ get_or spawners 0 spawner → first_runs runs spawners ≡ runs spawner
+first_before runs [] spawner some is = absurd (omega arith)
+first_before runs (first ∷ spawners) spawner some is = ap runs (sym is)
 
-first_after : {S : Type 0} (runs : S → List Ran) (desks : List S) (desk : S) → 0 < length desks → first_runs runs (slice_set desks 0 desk) ≡ runs desk
-first_after runs [] desk some = absurd (omega arith)
-first_after runs (first ∷ desks) desk some = refl
+first_after : {S : Type 0} (runs : S → List Ran) (spawners : List S) (spawner : S) → 0 < length spawners → first_runs runs (slice_set spawners 0 spawner) ≡ runs spawner
+first_after runs [] spawner some = absurd (omega arith)
+first_after runs (first ∷ spawners) spawner some = refl
 
-pub searched_first : {S : Type 0} (runs : S → List Ran) (desks : List S) (old new : S) (frame : DetectFrame) (catalog : List Descriptor) (order : List (List Entry)) (result : Result Chosen DetectEnd) →
-    0 < length desks → old ≡ get_or desks 0 old → IsSearch frame (listed_groups catalog order) (runs old) (runs new) result →
-    IsDetection frame catalog order (since (first_runs runs desks) (first_runs runs (slice_set desks 0 new))) result
-searched_first runs desks old new frame catalog order result some is s =
+pub searched_first : {S : Type 0} (runs : S → List Ran) (spawners : List S) (old new : S) (frame : DetectFrame) (catalog : List Descriptor) (order : List (List Entry)) (result : Result Chosen DetectEnd) →
+    0 < length spawners → old ≡ get_or spawners 0 old → IsSearch frame (listed_groups catalog order) (runs old) (runs new) result →
+    IsDetection frame catalog order (since (first_runs runs spawners) (first_runs runs (slice_set spawners 0 new))) result
+searched_first runs spawners old new frame catalog order result some is s =
     subst (λ (ran : List Ran). IsDetection frame catalog order ran result)
-    (λ i. since (sym (first_before runs desks old some is) i) (sym (first_after runs desks new some) i))
+    (λ i. since (sym (first_before runs spawners old some is) i) (sym (first_after runs spawners new some) i))
     (searched frame catalog order (runs old) (runs new) result s)
