@@ -21,6 +21,36 @@ pub struct PlanOption {
     pub needs: List<Need>,
 }
 
+impl PlanOption {
+    pub fn copy(&self, alloc: Global) -> Result<PlanOption, Memory>
+        ensures { IfOk result (λ copy. copy ≡ self.now) }
+    {
+        let provides = copy_names(alloc, self.provides.as_slice())?;
+        let needs = copy_needs(alloc, self.needs.as_slice())?;
+        Ok(PlanOption { provides, needs })
+    }
+}
+
+fn copy_names(alloc: Global, names: &[Text]) -> Result<List<Text>, Memory>
+    ensures { IfOk result (λ copies. copies ≡ names.now) }
+{
+    let mut copies = List::new(alloc);
+    for name in names {
+        copies.push(name.copy(alloc)?)?;
+    }
+    Ok(copies)
+}
+
+fn copy_needs(alloc: Global, needs: &[Need]) -> Result<List<Need>, Memory>
+    ensures { IfOk result (λ copies. copies ≡ needs.now) }
+{
+    let mut copies = List::new(alloc);
+    for need in needs {
+        copies.push(need.copy(alloc)?)?;
+    }
+    Ok(copies)
+}
+
 /// A name that is provided.
 struct Provided;
 

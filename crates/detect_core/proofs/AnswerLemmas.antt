@@ -1,5 +1,5 @@
 -- Answers that are kept from earlier groups are those that the definitions read.
-use Rattle.std.proofs.Common.{◌≡◌, ◌∙◌, refl, sym, ap, subst, inl, inr, ℕ, ◌+◌, Bool, true, cond, List, [], ◌∷◌, ◌++◌, map, length, arith}
+use Rattle.std.proofs.Common.{◌≡◌, ◌∙◌, refl, sym, ap, subst, inl, inr, ℕ, ◌+◌, Bool, true, false, cond, List, [], ◌∷◌, ◌++◌, map, length, arith}
 use Rattle.std.specs.Prelude.{◌&&◌, ◌||◌, if◌then◌else◌, Option, Some, None}
 use Rattle.std.specs.List.{list_any, list_all, filter_map, cons_option}
 use Rattle.std.proofs.lemmas.Bool.{false≢true, or_cases, or_left, or_right}
@@ -8,18 +8,23 @@ use Rattle.cnb_toml.specs.declared.names.Key.{Key}
 use Rattle.cnb_toml.specs.Keys.{same_key}
 use Rattle.order_expand.specs.declared.member.Member.{Member}
 use Rattle.detect_core.specs.declared.chosen.Verdict.{Verdict}
-use Rattle.detect_core.specs.Answer.{is_pass, alive_row, alive_of, key_of, recorded, answer_or_error, build_plan, says}
+use Rattle.detect_core.specs.Answer.{is_pass, alive_row, alive_of, key_of, recorded, answer_of, answer_or_error, build_plan, says}
 use Rattle.detect_core.specs.Detection.{Ending, ending_of_rows, ending_at, first_ending, reached, members_of}
-use Rattle.detect_core.specs.Kept.{row_of, kept_for, kept_says}
+use Rattle.detect_core.specs.Kept.{row_of, kept_for, verdict_or_error, verdict_for, kept_says}
 use Rattle.detect_core.proofs.MemberLemmas.{same_key-same, any-met, keys_of_members, flat}
 
 -- what is kept of some children is what they recorded
-kept-recorded : (ran : List Ran) (key : Key) → kept_for (map row_of ran) key ≡ recorded ran key
+kept-recorded : (ran : List Ran) (key : Key) → verdict_for (map row_of ran) key ≡ answer_or_error build_plan (recorded ran key)
 kept-recorded [] key = refl
-kept-recorded (r ∷ ran) key = ap (λ later. if same_key key (key_of r) then Some r.probed else later) (kept-recorded ran key)
+kept-recorded (r ∷ ran) key =
+    elim (same_key key (key_of r)) as (λ b. verdict_or_error (cond b (Some (answer_of build_plan r.probed)) (kept_for (map row_of ran) key))
+    ≡ answer_or_error build_plan (if b then Some r.probed else recorded ran key)) [
+      | true ↦ refl
+      | false ↦ kept-recorded ran key
+    ]
 
 pub kept_says-says : (ran : List Ran) → kept_says (map row_of ran) ≡ says build_plan ran
-kept_says-says ran = λ i member. answer_or_error build_plan (kept-recorded ran member.key i)
+kept_says-says ran = λ i member. kept-recorded ran member.key i
 
 -- two ways of answering that agree on some members
 abbrev pub AgreeOn : (Member → Verdict) → (Member → Verdict) → List Member → Type 0

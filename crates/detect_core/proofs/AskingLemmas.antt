@@ -11,7 +11,8 @@ use Rattle.cnb_toml.specs.declared.names.Key.{Key}
 use Rattle.cnb_toml.specs.Keys.{same_key}
 use Rattle.order_expand.specs.declared.member.Member.{Member}
 use Rattle.detect_core.specs.declared.chosen.DetectFrame.{DetectFrame}
-use Rattle.detect_core.specs.Answer.{key_of}
+use Rattle.detect_core.specs.declared.chosen.Verdict.{Verdict}
+use Rattle.detect_core.specs.Answer.{answer_of, build_plan, key_of}
 use Rattle.detect_core.specs.Job.{detect_job}
 use Rattle.detect_core.specs.Kept.{AnswerRow, row_of, keys_of, kept_for, has_key}
 use Rattle.detect_core.specs.Asking.{unmet, Runs, RunsAll, RunsFirst}
@@ -56,16 +57,16 @@ ran_one : (frame : DetectFrame) (member : Member) (runs runs' : List Ran) (ran :
     ran.job ≡ detect_job frame member → runs' ≡ runs ++ ran ∷ [] → Runs frame (member ∷ []) runs runs'
 ran_one frame member runs runs' ran job grown = record { ran = ran ∷ []; runs = grown; jobs = ap (λ (j : DetectJob). j ∷ []) job }
 
-pub asked_one : (frame : DetectFrame) (member : Member) (runs runs' : List Ran) (kept kept' : List AnswerRow) (ran : Ran) (key : Key) →
-    has_key kept member.key ≡ false → ran.job ≡ detect_job frame member → key ≡ member.key →
-    runs' ≡ runs ++ ran ∷ [] → kept' ≡ kept ++ (key, ran.probed) ∷ [] →
+pub asked_one : (frame : DetectFrame) (member : Member) (runs runs' : List Ran) (kept kept' : List AnswerRow) (ran : Ran) (key : Key) (verdict : Verdict) →
+    has_key kept member.key ≡ false → ran.job ≡ detect_job frame member → key ≡ member.key → verdict ≡ answer_of build_plan ran.probed →
+    runs' ≡ runs ++ ran ∷ [] → kept' ≡ kept ++ (key, verdict) ∷ [] →
     RunsAll frame (if list_any (same_key member.key) (keys_of kept) then [] else member ∷ []) runs runs' kept kept'
 unfolding ran_one
-asked_one frame member runs runs' kept kept' ran key new job is_key grown added =
+asked_one frame member runs runs' kept kept' ran key verdict new job is_key said grown added =
     let same : key ≡ key_of ran = is_key ∙ (λ i. let j = sym job i in record { id = j.id; version = j.version }) in
     subst (λ (b : Bool). RunsAll frame (if b then [] else member ∷ []) runs runs' kept kept') (sym (any-keys kept member.key ∙ new)) record {
       run = ran_one frame member runs runs' ran job grown;
-      kept = added ∙ ap (λ (k : Key). kept ++ (k, ran.probed) ∷ []) same;
+      kept = added ∙ (λ i. kept ++ (same i, said i) ∷ []);
     }
 
 pub asked_first : (frame : DetectFrame) (member : Member) (runs runs' : List Ran) (kept : List AnswerRow) (ran : Ran) →

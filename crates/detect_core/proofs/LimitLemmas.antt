@@ -1,7 +1,7 @@
 -- How many listed groups a checked order has, and how long they are.
-use Rattle.std.proofs.Common.{◌≡◌, ◌∙◌, refl, sym, ap, ℕ, suc, ◌+◌, ◌<◌, ◌≤◌, ◌^◌, Bool, true, false, not, List, [], ◌∷◌, ◌++◌, map, length, arith, length-append}
-use Rattle.std.specs.Prelude.{◌||◌, nat_lt, if◌then◌else◌, Option, Some, None, Ok, Err, IsOk}
-use Rattle.std.specs.List.{filter, filter_map, list_any, cons_option}
+use Rattle.std.proofs.Common.{◌≡◌, ◌∙◌, refl, sym, ap, subst, ℕ, suc, ◌+◌, ◌<◌, ◌≤◌, ◌^◌, Bool, true, false, not, List, [], ◌∷◌, ◌++◌, map, length, arith, length-append}
+use Rattle.std.specs.Prelude.{◌&&◌, ◌||◌, nat_lt, if◌then◌else◌, Option, Some, None, IfSome, Ok, Err, IsOk}
+use Rattle.std.specs.List.{filter, filter_map, list_all, list_any, cons_option}
 use Rattle.std.proofs.lemmas.Bool.{false≢true, le-ltb, ltb-false}
 use Rattle.std.proofs.lemmas.List.Folds.{list_any-append}
 use Rattle.bp_docs.specs.declared.descriptor.Entry.{Entry}
@@ -15,7 +15,7 @@ use Rattle.plan_resolve.specs.declared.rows.AliveRow.{AliveRow}
 use Rattle.detect_core.specs.declared.chosen.Verdict.{Verdict}
 use Rattle.detect_core.specs.declared.chosen.Verdict.TheVariants.{Pass, Fail, Error}
 use Rattle.detect_core.specs.declared.judging.Judged.{Judged}
-use Rattle.detect_core.specs.Answer.{alive_row}
+use Rattle.detect_core.specs.Answer.{is_pass, alive_row}
 use Rattle.detect_core.specs.Judging.{IsJudged}
 
 abbrev pub is_long : List Member → Bool
@@ -99,9 +99,14 @@ rows-le says (m ∷ ms) =
     let b : length (filter_map (λ n. alive_row n (says n)) ms) ≤ length ms = rows-le says ms in
     omega arith
 
+alive_short : (all : Bool) (rows : List AliveRow) → length rows ≤ 256 → IfSome (if all then Some rows else None) (λ alive. length alive < 2 ^ 32)
+alive_short true rows h = omega arith
+alive_short false rows h = tt
+
 -- a judged group has no more rows than members
-pub judged_rows : (says : Member → Verdict) (group : List Member) (judged : Judged) → IsJudged says group judged → length group ≤ 256 → length judged.rows < 2 ^ 32
+pub judged_rows : (says : Member → Verdict) (group : List Member) (judged : Judged) → IsJudged says group judged → length group ≤ 256 → IfSome judged.alive (λ rows. length rows < 2 ^ 32)
 judged_rows says group judged j short =
-    let rows : length judged.rows ≡ length (filter_map (λ m. alive_row m (says m)) group) = ap length j.rows in
-    let less : length (filter_map (λ m. alive_row m (says m)) group) ≤ length group = rows-le says group in
-    omega arith
+    let rows = filter_map (λ m. alive_row m (says m)) group in
+    let less : length rows ≤ length group = rows-le says group in
+    subst (λ (alive : Option (List AliveRow)). IfSome alive (λ rows. length rows < 2 ^ 32)) (sym j.alive)
+    (alive_short (list_all (λ m. m.optional || is_pass (says m)) group && list_any (λ m. is_pass (says m)) group) rows (omega arith))

@@ -20,13 +20,12 @@ use Rattle.detect_core.specs.Asking.{unmet, RunsAll, RunsFirst}
 use Rattle.detect_core.specs.Detection.{Ending, TooManyTrials, FirstTrial, ending_of_rows, ending_at, first_ending, reached, members_of}
 use Rattle.detect_core.specs.Ending.{EndsGroup}
 use Rattle.detect_core.specs.Job.{detect_job}
-use Rattle.detect_core.specs.Judging.{IsJudged, alive_rows}
+use Rattle.detect_core.specs.Judging.{IsJudged}
 use Rattle.detect_core.specs.Kept.{AnswerRow, row_of, keys_of, kept_says}
 use Rattle.detect_core.specs.Search.{DetectsAs, OnDetected, AsksSome}
 use Rattle.detect_core.specs.Searching.{IsSearch}
 use Rattle.detect_core.proofs.AskingLemmas.{map-map, ran_keys}
 use Rattle.detect_core.proofs.AnswerLemmas.{kept_says-says, agree_kept, any_same, first_ending_same, or_later, or_reached, first_ending-append, reached-append}
-use Rattle.detect_core.proofs.JudgingLemmas.{judged_alive}
 use Rattle.detect_core.proofs.MemberLemmas.{any-distinct, keys_of_members, flat, members-push, members-front}
 
 -- A search that has asked and judged some groups, the first of which do not end it.
@@ -195,12 +194,12 @@ module _ (frame : DetectFrame) (done : List (List Member)) (group : List Member)
   leads_by (Err Child) o e h = absurd h
 
   pub group_leads : (r : Result (Option Chosen) DetectEnd) (place : ℕ) (judged : Judged) → place ≡ length done → IsJudged (kept_says k2) group judged →
-      EndsGroup r (ending_of_rows place (alive_rows judged)) (keys_of k2) → GroupLeads frame done group left r0 r2 k2 erred r
+      EndsGroup r (ending_of_rows place judged.alive) (keys_of k2) → GroupLeads frame done group left r0 r2 k2 erred r
   group_leads r place judged at j h =
-      let is : ending_at say (length done) group ≡ ending_of_rows place (alive_rows judged) =
-      sym (ap (ending_of_rows place) (judged_alive (kept_says k2) group judged j)
+      let is : ending_at say (length done) group ≡ ending_of_rows place judged.alive =
+      sym (ap (ending_of_rows place) j.alive
       ∙ (λ i. ending_at ((ap kept_says u.rows ∙ kept_says-says u.ran) i) (at i) group)) in
-      leads_by r (ending_of_rows place (alive_rows judged)) is h
+      leads_by r (ending_of_rows place judged.alive) is h
 
 -- all groups were gone through, and none ends the search
 pub no_group : (frame : DetectFrame) (groups : List (List Member)) (r0 r1 : List Ran) (kept : List AnswerRow) (erred : Bool) →

@@ -1,6 +1,6 @@
 -- One turn of the search: the next group is asked, judged, and ends the search or not.
 use Rattle.std.proofs.Common.{◌≡◌, ◌∙◌, refl, sym, ap, subst, ℕ, ◌+◌, ◌<◌, ◌≤◌, ◌^◌, Bool, false, List, [], ◌∷◌, ◌++◌, length, arith, append_assoc, append-nil, length-append}
-use Rattle.std.specs.Prelude.{◌||◌, Option, Some, None, Result, Ok, Err, IsErrAnd}
+use Rattle.std.specs.Prelude.{◌||◌, Option, Some, None, IfSome, Result, Ok, Err, IsErrAnd}
 use Rattle.cnb_world.specs.declared.child.DetectFault.{DetectFault}
 use Rattle.cnb_world.specs.declared.child.DetectFault.TheVariants as fault
 use Rattle.cnb_world.specs.Runs.{Ran}
@@ -14,7 +14,7 @@ use Rattle.detect_core.specs.Kept.{AnswerRow}
 use Rattle.detect_core.specs.Asking.{unmet, RunsAll, RunsFirst}
 use Rattle.detect_core.specs.Detection.{ending_of_rows}
 use Rattle.detect_core.specs.Ending.{EndsGroup}
-use Rattle.detect_core.specs.Judging.{IsJudged, alive_rows}
+use Rattle.detect_core.specs.Judging.{IsJudged}
 use Rattle.detect_core.specs.Kept.{keys_of, kept_says}
 use Rattle.detect_core.specs.Searching.{IsSearch, end_of_fault}
 use Rattle.detect_core.proofs.LimitLemmas.{AreWithin, within_group, within_place, judged_rows}
@@ -63,7 +63,7 @@ module _ (frame : DetectFrame) (listed left : List (List Member)) (place : ℕ) 
         subst (λ (gs : List (List Member)). IsStopped frame gs r0 r2) whole
         (stopped_behind frame s.done group later r0 r1 k1 erred s.under_way r2 k2 (subst (λ (ms : List Member). RunsAll frame (unmet (keys_of k1) ms) r1 r2 k1 k2) is a))
 
-    pub short_rows : (judged_group : List Member) (k2 : List AnswerRow) (judged : Judged) → AreWithin listed → judged_group ≡ group → IsJudged (kept_says k2) judged_group judged → length judged.rows < 2 ^ 32
+    pub short_rows : (judged_group : List Member) (k2 : List AnswerRow) (judged : Judged) → AreWithin listed → judged_group ≡ group → IsJudged (kept_says k2) judged_group judged → IfSome judged.alive (λ rows. length rows < 2 ^ 32)
     short_rows judged_group k2 judged w is j =
         judged_rows (kept_says k2) judged_group judged j
         (subst (λ (ms : List Member). length ms ≤ 256) (sym is) (within_group s.done group later (subst AreWithin (sym whole) w)))
@@ -92,7 +92,7 @@ module _ (frame : DetectFrame) (listed left : List (List Member)) (place : ℕ) 
 
     pub turn : (asked judged_group : List Member) (r2 : List Ran) (k2 : List AnswerRow) (judged : Judged) (erred' : Bool) (r : Result (Option Chosen) DetectEnd) →
         asked ≡ group → judged_group ≡ group → RunsAll frame (unmet (keys_of k1) asked) r1 r2 k1 k2 → IsJudged (kept_says k2) judged_group judged →
-        erred' ≡ (erred || judged.erred) → EndsGroup r (ending_of_rows place (alive_rows judged)) (keys_of k2) → Leads r2 k2 erred' r
+        erred' ≡ (erred || judged.erred) → EndsGroup r (ending_of_rows place judged.alive) (keys_of k2) → Leads r2 k2 erred' r
     turn asked judged_group r2 k2 judged erred' r is_asked is_judged a j errs h =
         let a' = subst (λ (ms : List Member). RunsAll frame (unmet (keys_of k1) ms) r1 r2 k1 k2) is_asked a in
         let j' = subst (λ (ms : List Member). IsJudged (kept_says k2) ms judged) is_judged j in

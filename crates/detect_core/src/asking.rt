@@ -5,6 +5,7 @@ ghost use Rattle.detect_core.specs.Asking.{unmet, RunsAll, RunsFirst};
 ghost use Rattle.detect_core.specs.Kept.{keys_of};
 ghost use Rattle.detect_core.specs.Search.{is_short};
 
+use crate::answers::answer;
 use crate::chosen::DetectFrame;
 use crate::job::job_of;
 use crate::kept::Kept;
@@ -54,7 +55,10 @@ fn ask<S: Spawner>(
         return Err(DetectFault::Memory);
     };
     let probed = spawner.detect(&job)?;
-    let Ok(_) = kept.add(key, probed) else {
+    let Ok(verdict) = answer(alloc, &probed) else {
+        return Err(DetectFault::Memory);
+    };
+    let Ok(_) = kept.add(key, verdict) else {
         return Err(DetectFault::Memory);
     };
     Ok(())

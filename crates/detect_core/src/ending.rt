@@ -1,12 +1,11 @@
 // How a group ends the search.
-ghost use Rattle.std.specs.Prelude.{◌≡◌, ◌<◌, ◌^◌, ◌∷◌, [], IfOk, length, map, slice_get};
+ghost use Rattle.std.specs.Prelude.{◌≡◌, ◌<◌, ◌^◌, ◌∷◌, [], IfOk, IfSome, length, map, slice_get};
 ghost use Rattle.std.specs.List.{list_all};
 ghost use Rattle.std.specs.Option.{option_copied};
 ghost use Rattle.plan_resolve.specs.Plan.{at_places};
 ghost use Rattle.plan_resolve.specs.Resolution.{has_options};
 ghost use Rattle.detect_core.specs.Detection.{ending_of_rows};
 ghost use Rattle.detect_core.specs.Ending.{EndsGroup};
-ghost use Rattle.detect_core.specs.Judging.{alive_rows};
 ghost use Rattle.detect_core.specs.Kept.{keys_of};
 ghost use Rattle.detect_core.specs.Search.{IsChoice, group_rows};
 
@@ -29,10 +28,10 @@ pub fn end_of(
     place: u32,
     kept: &Kept,
 ) -> Result<Option<Chosen>, DetectEnd>
-    requires { length judged.now.rows < 2 ^ 32 }
-    ensures { EndsGroup result (ending_of_rows place (alive_rows judged.now)) (keys_of kept.now) }
+    requires { IfSome judged.now.alive (λ rows. length rows < 2 ^ 32) }
+    ensures { EndsGroup result (ending_of_rows place judged.now.alive) (keys_of kept.now) }
 {
-    let Some(alive) = judged.alive() else {
+    let Some(alive) = &judged.alive else {
         return Ok(None);
     };
     if !have_options(alive.as_slice()) {

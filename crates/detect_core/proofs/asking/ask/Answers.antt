@@ -6,6 +6,12 @@ pub returns-then-has-clause-all : goal.returns-then-has-clause-all
 returns-then-has-clause-all g c =
     met_before c.args.frame.now c.args.member.now (g.S.Spawner.runs c.args.spawner.now) c.args.kept.now (sym c.has.ensures ∙ c.if-has.true)
 
+pub returns-in_default-answer-clause-first : goal.returns-in_default-answer-clause-first
+returns-in_default-answer-clause-first g c =
+    asked_first c.args.frame.now c.args.member.now (g.S.Spawner.runs c.args.spawner.now) (g.S.Spawner.runs c.detect.new.self) c.args.kept.now
+    record { job = c.in-Ok.job; probed = c.in_ok-probed.probed }
+    (sym c.has.ensures ∙ c.if-has.false) c.in-Ok.ensures c.in_ok-probed.ensures.ok
+
 pub returns-in_default-add-clause-first : goal.returns-in_default-add-clause-first
 returns-in_default-add-clause-first g c =
     asked_first c.args.frame.now c.args.member.now (g.S.Spawner.runs c.args.spawner.now) (g.S.Spawner.runs c.detect.new.self) c.args.kept.now
@@ -15,5 +21,5 @@ returns-in_default-add-clause-first g c =
 pub returns-clause-all : goal.returns-clause-all
 returns-clause-all g c =
     asked_one c.args.frame.now c.args.member.now (g.S.Spawner.runs c.args.spawner.now) (g.S.Spawner.runs c.detect.new.self) c.args.kept.now c.add.new.self
-    record { job = c.in-Ok.job; probed = c.in_ok-probed.probed } c.in-Ok-copy.key
-    (sym c.has.ensures ∙ c.if-has.false) c.in-Ok.ensures c.in-Ok-copy.ensures c.in_ok-probed.ensures.ok c.in-Ok-add.ensures.ok
+    record { job = c.in-Ok.job; probed = c.in_ok-probed.probed } c.in-Ok-copy.key c.in-Ok-answer.verdict
+    (sym c.has.ensures ∙ c.if-has.false) c.in-Ok.ensures c.in-Ok-copy.ensures c.in-Ok-answer.ensures c.in_ok-probed.ensures.ok c.in-Ok-add.ensures.ok
