@@ -13,11 +13,11 @@ use Rattle.cnb_world.specs.declared.world.Item.{Item}
 use Rattle.cnb_world.specs.declared.world.Item.TheVariants as item
 use Rattle.cnb_world.specs.declared.world.Kind.{Kind}
 use Rattle.cnb_world.specs.declared.world.Kind.TheVariants as kind
-use Rattle.cnb_env.specs.Contents.{Reads, contents_of, file_of, file_at, has_equals}
-use Rattle.cnb_env.specs.Counts.{CountsFiles}
+use Rattle.doc_files.specs.Reading.{Reads}
+use Rattle.doc_files.specs.declared.fault.ReadFault.{ReadFault}
+use Rattle.doc_files.specs.declared.fault.ReadFault.TheVariants.{File, Document, Limit, Memory}
+use Rattle.cnb_env.specs.Contents.{contents_of, file_of, file_at, has_equals}
 use Rattle.cnb_env.specs.declared.files.EnvFile.{EnvFile}
-use Rattle.cnb_env.specs.declared.files.EnvFault.{EnvFault}
-use Rattle.cnb_env.specs.declared.files.EnvFault.TheVariants.{File, Document, Limit, Memory}
 
 not_more : (n m : ℕ) → n ≤ m → nat_lt m n ≡ false
 not_more n m h = grind (arith, nat_tests)
@@ -43,11 +43,7 @@ whole_read (Some files) o1 path k exec len bytes e is told le read =
     let P : Option Tree → Type 0 = λ x. IfSome x (λ t. bytes ≡ take 1048576 (drop 0 (bytes_of (item_at t path)))) in
     whole_item (item_at files path) exec len bytes (sym is ∙ told) le (subst P e read)
 
--- a count that stayed, and then counts as it is
-pub counts_after : (T : Type 0) (result : Result T EnvFault) (before now : ℕ) → now ≡ before → ((n : ℕ) → CountsFiles result n n) → CountsFiles result before now
-counts_after T result before now e h = subst (λ n. CountsFiles result n now) e (h now)
-
-of_refused : (name path : List ℕ) (want : Result (Option (List ℕ)) EnvFault) (fault : EnvFault) → Reads (Err fault) want → Reads (Err fault) (file_of name path want)
+of_refused : (name path : List ℕ) (want : Result (Option (List ℕ)) ReadFault) (fault : ReadFault) → Reads (Err fault) want → Reads (Err fault) (file_of name path want)
 of_refused name path want (File p) h = tt
 of_refused name path want Memory h = tt
 of_refused name path want (Document p f) h = ap (file_of name path) h
@@ -64,14 +60,14 @@ module _ (folder name path : List ℕ) (place : path ≡ joined folder name) whe
   unfolding file_at
   at_path files h = ap (λ b. cond b (Ok None) (file_of name (joined folder name) (contents_of (item_at files (joined folder name))))) h ∙ ap (λ p. file_of name p (contents_of (item_at files p))) (sym place)
 
-  pub refused_file : (o : Option Tree) (fault : EnvFault) → has_equals name ≡ false → IfSome o (λ files. Reads {T = Option (List ℕ)} (Err fault) (contents_of (item_at files path))) → IfSome o (λ files. Reads {T = Option EnvFile} (Err fault) (file_at files folder name))
+  pub refused_file : (o : Option Tree) (fault : ReadFault) → has_equals name ≡ false → IfSome o (λ files. Reads {T = Option (List ℕ)} (Err fault) (contents_of (item_at files path))) → IfSome o (λ files. Reads {T = Option EnvFile} (Err fault) (file_at files folder name))
   refused_file None fault h r = tt
-  refused_file (Some files) fault h r = let P : Result (Option EnvFile) EnvFault → Type 0 = λ x. Reads (Err fault) x in subst P (sym (at_path files h)) (of_refused name path (contents_of (item_at files path)) fault r)
+  refused_file (Some files) fault h r = let P : Result (Option EnvFile) ReadFault → Type 0 = λ x. Reads (Err fault) x in subst P (sym (at_path files h)) (of_refused name path (contents_of (item_at files path)) fault r)
 
-  found_at : (files : Tree) (found : Option (List ℕ)) (result : Result (Option EnvFile) EnvFault) → has_equals name ≡ false → contents_of (item_at files path) ≡ Ok found → Reads result (file_of name path (Ok found)) → Reads result (file_at files folder name)
-  found_at files found result h r of = let P : Result (Option EnvFile) EnvFault → Type 0 = λ x. Reads result x in subst P (sym (at_path files h ∙ ap (file_of name path) r)) of
+  found_at : (files : Tree) (found : Option (List ℕ)) (result : Result (Option EnvFile) ReadFault) → has_equals name ≡ false → contents_of (item_at files path) ≡ Ok found → Reads result (file_of name path (Ok found)) → Reads result (file_at files folder name)
+  found_at files found result h r of = let P : Result (Option EnvFile) ReadFault → Type 0 = λ x. Reads result x in subst P (sym (at_path files h ∙ ap (file_of name path) r)) of
 
-  pub found_refused : (o : Option Tree) (found : Option (List ℕ)) (fault : EnvFault) → has_equals name ≡ false → IfSome o (λ files. contents_of (item_at files path) ≡ Ok found) → Reads {T = Option EnvFile} (Err fault) (file_of name path (Ok found)) → IfSome o (λ files. Reads {T = Option EnvFile} (Err fault) (file_at files folder name))
+  pub found_refused : (o : Option Tree) (found : Option (List ℕ)) (fault : ReadFault) → has_equals name ≡ false → IfSome o (λ files. contents_of (item_at files path) ≡ Ok found) → Reads {T = Option EnvFile} (Err fault) (file_of name path (Ok found)) → IfSome o (λ files. Reads {T = Option EnvFile} (Err fault) (file_at files folder name))
   found_refused None found fault h r of = tt
   found_refused (Some files) found fault h r of = found_at files found (Err fault) h r of
 

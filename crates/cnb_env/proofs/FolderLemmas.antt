@@ -1,8 +1,6 @@
 -- The files of a folder's names: how far a loop over them has come.
-use Rattle.std.proofs.Common.{◌≡◌, ◌∙◌, refl, sym, ap, subst, ℕ, Bool, true, false, cond, List, [], ◌∷◌, ◌++◌, append_assoc, length, drop, get_or, ◌<◌, ◌+◌, Option, Some, None, Result, Ok, Err}
+use Rattle.std.proofs.Common.{◌≡◌, ◌∙◌, refl, sym, ap, subst, ℕ, Bool, true, false, cond, List, [], ◌∷◌, ◌++◌, append_assoc, length, Option, Some, None, Result, Ok, Err}
 use Rattle.std.specs.Prelude.{IfSome, nat_lt, not, ◌&&◌}
-use Rattle.std.proofs.lemmas.List.{drop_more}
-use Rattle.cnb_world.specs.Calls.{AreNames}
 use Rattle.cnb_world.specs.Listing.{names_in}
 use Rattle.cnb_world.specs.Path.{joined}
 use Rattle.cnb_world.specs.Tree.{Tree, item_at, is_file, kind_of}
@@ -12,28 +10,29 @@ use Rattle.cnb_world.specs.declared.whole.Whole.TheVariants as whole
 use Rattle.cnb_world.specs.declared.world.Item.{Item}
 use Rattle.cnb_world.specs.declared.world.Item.TheVariants as item
 use Rattle.cnb_world.specs.declared.world.Kind.{Kind}
-use Rattle.cnb_env.specs.Contents.{Reads, contents_of, file_of, file_of_value, file_at, has_equals, is_absent, with_found}
-use Rattle.cnb_env.specs.Files.{env_folder, file_before, files_of, files_in_folder, platform_files_in, value_in, whole_value, ReadsFiles}
+use Rattle.doc_files.specs.Reading.{Reads}
+use Rattle.doc_files.specs.declared.fault.ReadFault.{ReadFault}
+use Rattle.doc_files.specs.declared.fault.ReadFault.TheVariants.{File, Document, Limit, Memory}
+use Rattle.cnb_env.specs.Contents.{contents_of, file_of, file_of_value, file_at, has_equals, is_absent, with_found}
+use Rattle.cnb_env.specs.Files.{env_folder, file_before, files_of, files_in_folder, platform_files_in, value_in, whole_value}
 use Rattle.cnb_env.specs.declared.files.EnvFile.{EnvFile}
-use Rattle.cnb_env.specs.declared.files.EnvFault.{EnvFault}
-use Rattle.cnb_env.specs.declared.files.EnvFault.TheVariants.{File, Document, Limit, Memory}
 
 abbrev Files : Type 0
-Files = Result (List EnvFile) EnvFault
+Files = Result (List EnvFile) ReadFault
 
 -- files in front of others
-abbrev pub behind : List EnvFile → Result (List EnvFile) EnvFault → Result (List EnvFile) EnvFault
+abbrev pub behind : List EnvFile → Result (List EnvFile) ReadFault → Result (List EnvFile) ReadFault
 behind done (Ok rest) = Ok (done ++ rest)
 behind done (Err fault) = Err fault
 
 -- what one name gives, in front of the others
-abbrev one_before : Result (Option EnvFile) EnvFault → Files → Files
+abbrev one_before : Result (Option EnvFile) ReadFault → Files → Files
 one_before (Ok None) rest = rest
 one_before (Ok (Some file)) (Ok rest) = Ok (file ∷ rest)
 one_before (Ok (Some file)) (Err fault) = Err fault
 one_before (Err fault) rest = Err fault
 
-value_before : (name : List ℕ) (value : Result (List ℕ) EnvFault) (rest : Files) → file_before name value rest ≡ one_before (file_of_value name value) rest
+value_before : (name : List ℕ) (value : Result (List ℕ) ReadFault) (rest : Files) → file_before name value rest ≡ one_before (file_of_value name value) rest
 value_before name (Err fault) rest = refl
 value_before name (Ok value) (Ok rest) = refl
 value_before name (Ok value) (Err fault) = refl
@@ -65,7 +64,7 @@ behind_one done file (Ok rest) = ap Ok (sym (append_assoc done (file ∷ []) res
 behind_one done file (Err fault) = refl
 
 module _ (folder name : List ℕ) (names all : List (List ℕ)) (done : List EnvFile) where
-  step : (files : Tree) (one : Result (Option EnvFile) EnvFault) → file_at files folder name ≡ one → behind done (files_of files folder (name ∷ names)) ≡ files_of files folder all
+  step : (files : Tree) (one : Result (Option EnvFile) ReadFault) → file_at files folder name ≡ one → behind done (files_of files folder (name ∷ names)) ≡ files_of files folder all
       → behind done (one_before one (files_of files folder names)) ≡ files_of files folder all
   step files one e left = ap (λ x. behind done (one_before x (files_of files folder names))) (sym e) ∙ ap (behind done) (sym (next_is files folder name names)) ∙ left
 
@@ -80,25 +79,18 @@ module _ (folder name : List ℕ) (names all : List (List ℕ)) (done : List Env
       let Q : List (List ℕ) → Type 0 = λ x. behind done (files_of files folder x) ≡ files_of files folder all in
       moves_at files found (subst P e read) (subst Q w left)
 
-  stops_at : (files : Tree) (fault : EnvFault) → Reads {T = Option EnvFile} (Err fault) (file_at files folder name) → behind done (files_of files folder (name ∷ names)) ≡ files_of files folder all → Reads {T = List EnvFile} (Err fault) (files_of files folder all)
+  stops_at : (files : Tree) (fault : ReadFault) → Reads {T = Option EnvFile} (Err fault) (file_at files folder name) → behind done (files_of files folder (name ∷ names)) ≡ files_of files folder all → Reads {T = List EnvFile} (Err fault) (files_of files folder all)
   stops_at files (File path) read left = tt
   stops_at files Memory read left = tt
   stops_at files (Document path fault) read left = sym (step files (Err (Document path fault)) read left)
   stops_at files (Limit kind) read left = sym (step files (Err (Limit kind)) read left)
 
-  pub stops : (o o1 : Option Tree) (whole : List (List ℕ)) (fault : EnvFault) → o1 ≡ o → whole ≡ name ∷ names → IfSome o1 (λ files. Reads {T = Option EnvFile} (Err fault) (file_at files folder name)) → Leaves o folder done whole all → IfSome o (λ files. Reads {T = List EnvFile} (Err fault) (files_of files folder all))
+  pub stops : (o o1 : Option Tree) (whole : List (List ℕ)) (fault : ReadFault) → o1 ≡ o → whole ≡ name ∷ names → IfSome o1 (λ files. Reads {T = Option EnvFile} (Err fault) (file_at files folder name)) → Leaves o folder done whole all → IfSome o (λ files. Reads {T = List EnvFile} (Err fault) (files_of files folder all))
   stops None o1 whole fault e w read left = tt
   stops (Some files) o1 whole fault e w read left =
       let P : Option Tree → Type 0 = λ x. IfSome x (λ t. Reads {T = Option EnvFile} (Err fault) (file_at t folder name)) in
       let Q : List (List ℕ) → Type 0 = λ x. behind done (files_of files folder x) ≡ files_of files folder all in
       stops_at files fault (subst P e read) (subst Q w left)
-
-pub as_files : (result want : Files) → Reads result want → ReadsFiles result want
-as_files (Err (File path)) want h = tt
-as_files (Err Memory) want h = tt
-as_files (Err (Document path fault)) want h = h
-as_files (Err (Limit kind)) want h = h
-as_files (Ok files) want h = h
 
 module _ (platform folder : List ℕ) (place : folder ≡ env_folder platform) where
   at_folder : (files : Tree) → platform_files_in platform files ≡ files_in_folder files folder (item_at files folder)
@@ -121,11 +113,11 @@ module _ (platform folder : List ℕ) (place : folder ≡ env_folder platform) w
   standing_is files (Some found) k h e = refl
 
   -- a folder's answer is the platform's, where something stands there
-  standing_at : (files : Tree) (k : Kind) (result : Files) → is_absent k ≡ false → k ≡ kind_of (item_at files folder) → Reads result (files_of files folder (names_in files folder)) → ReadsFiles result (platform_files_in platform files)
-  standing_at files k result h told read = let Q : Files → Type 0 = λ x. ReadsFiles result x in subst Q (sym (at_folder files ∙ standing_is files (item_at files folder) k h told)) (as_files result _ read)
+  standing_at : (files : Tree) (k : Kind) (result : Files) → is_absent k ≡ false → k ≡ kind_of (item_at files folder) → Reads result (files_of files folder (names_in files folder)) → Reads result (platform_files_in platform files)
+  standing_at files k result h told read = let Q : Files → Type 0 = λ x. Reads result x in subst Q (sym (at_folder files ∙ standing_is files (item_at files folder) k h told)) read
 
-  pub standing_refused : (o o1 : Option Tree) (k : Kind) (fault : EnvFault) → o1 ≡ o → is_absent k ≡ false → IfSome o (λ files. k ≡ kind_of (item_at files folder))
-      → IfSome o1 (λ files. Reads {T = List EnvFile} (Err fault) (files_of files folder (names_in files folder))) → IfSome o (λ files. ReadsFiles (Err fault) (platform_files_in platform files))
+  pub standing_refused : (o o1 : Option Tree) (k : Kind) (fault : ReadFault) → o1 ≡ o → is_absent k ≡ false → IfSome o (λ files. k ≡ kind_of (item_at files folder))
+      → IfSome o1 (λ files. Reads {T = List EnvFile} (Err fault) (files_of files folder (names_in files folder))) → IfSome o (λ files. Reads {T = List EnvFile} (Err fault) (platform_files_in platform files))
   standing_refused None o1 k fault e h told read = tt
   standing_refused (Some files) o1 k fault e h told read =
       let P : Option Tree → Type 0 = λ x. IfSome x (λ t. Reads {T = List EnvFile} (Err fault) (files_of t folder (names_in t folder))) in
@@ -137,10 +129,3 @@ module _ (platform folder : List ℕ) (place : folder ≡ env_folder platform) w
   standing_folder (Some files) o1 k found e h told read =
       let P : Option Tree → Type 0 = λ x. IfSome x (λ t. files_of t folder (names_in t folder) ≡ Ok found) in
       standing_at files k (Ok found) h told (subst P e read)
-
--- the names from a place on
-pub next_name : (names : List (List ℕ)) (i : ℕ) (name : List ℕ) → i < length names → name ≡ get_or names i name → drop i names ≡ name ∷ drop (i + 1) names
-next_name names i name h e = drop_more names i name h ∙ ap (λ n. n ∷ drop (i + 1) names) (sym e)
-
-pub later_names : (whole names : List (List ℕ)) (name : List ℕ) → whole ≡ name ∷ names → AreNames whole → AreNames names
-later_names whole names name e h = let all : AreNames (name ∷ names) = subst AreNames e h in all.2

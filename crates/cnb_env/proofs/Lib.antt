@@ -1,4 +1,3 @@
 pub mod FileLemmas
 pub mod FolderLemmas
-pub mod Listing
 pub mod Texts

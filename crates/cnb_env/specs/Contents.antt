@@ -1,36 +1,20 @@
 -- What stands in one environment file.
-use Rattle.std.specs.Prelude.{ℕ, ◌≡◌, ◌==◌, Bool, true, false, List, [], ◌∷◌, ◌++◌, if◌then◌else◌, length, nat_lt, Option, Some, None, Result, Ok, Err}
+use Rattle.std.specs.Prelude.{ℕ, ◌==◌, Bool, true, false, List, [], ◌∷◌, ◌++◌, if◌then◌else◌, length, nat_lt, Option, Some, None, Result, Ok, Err}
 use Rattle.std.specs.List.{list_any}
 use Rattle.cnb_world.specs.Path.{joined}
 use Rattle.cnb_world.specs.Tree.{Tree, item_at}
 use Rattle.cnb_world.specs.declared.limits.LimitKind.TheVariants.{Document as DocumentLimit}
-use Rattle.cnb_world.specs.declared.world.FileFault.{FileFault}
-use Rattle.cnb_world.specs.declared.world.FileFault.TheVariants as file_fault
 use Rattle.cnb_world.specs.declared.world.Item.{Item}
 use Rattle.cnb_world.specs.declared.world.Item.TheVariants as item
 use Rattle.cnb_world.specs.declared.world.Kind.{Kind}
 use Rattle.cnb_world.specs.declared.world.Kind.TheVariants as kind
+use Rattle.doc_files.specs.declared.fault.ReadFault.{ReadFault}
+use Rattle.doc_files.specs.declared.fault.ReadFault.TheVariants.{Limit}
 use Rattle.cnb_env.specs.Files.{value_in}
 use Rattle.cnb_env.specs.declared.files.EnvFile.{EnvFile}
-use Rattle.cnb_env.specs.declared.files.EnvFault.{EnvFault}
-use Rattle.cnb_env.specs.declared.files.EnvFault.TheVariants.{File, Document, Limit, Memory}
-
--- an answer is this one, unless the outside failed or memory ran out
-abbrev pub Reads : {T : Type 0} → Result T EnvFault → Result T EnvFault → Type 0
-Reads (Err (File path)) want = Unit {0}
-Reads (Err Memory) want = Unit {0}
-Reads (Err (Document path fault)) want = want ≡ Err (Document path fault)
-Reads (Err (Limit kind)) want = want ≡ Err (Limit kind)
-Reads (Ok value) want = want ≡ Ok value
-
--- a call that failed is a refusal of its path, or memory ran out
-abbrev pub Blames : FileFault → EnvFault → Type 0
-Blames fault Memory = Unit {0}
-Blames file_fault.Failed (File path) = Unit {0}
-Blames fault refusal = ⊥
 
 -- the bytes of a regular file; there are none where there is no such file
-abbrev pub contents_of : Option Item → Result (Option (List ℕ)) EnvFault
+abbrev pub contents_of : Option Item → Result (Option (List ℕ)) ReadFault
 contents_of (Some (item.File exec bytes)) = if nat_lt 1048576 (length bytes) then Err (Limit DocumentLimit) else Ok (Some bytes)
 contents_of (Some item.Folder) = Ok None
 contents_of (Some (item.Link target)) = Ok None
@@ -47,17 +31,17 @@ is_absent kind.Odd = false
 abbrev pub has_equals : List ℕ → Bool
 has_equals name = list_any (λ byte. byte == 61) name
 
-abbrev pub file_of_value : List ℕ → Result (List ℕ) EnvFault → Result (Option EnvFile) EnvFault
+abbrev pub file_of_value : List ℕ → Result (List ℕ) ReadFault → Result (Option EnvFile) ReadFault
 file_of_value name (Ok value) = Ok (Some (record { name = name; value = value }))
 file_of_value name (Err fault) = Err fault
 
-abbrev pub file_of : List ℕ → List ℕ → Result (Option (List ℕ)) EnvFault → Result (Option EnvFile) EnvFault
+abbrev pub file_of : List ℕ → List ℕ → Result (Option (List ℕ)) ReadFault → Result (Option EnvFile) ReadFault
 file_of name path (Ok (Some bytes)) = file_of_value name (value_in path bytes)
 file_of name path (Ok None) = Ok None
 file_of name path (Err fault) = Err fault
 
 -- the variable's file of a name in the folder; there is none where the name or what stands there is no variable's
-unfoldable pub file_at : Tree → List ℕ → List ℕ → Result (Option EnvFile) EnvFault
+unfoldable pub file_at : Tree → List ℕ → List ℕ → Result (Option EnvFile) ReadFault
 file_at files folder name = if has_equals name then Ok None else file_of name (joined folder name) (contents_of (item_at files (joined folder name)))
 
 -- a file behind others, where there is one

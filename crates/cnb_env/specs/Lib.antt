@@ -1,4 +1,3 @@
 pub mod Contents
-pub mod Counts
 pub mod Files
 pub mod Platform

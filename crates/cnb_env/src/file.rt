@@ -3,21 +3,22 @@ ghost use Rattle.std.specs.Prelude.{◌≡◌, ◌≤◌, ◌==◌, IfSome, IsTr
 ghost use Rattle.std.specs.List.{list_any};
 ghost use Rattle.cnb_world.specs.Path.{is_part, joined};
 ghost use Rattle.cnb_world.specs.Tree.{item_at};
-ghost use Rattle.cnb_env.specs.Contents.{Reads, contents_of, file_at, file_of, has_equals};
-ghost use Rattle.cnb_env.specs.Counts.{CountsFiles};
+ghost use Rattle.doc_files.specs.Counts.{CountsFiles};
+ghost use Rattle.doc_files.specs.Reading.{Reads};
+ghost use Rattle.cnb_env.specs.Contents.{contents_of, file_at, file_of, has_equals};
 ghost use Rattle.cnb_env.specs.Files.{value_in};
 
-use crate::fault::blamed;
-use crate::files::{EnvFault, EnvFile};
+use crate::files::EnvFile;
 use cnb_toml::DocFault;
 use cnb_world::{Bytes, Kind, LimitKind, Path, Text, World};
+use doc_files::{ReadFault, blamed};
 use std::alloc::Global;
 
 /// The longest environment file, in bytes.
 const LONGEST_FILE: u64 = 1048576;
 
 // The bytes of a regular file.
-fn contents<W: World>(alloc: Global, world: &mut W, path: &Path) -> Result<Option<Bytes>, EnvFault>
+fn contents<W: World>(alloc: Global, world: &mut W, path: &Path) -> Result<Option<Bytes>, ReadFault>
     ensures reads { IfSome (W.tree world.old) (λ files. Reads result (contents_of (item_at files path.now))) }
     ensures tree { W.tree world.new ≡ W.tree world.old }
     ensures files { CountsFiles result (W.file_faults world.old) (W.file_faults world.new) }
@@ -26,7 +27,7 @@ fn contents<W: World>(alloc: Global, world: &mut W, path: &Path) -> Result<Optio
     ensures misused { W.misused world.new ≡ W.misused world.old }
 {
     match world.kind(path) {
-        Ok(Kind::File { len, .. }) if len > LONGEST_FILE => Err(EnvFault::Limit(
+        Ok(Kind::File { len, .. }) if len > LONGEST_FILE => Err(ReadFault::Limit(
             LimitKind::Document,
         )),
         Ok(Kind::File { .. }) => match world.read(path, 0, LONGEST_FILE) {
@@ -52,13 +53,13 @@ fn has_equals(name: &[u8]) -> bool
 
 // The value that a file's bytes are.
 #[tactic(auto, using(crate::proofs::Texts::is_text, crate::proofs::Texts::is_no_text))]
-fn value_in(alloc: Global, path: &Path, bytes: &[u8]) -> Result<Text, EnvFault>
+fn value_in(alloc: Global, path: &Path, bytes: &[u8]) -> Result<Text, ReadFault>
     ensures reads { Reads result (value_in path.now bytes.now) }
     ensures files { (n : ℕ) → CountsFiles result n n }
 {
     match std::str::from_utf8(bytes) {
-        Err(_) => Err(EnvFault::Document(path.copy(alloc)?, DocFault::NotUtf8)),
-        Ok(_) if has_zero(bytes) => Err(EnvFault::Document(
+        Err(_) => Err(ReadFault::Document(path.copy(alloc)?, DocFault::NotUtf8)),
+        Ok(_) if has_zero(bytes) => Err(ReadFault::Document(
             path.copy(alloc)?,
             DocFault::Wrong(Text::of(alloc, "value")?),
         )),
@@ -72,7 +73,7 @@ fn file_of(
     path: &Path,
     name: &Text,
     found: Option<Bytes>,
-) -> Result<Option<EnvFile>, EnvFault>
+) -> Result<Option<EnvFile>, ReadFault>
     ensures reads { Reads result (file_of name.now path.now (Ok found)) }
     ensures files { (n : ℕ) → CountsFiles result n n }
 {
@@ -87,13 +88,13 @@ fn file_of(
 }
 
 /// The variable's file of a name in the folder.
-#[tactic(auto, using(crate::proofs::FileLemmas::counts_after, crate::proofs::FileLemmas::file_fits))]
+#[tactic(auto, using(crate::proofs::FileLemmas::file_fits, doc_files::proofs::Steps::counts_after))]
 pub(crate) fn read_file<W: World>(
     alloc: Global,
     world: &mut W,
     folder: &Path,
     name: &Text,
-) -> Result<Option<EnvFile>, EnvFault>
+) -> Result<Option<EnvFile>, ReadFault>
     requires part { IsTrue (is_part name.now) }
     requires short { length folder.now ≤ 8196 }
     ensures reads { IfSome (W.tree world.old) (λ files. Reads result (file_at files folder.now name.now)) }

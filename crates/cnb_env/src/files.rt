@@ -2,14 +2,14 @@
 ghost use Rattle.std.specs.Prelude.{◌≡◌, ◌≤◌, IfSome, length};
 ghost use Rattle.std.specs.Option.{option_map};
 ghost use Rattle.cnb_world.specs.Calls.{MayMisuse};
+ghost use Rattle.doc_files.specs.Counts.{CountsFiles};
+ghost use Rattle.doc_files.specs.Reading.{Reads};
 ghost use Rattle.cnb_env.specs.Contents.{is_absent};
-ghost use Rattle.cnb_env.specs.Counts.{CountsFiles};
-ghost use Rattle.cnb_env.specs.Files.{platform_files_in, is_fit_platform, ReadsFiles};
+ghost use Rattle.cnb_env.specs.Files.{platform_files_in, is_fit_platform};
 
-use crate::fault::blamed;
 use crate::folder::read_folder;
-use cnb_toml::DocFault;
-use cnb_world::{Kind, LimitKind, List, Path, Text, World};
+use cnb_world::{Kind, List, Path, Text, World};
+use doc_files::{ReadFault, blamed};
 use std::alloc::Global;
 
 /// A file of `<platform>/env`: its name is the variable's, its contents are the value (platform.md, "User-Provided Variables").
@@ -17,15 +17,6 @@ use std::alloc::Global;
 pub struct EnvFile {
     pub name: Text,
     pub value: Text,
-}
-
-/// Why environment files were not read: a call on a path failed, a file is no value, or it is too long.
-#[derive(Drop)]
-pub enum EnvFault {
-    File(Path),
-    Document(Path, DocFault),
-    Limit(LimitKind),
-    Memory,
 }
 
 fn is_absent(kind: Kind) -> bool
@@ -40,9 +31,9 @@ pub fn platform_files<W: World>(
     alloc: Global,
     world: &mut W,
     platform: &Path,
-) -> Result<List<EnvFile>, EnvFault>
+) -> Result<List<EnvFile>, ReadFault>
     requires { length platform.now ≤ 8192 }
-    ensures reads { IfSome (W.tree world.old) (λ files. ReadsFiles result (platform_files_in platform.now files)) }
+    ensures reads { IfSome (W.tree world.old) (λ files. Reads result (platform_files_in platform.now files)) }
     ensures tree { W.tree world.new ≡ W.tree world.old }
     ensures files { CountsFiles result (W.file_faults world.old) (W.file_faults world.new) }
     ensures children { W.child_faults world.new ≡ W.child_faults world.old }

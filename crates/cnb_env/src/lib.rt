@@ -1,7 +1,6 @@
 //! What goes into the environment of a child.
 #![tactic(auto)]
 
-mod fault;
 mod file;
 mod files;
 mod folder;
@@ -9,5 +8,6 @@ mod folder;
 mod tests;
 mod variables;
 
-pub use files::{EnvFault, EnvFile, platform_files};
+pub use doc_files::ReadFault as EnvFault;
+pub use files::{EnvFile, platform_files};
 pub use variables::platform;

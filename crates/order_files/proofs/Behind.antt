@@ -4,9 +4,10 @@ use Rattle.std.specs.Prelude.{IfSome}
 use Rattle.cnb_world.specs.Tree.{Tree, is_folder, item_at}
 use Rattle.bp_docs.specs.declared.descriptor.Descriptor.{Descriptor}
 use Rattle.order_files.specs.Catalog.{followed_by, listed}
-use Rattle.order_files.specs.Reading.{Reads}
-use Rattle.order_files.specs.declared.fault.ReadFault.{ReadFault}
-use Rattle.order_files.specs.declared.fault.ReadFault.TheVariants.{File, Document, Limit, Memory}
+use Rattle.doc_files.specs.Reading.{Reads}
+use Rattle.doc_files.proofs.NamesRead.{told}
+use Rattle.doc_files.specs.declared.fault.ReadFault.{ReadFault}
+use Rattle.doc_files.specs.declared.fault.ReadFault.TheVariants.{File, Document, Limit, Memory}
 
 abbrev pub Found : Type 0
 Found = Result (List Descriptor) ReadFault
@@ -61,9 +62,6 @@ all_done (Some files) done rest all none left = sym left ∙ ap (followed_by (Ok
 pub nothing_done : (o : Option Tree) (done : List Descriptor) (all : Tree → Found) → done ≡ [] → Leaves o done all all
 nothing_done None done all e = tt
 nothing_done (Some files) done all e = ap (λ d. followed_by (Ok d) (all files)) e ∙ nothing_before (all files)
-
-abbrev pub told : {A : Type 0} → A → Result A ReadFault
-told value = Ok value
 
 -- what is found in a path, where that is a folder
 abbrev pub when_folder : Tree → List ℕ → Found → Found

@@ -9,9 +9,10 @@ use Rattle.cnb_world.specs.Tree.{Tree, can_list, is_file_or_absent, is_folder, i
 use Rattle.bp_docs.specs.declared.descriptor.Descriptor.{Descriptor}
 use Rattle.order_files.specs.Catalog.{are_fit_versions, buildpack_in, followed_by, is_fit_buildpack, is_fit_version, listed, version_in, versions_in}
 use Rattle.order_files.specs.Descriptor.{described, descriptor_at, descriptor_path, is_fit_descriptor}
-use Rattle.order_files.specs.Reading.{◌>>=◌, Reads, document_at}
-use Rattle.order_files.specs.declared.fault.ReadFault.{ReadFault}
-use Rattle.order_files.proofs.Behind.{Found, IsFolder, told, told_same, when_folder}
+use Rattle.doc_files.specs.Reading.{◌>>=◌, Reads, document_at}
+use Rattle.doc_files.specs.declared.fault.ReadFault.{ReadFault}
+use Rattle.doc_files.proofs.NamesRead.{told}
+use Rattle.order_files.proofs.Behind.{Found, IsFolder, told_same, when_folder}
 
 module _ (folder id_folder version path : List ℕ) (same : path ≡ descriptor_path folder) where
   pub descriptor_from : (o : Option Tree) (result : Result (Option Descriptor) ReadFault) → IfSome o (λ files. Reads result (document_at files path >>= described path id_folder version)) → IfSome o (λ files. Reads result (descriptor_at files folder id_folder version))

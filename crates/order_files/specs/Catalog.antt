@@ -6,7 +6,7 @@ use Rattle.cnb_world.specs.Path.{joined}
 use Rattle.cnb_world.specs.Tree.{Tree, is_folder, item_at}
 use Rattle.bp_docs.specs.declared.descriptor.Descriptor.{Descriptor}
 use Rattle.order_files.specs.Descriptor.{descriptor_at, is_fit_descriptor}
-use Rattle.order_files.specs.declared.fault.ReadFault.{ReadFault}
+use Rattle.doc_files.specs.declared.fault.ReadFault.{ReadFault}
 
 -- descriptors in front of others; the first fault decides
 abbrev pub followed_by : Result (List Descriptor) ReadFault → Result (List Descriptor) ReadFault → Result (List Descriptor) ReadFault

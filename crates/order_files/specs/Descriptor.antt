@@ -7,9 +7,9 @@ use Rattle.cnb_toml.specs.Names.{folder_of}
 use Rattle.cnb_toml.specs.declared.fault.DocFault.TheVariants.{Wrong}
 use Rattle.bp_docs.specs.Descriptor.{descriptor_in}
 use Rattle.bp_docs.specs.declared.descriptor.Descriptor.{Descriptor}
-use Rattle.order_files.specs.Reading.{◌>>=◌, document_at, read_at}
-use Rattle.order_files.specs.declared.fault.ReadFault.{ReadFault}
-use Rattle.order_files.specs.declared.fault.ReadFault.TheVariants.{Document}
+use Rattle.doc_files.specs.Reading.{◌>>=◌, document_at, read_at}
+use Rattle.doc_files.specs.declared.fault.ReadFault.{ReadFault}
+use Rattle.doc_files.specs.declared.fault.ReadFault.TheVariants.{Document}
 
 -- the document of a descriptor in its folder
 abbrev pub descriptor_path : List ℕ → List ℕ

@@ -4,9 +4,9 @@ use Rattle.cnb_world.specs.Tree.{Tree, is_file_or_absent, item_at}
 use Rattle.cnb_toml.specs.declared.fault.DocFault.TheVariants.{Absent}
 use Rattle.bp_docs.specs.Order.{order_in}
 use Rattle.bp_docs.specs.declared.descriptor.Entry.{Entry}
-use Rattle.order_files.specs.Reading.{◌>>=◌, document_at, read_at}
-use Rattle.order_files.specs.declared.fault.ReadFault.{ReadFault}
-use Rattle.order_files.specs.declared.fault.ReadFault.TheVariants.{Document}
+use Rattle.doc_files.specs.Reading.{◌>>=◌, document_at, read_at}
+use Rattle.doc_files.specs.declared.fault.ReadFault.{ReadFault}
+use Rattle.doc_files.specs.declared.fault.ReadFault.TheVariants.{Document}
 
 -- the order that a document is; the document must be there
 abbrev pub order_of : List ℕ → Option (List ℕ) → Result (List (List Entry)) ReadFault

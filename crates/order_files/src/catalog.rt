@@ -5,14 +5,13 @@ ghost use Rattle.std.specs.Option.{option_map};
 ghost use Rattle.cnb_world.specs.Calls.{AreNames, MayMisuse};
 ghost use Rattle.cnb_world.specs.Path.{is_part};
 ghost use Rattle.order_files.specs.Catalog.{buildpack_in, buildpacks_in, catalog_in, followed_by, is_fit_buildpack, is_fit_catalog};
-ghost use Rattle.order_files.specs.Counts.{CountsFiles};
+ghost use Rattle.doc_files.specs.Counts.{CountsFiles};
 ghost use Rattle.order_files.specs.Places.{KeepsOtherIds, has_place};
-ghost use Rattle.order_files.specs.Reading.{Reads};
+ghost use Rattle.doc_files.specs.Reading.{Reads};
 
-use crate::fault::ReadFault;
-use crate::folder::{is_folder, list_names};
 use crate::version::with_versions;
 use cnb_world::{Path, Text, World};
+use doc_files::{ReadFault, is_folder, list_names};
 use order_expand::Catalog;
 use std::alloc::Global;
 

@@ -2,16 +2,15 @@
 ghost use Rattle.std.specs.Prelude.{◌≡◌, ◌≤◌, ℕ, IfOk, IfSome, length};
 ghost use Rattle.std.specs.Option.{option_map};
 ghost use Rattle.cnb_world.specs.Calls.{MayMisuse};
-ghost use Rattle.order_files.specs.Counts.{CountsFiles};
+ghost use Rattle.doc_files.specs.Counts.{CountsFiles};
 ghost use Rattle.order_files.specs.Descriptor.{described, descriptor_at, is_fit_descriptor, with_folder_names};
 ghost use Rattle.order_files.specs.Places.{BelongsTo, IsPlaced};
-ghost use Rattle.order_files.specs.Reading.{Reads};
+ghost use Rattle.doc_files.specs.Reading.{Reads};
 
-use crate::document::read_document;
-use crate::fault::{ReadFault, read_at};
 use bp_docs::{Descriptor, read_buildpack};
 use cnb_toml::DocFault;
 use cnb_world::{Bytes, Path, Text, World};
+use doc_files::{ReadFault, read_at, read_document};
 use std::alloc::Global;
 
 // A descriptor whose folders have its names.
@@ -61,7 +60,7 @@ fn described(
 }
 
 /// The descriptor in the folder of a version, where it has one. `id_folder` is the name of the folder above.
-#[tactic(auto, using(crate::proofs::Lengths::document_fits, crate::proofs::Steps::counts_after))]
+#[tactic(auto, using(crate::proofs::Lengths::document_fits, doc_files::proofs::Steps::counts_after))]
 pub(crate) fn read_descriptor<W: World>(
     alloc: Global,
     world: &mut W,

@@ -2,15 +2,14 @@
 ghost use Rattle.std.specs.Prelude.{◌≡◌, ℕ, IfSome};
 ghost use Rattle.std.specs.Option.{option_map};
 ghost use Rattle.cnb_world.specs.Calls.{MayMisuse};
-ghost use Rattle.order_files.specs.Counts.{CountsFiles};
+ghost use Rattle.doc_files.specs.Counts.{CountsFiles};
 ghost use Rattle.order_files.specs.OrderFile.{is_fit_order_file, order_file_in, order_of};
-ghost use Rattle.order_files.specs.Reading.{Reads};
+ghost use Rattle.doc_files.specs.Reading.{Reads};
 
-use crate::document::read_document;
-use crate::fault::{ReadFault, read_at};
 use bp_docs::{Order, read_order};
 use cnb_toml::DocFault;
 use cnb_world::{Bytes, Path, World};
+use doc_files::{ReadFault, read_at, read_document};
 use std::alloc::Global;
 
 // The order that a document is.
@@ -28,7 +27,7 @@ fn order_of(alloc: Global, path: &Path, found: Option<Bytes>) -> Result<Order, R
 }
 
 /// The order of an order file (platform.md, "order.toml (TOML)"), which must be there.
-#[tactic(auto, using(crate::proofs::Steps::counts_after))]
+#[tactic(auto, using(doc_files::proofs::Steps::counts_after))]
 pub fn read_order_file<W: World>(
     alloc: Global,
     world: &mut W,

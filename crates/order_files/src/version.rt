@@ -4,15 +4,14 @@ ghost use Rattle.std.specs.Option.{option_map};
 ghost use Rattle.cnb_world.specs.Calls.{AreNames, MayMisuse};
 ghost use Rattle.cnb_world.specs.Path.{is_part};
 ghost use Rattle.order_files.specs.Catalog.{are_fit_versions, followed_by, is_fit_version, listed, version_in, versions_in};
-ghost use Rattle.order_files.specs.Counts.{CountsFiles};
+ghost use Rattle.doc_files.specs.Counts.{CountsFiles};
 ghost use Rattle.order_files.specs.Places.{IsPlaced, KeepsOtherIds, KeepsOthers, has_place};
-ghost use Rattle.order_files.specs.Reading.{Reads};
+ghost use Rattle.doc_files.specs.Reading.{Reads};
 
 use crate::descriptor::read_descriptor;
-use crate::fault::ReadFault;
-use crate::folder::is_folder;
 use bp_docs::Descriptor;
 use cnb_world::{Memory, Path, Text, World};
+use doc_files::{ReadFault, is_folder};
 use order_expand::{Catalog, CatalogFault};
 use std::alloc::Global;
 

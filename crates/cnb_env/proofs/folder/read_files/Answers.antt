@@ -1,7 +1,8 @@
 use Rattle.std.proofs.Common.{◌∙◌, ◌+◌, List, drop, sym, subst}
 use Rattle.std.proofs.lemmas.Result.{err_from_is_err_and}
 use Rattle.cnb_env.specs.declared.files.EnvFile.{EnvFile}
-use Rattle.cnb_env.proofs.FolderLemmas.{Leaves, moves, stops, next_name, later_names}
+use Rattle.doc_files.proofs.NamesRead.{next_name, later_names}
+use Rattle.cnb_env.proofs.FolderLemmas.{Leaves, moves, stops}
 use Rattle.cnb_env.proofs.folder.read_files.Goals as goal
 
 pub returns-in_err-found-clause-reads : goal.returns-in_err-found-clause-reads

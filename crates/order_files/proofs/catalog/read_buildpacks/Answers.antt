@@ -4,7 +4,7 @@ use Rattle.std.proofs.lemmas.List.{drop_all}
 use Rattle.std.proofs.lemmas.Result.{err_from_is_err_and}
 use Rattle.cnb_world.specs.Calls.{AreNames}
 use Rattle.cnb_world.specs.Tree.{Tree}
-use Rattle.cnb_env.proofs.FolderLemmas.{next_name}
+use Rattle.doc_files.proofs.NamesRead.{next_name}
 use Rattle.order_files.specs.Catalog.{buildpack_in, buildpacks_in, is_fit_buildpack}
 use Rattle.order_files.proofs.Behind.{Leaves, all_done, moves, nothing_done, stops}
 use Rattle.order_files.proofs.Misuse.{no_misuse, one_fits, rest_fits}

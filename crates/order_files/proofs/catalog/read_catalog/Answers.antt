@@ -5,10 +5,10 @@ use Rattle.std.proofs.lemmas.Result.{err_from_is_err_and}
 use Rattle.cnb_world.specs.Listing.{names_in}
 use Rattle.cnb_world.specs.Tree.{Tree, can_list}
 use Rattle.order_files.specs.Catalog.{buildpacks_in, catalog_in, is_fit_buildpack, is_fit_catalog}
-use Rattle.order_files.proofs.Behind.{told}
+use Rattle.doc_files.proofs.NamesRead.{told}
 use Rattle.order_files.proofs.FolderSteps.{names_fit}
 use Rattle.order_files.proofs.Misuse.{both, no_misuse}
-use Rattle.order_files.proofs.Steps.{next_refused, stepped}
+use Rattle.doc_files.proofs.Steps.{next_refused, stepped}
 use Rattle.order_files.proofs.catalog.read_catalog.Goals as goal
 
 pub returns-in_err-id_folders-clause-misused : goal.returns-in_err-id_folders-clause-misused

@@ -5,10 +5,11 @@ use Rattle.cnb_world.specs.Listing.{names_in}
 use Rattle.cnb_world.specs.Path.{joined}
 use Rattle.cnb_world.specs.Tree.{Tree}
 use Rattle.order_files.specs.Catalog.{are_fit_versions, followed_by, is_fit_buildpack, versions_in}
-use Rattle.order_files.proofs.Behind.{IsFolder, folder_read, folder_refused, passed_over, told}
+use Rattle.doc_files.proofs.NamesRead.{told}
+use Rattle.order_files.proofs.Behind.{IsFolder, folder_read, folder_refused, passed_over}
 use Rattle.order_files.proofs.FolderSteps.{buildpack_fits, buildpack_from, buildpack_refused_from, listable, names_fit}
 use Rattle.order_files.proofs.Misuse.{folder_fits, no_misuse}
-use Rattle.order_files.proofs.Steps.{next_refused, stepped}
+use Rattle.doc_files.proofs.Steps.{next_refused, stepped}
 use Rattle.order_files.proofs.catalog.with_buildpack.Goals as goal
 
 pub returns-then-not-branch-clause-reads : goal.returns-then-not-branch-clause-reads

@@ -2,9 +2,9 @@ use Rattle.std.proofs.Common.{Ok}
 use Rattle.std.proofs.lemmas.Result.{err_from_is_err_and}
 use Rattle.cnb_world.specs.Tree.{Tree}
 use Rattle.order_files.specs.Descriptor.{described}
-use Rattle.order_files.specs.Reading.{document_at}
+use Rattle.doc_files.specs.Reading.{document_at}
 use Rattle.order_files.proofs.FolderSteps.{descriptor_fits, descriptor_from, descriptor_refused_from}
-use Rattle.order_files.proofs.Steps.{refused, stepped_alone, stepped_refused}
+use Rattle.doc_files.proofs.Steps.{refused, stepped_alone, stepped_refused}
 use Rattle.order_files.proofs.descriptor.read_descriptor.Goals as goal
 
 pub returns-in_err-found-clause-reads : goal.returns-in_err-found-clause-reads

@@ -2,8 +2,8 @@ use Rattle.std.proofs.Common.{Ok}
 use Rattle.std.proofs.lemmas.Result.{err_from_is_err_and}
 use Rattle.cnb_world.specs.Tree.{Tree}
 use Rattle.order_files.specs.OrderFile.{order_file_in, order_of}
-use Rattle.order_files.specs.Reading.{document_at}
-use Rattle.order_files.proofs.Steps.{refused, stepped_alone, stepped_refused}
+use Rattle.doc_files.specs.Reading.{document_at}
+use Rattle.doc_files.proofs.Steps.{refused, stepped_alone, stepped_refused}
 use Rattle.order_files.proofs.order.read_order_file.Goals as goal
 
 pub returns-in_err-found-clause-reads : goal.returns-in_err-found-clause-reads

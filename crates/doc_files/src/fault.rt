@@ -1,7 +1,7 @@
 // Why files were not read.
 ghost use Rattle.std.specs.Prelude.{◌≡◌, ℕ, Err};
-ghost use Rattle.order_files.specs.Counts.{CountsFiles};
-ghost use Rattle.order_files.specs.Reading.{Blames, Reads, read_at};
+ghost use Rattle.doc_files.specs.Counts.{CountsFiles};
+ghost use Rattle.doc_files.specs.Reading.{Blames, Reads, read_at};
 
 use cnb_toml::DocFault;
 use cnb_world::{FileFault, LimitKind, Memory, Path};
@@ -18,7 +18,7 @@ pub enum ReadFault {
 
 impl From<Memory> for ReadFault {
     ghost use Rattle.std.specs.Prelude.{◌≡◌};
-    ghost use Rattle.order_files.specs.declared.fault.ReadFault.TheVariants.{Memory};
+    ghost use Rattle.doc_files.specs.declared.fault.ReadFault.TheVariants.{Memory};
 
     ghost from_gives = { λ _ fault. fault ≡ Memory };
 
@@ -29,7 +29,7 @@ impl From<Memory> for ReadFault {
 
 impl From<AllocError> for ReadFault {
     ghost use Rattle.std.specs.Prelude.{◌≡◌};
-    ghost use Rattle.order_files.specs.declared.fault.ReadFault.TheVariants.{Memory};
+    ghost use Rattle.doc_files.specs.declared.fault.ReadFault.TheVariants.{Memory};
 
     ghost from_gives = { λ _ fault. fault ≡ Memory };
 
@@ -38,8 +38,8 @@ impl From<AllocError> for ReadFault {
     }
 }
 
-// The refusal where a call on a path gave no answer.
-pub(crate) fn blamed(alloc: Global, path: &Path, fault: FileFault) -> ReadFault
+/// The refusal where a call on a path gave no answer.
+pub fn blamed(alloc: Global, path: &Path, fault: FileFault) -> ReadFault
     ensures { Blames path.now fault result }
 {
     match fault {
@@ -51,8 +51,8 @@ pub(crate) fn blamed(alloc: Global, path: &Path, fault: FileFault) -> ReadFault
     }
 }
 
-// What the reader of a document answered, for the document at a path.
-pub(crate) fn read_at<T: Drop>(
+/// What the reader of a document answered, for the document at a path.
+pub fn read_at<T: Drop>(
     alloc: Global,
     path: &Path,
     answer: Result<T, DocFault>,

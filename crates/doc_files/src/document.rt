@@ -1,10 +1,10 @@
 // One document.
-ghost use Rattle.std.specs.Prelude.{◌≡◌, IfSome};
+ghost use Rattle.std.specs.Prelude.{◌≡◌, IfErr, IfSome};
 ghost use Rattle.std.specs.Option.{option_map};
 ghost use Rattle.cnb_world.specs.Calls.{MayMisuse};
 ghost use Rattle.cnb_world.specs.Tree.{is_file_or_absent, item_at};
-ghost use Rattle.order_files.specs.Counts.{CountsFiles};
-ghost use Rattle.order_files.specs.Reading.{Reads, document_at};
+ghost use Rattle.doc_files.specs.Counts.{CountsFiles};
+ghost use Rattle.doc_files.specs.Reading.{BlamesOnly, Reads, document_at};
 
 use crate::fault::{ReadFault, blamed};
 use cnb_world::{Bytes, LimitKind, Path, Whole, World, read_whole};
@@ -14,12 +14,13 @@ use std::alloc::Global;
 const LONGEST_DOCUMENT: u64 = 1048576;
 
 /// The bytes of the document at a path, where one is there.
-pub(crate) fn read_document<W: World>(
+pub fn read_document<W: World>(
     alloc: Global,
     world: &mut W,
     path: &Path,
 ) -> Result<Option<Bytes>, ReadFault>
     ensures reads { IfSome (W.tree world.old) (λ files. Reads result (document_at files path.now)) }
+    ensures blames { IfErr result (BlamesOnly path.now) }
     ensures tree { W.tree world.new ≡ W.tree world.old }
     ensures files { CountsFiles result (W.file_faults world.old) (W.file_faults world.new) }
     ensures children { W.child_faults world.new ≡ W.child_faults world.old }

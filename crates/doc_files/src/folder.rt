@@ -1,23 +1,20 @@
 // What is asked of a folder.
-ghost use Rattle.std.specs.Prelude.{◌≡◌, IfOk, IfSome, Ok};
+ghost use Rattle.std.specs.Prelude.{◌≡◌, IfErr, IfOk, IfSome, Ok};
 ghost use Rattle.std.specs.Option.{option_map};
 ghost use Rattle.cnb_world.specs.Calls.{AreNames, MayMisuse};
 ghost use Rattle.cnb_world.specs.Listing.{names_in};
 ghost use Rattle.cnb_world.specs.Tree.{can_list, is_folder, item_at, kind_of};
-ghost use Rattle.order_files.specs.Counts.{CountsFiles};
-ghost use Rattle.order_files.specs.Reading.{Reads};
+ghost use Rattle.doc_files.specs.Counts.{CountsFiles};
+ghost use Rattle.doc_files.specs.Reading.{BlamesOnly, Reads};
 
 use crate::fault::{ReadFault, blamed};
 use cnb_world::{Kind, List, Path, Text, World};
 use std::alloc::Global;
 
 /// Whether a folder stands at the path.
-pub(crate) fn is_folder<W: World>(
-    alloc: Global,
-    world: &mut W,
-    path: &Path,
-) -> Result<bool, ReadFault>
+pub fn is_folder<W: World>(alloc: Global, world: &mut W, path: &Path) -> Result<bool, ReadFault>
     ensures reads { IfSome (W.tree world.old) (λ files. Reads result (Ok (is_folder (item_at files path.now)))) }
+    ensures blames { IfErr result (BlamesOnly path.now) }
     ensures tree { W.tree world.new ≡ W.tree world.old }
     ensures files { CountsFiles result (W.file_faults world.old) (W.file_faults world.new) }
     ensures children { W.child_faults world.new ≡ W.child_faults world.old }
@@ -32,13 +29,14 @@ pub(crate) fn is_folder<W: World>(
 }
 
 /// The names in the folder, ascending.
-pub(crate) fn list_names<W: World>(
+pub fn list_names<W: World>(
     alloc: Global,
     world: &mut W,
     folder: &Path,
 ) -> Result<List<Text>, ReadFault>
     ensures names { IfOk result AreNames }
     ensures reads { IfSome (W.tree world.old) (λ files. Reads result (Ok (names_in files folder.now))) }
+    ensures blames { IfErr result (BlamesOnly folder.now) }
     ensures tree { W.tree world.new ≡ W.tree world.old }
     ensures files { CountsFiles result (W.file_faults world.old) (W.file_faults world.new) }
     ensures children { W.child_faults world.new ≡ W.child_faults world.old }

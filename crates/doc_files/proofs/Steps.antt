@@ -2,10 +2,10 @@
 use Rattle.std.proofs.Common.{◌≡◌, sym, ap, subst, ℕ, Option, Some, None, Result, Ok, Err}
 use Rattle.std.specs.Prelude.{IfSome}
 use Rattle.cnb_world.specs.Tree.{Tree}
-use Rattle.order_files.specs.Counts.{CountsFiles}
-use Rattle.order_files.specs.Reading.{◌>>=◌, Reads}
-use Rattle.order_files.specs.declared.fault.ReadFault.{ReadFault}
-use Rattle.order_files.specs.declared.fault.ReadFault.TheVariants.{File, Document, Limit, Memory}
+use Rattle.doc_files.specs.Counts.{CountsFiles}
+use Rattle.doc_files.specs.Reading.{◌>>=◌, Reads}
+use Rattle.doc_files.specs.declared.fault.ReadFault.{ReadFault}
+use Rattle.doc_files.specs.declared.fault.ReadFault.TheVariants.{File, Document, Limit, Memory}
 
 refused_at : {A B : Type 0} (first : Result A ReadFault) (next : A → Result B ReadFault) (fault : ReadFault) → Reads {T = A} (Err fault) first → Reads {T = B} (Err fault) (first >>= next)
 refused_at first next (File path) h = tt

@@ -9,8 +9,8 @@ use Rattle.cnb_world.specs.declared.world.FileFault.{FileFault}
 use Rattle.cnb_world.specs.declared.world.FileFault.TheVariants as file_fault
 use Rattle.cnb_toml.specs.declared.fault.DocFault.{DocFault}
 use Rattle.cnb_toml.specs.declared.fault.DocFault.TheVariants as doc_fault
-use Rattle.order_files.specs.declared.fault.ReadFault.{ReadFault}
-use Rattle.order_files.specs.declared.fault.ReadFault.TheVariants.{File, Document, Limit, Memory}
+use Rattle.doc_files.specs.declared.fault.ReadFault.{ReadFault}
+use Rattle.doc_files.specs.declared.fault.ReadFault.TheVariants.{File, Document, Limit, Memory}
 
 -- an answer is this one, unless the outside failed or memory ran out
 abbrev pub Reads : {T : Type 0} → Result T ReadFault → Result T ReadFault → Type 0
@@ -25,6 +25,13 @@ abbrev pub Blames : List ℕ → FileFault → ReadFault → Type 0
 Blames path fault Memory = Unit {0}
 Blames path file_fault.Failed (File blamed) = blamed ≡ path
 Blames path fault refusal = ⊥
+
+-- a fault that names a path names this one
+abbrev pub BlamesOnly : List ℕ → ReadFault → Type 0
+BlamesOnly path (File blamed) = blamed ≡ path
+BlamesOnly path (Document blamed fault) = blamed ≡ path
+BlamesOnly path (Limit kind) = Unit {0}
+BlamesOnly path Memory = Unit {0}
 
 -- one step after another: the first fault ends them
 infixl 10 ◌>>=◌

@@ -1,5 +1,5 @@
-use Rattle.order_files.proofs.NamesRead.{names_read}
-use Rattle.order_files.proofs.folder.list_names.Goals as goal
+use Rattle.doc_files.proofs.NamesRead.{names_read}
+use Rattle.doc_files.proofs.folder.list_names.Goals as goal
 
 pub returns-in-Ok-clause-reads : goal.returns-in-Ok-clause-reads
 returns-in-Ok-clause-reads g c = names_read (g.W.World.tree c.args.world.now) c.args.folder.now c.in-Ok.names c.in-Ok.ensures.names c.in-Ok.ensures.told
