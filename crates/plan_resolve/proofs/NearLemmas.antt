@@ -58,7 +58,7 @@ ascending-numbers (suc n) = ascending-push (numbers_below n) n (ascending-number
 
 -- ---- what stands before and behind a place
 
-all_get : (p : ℕ → Bool) (xs : List ℕ) (i d : ℕ) → list_all p xs ≡ true → i < length xs → p (get_or xs i d) ≡ true
+pub all_get : (p : ℕ → Bool) (xs : List ℕ) (i d : ℕ) → list_all p xs ≡ true → i < length xs → p (get_or xs i d) ≡ true
 all_get p [] i d a lt = absurd (omega arith)
 all_get p (x ∷ xs) zero d a lt = (and_parts (p x) (list_all p xs) a).0
 all_get p (x ∷ xs) (suc i) d a lt = all_get p xs i d (and_parts (p x) (list_all p xs) a).1 (omega arith)

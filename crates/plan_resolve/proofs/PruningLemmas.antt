@@ -1,5 +1,5 @@
 -- Taking away, round after round, the places that do not hold.
-use Rattle.std.proofs.Common.{◌≡◌, ℕ, Bool, true, false, cond, ◌&&◌, ◌||◌, List, [], ◌∷◌, refl, sym, ◌∙◌, ap, subst, inl, inr, suc, length, ◌<◌, ◌≤◌, arith, not, Some, None}
+use Rattle.std.proofs.Common.{◌≡◌, ℕ, Bool, true, false, cond, ◌&&◌, ◌||◌, List, [], ◌∷◌, refl, sym, ◌∙◌, ap, subst, inl, inr, suc, length, ◌<◌, ◌≤◌, arith, not, get_or, Some, None}
 use Rattle.std.specs.Bool.{then_some}
 use Rattle.std.specs.Option.{option_map}
 use Rattle.std.specs.Prelude.{◌==◌, nat_lt, slice_get}
@@ -8,7 +8,8 @@ use Rattle.std.proofs.lemmas.Bool.{and_parts, and_from, or_cases, or_left, or_ri
 use Rattle.std.proofs.lemmas.List.Elements.{filter_agree}
 use Rattle.plan_resolve.specs.declared.rows.TrialRow.{TrialRow}
 use Rattle.plan_resolve.specs.Trials.{is_in, holds, is_closed, places, largest, is_optional_at, is_passing, kept_if, kept_of}
-use Rattle.plan_resolve.specs.Pruning.{required_hold}
+use Rattle.plan_resolve.specs.Pruning.{fails, required_hold}
+use Rattle.plan_resolve.proofs.NearLemmas.{all_get}
 use Rattle.plan_resolve.proofs.LargestLemmas.{Within, all_at, all_from, in_filter, filter_filter, closed_within_filter, in_largest, in_some, largest_closed, largest_is}
 
 -- whether a required place is in the set
@@ -103,6 +104,23 @@ on_the_way_fails trial set way fails =
             | inr q ↦ or_left (p i) optional (and_parts (p i) (is_in i set) (sym (in_filter p i set)
                 ∙ closed_within_filter trial most set closed (way.most most closed within) i q)).0
           ])))
+    ])
+
+not_both : (holds optional : Bool) → (not optional && not holds) ≡ true → (holds || optional) ≡ true → ⊥
+not_both true true f h = absurd cc
+not_both true false f h = absurd cc
+not_both false true f h = absurd cc
+not_both false false f h = absurd cc
+
+-- where a required place does not hold among all, the trial fails
+pub fails_at_once : (trial : List TrialRow) (i : ℕ) → i < length (places trial) → fails trial (places trial) (get_or (places trial) i 0) ≡ true → kept_of trial ≡ None
+fails_at_once trial i lt fail =
+    let all = places trial in
+    let place = get_or all i 0 in
+    on_the_way_fails trial all (on_the_way_start trial) (elim (cases_Bool (required_hold trial all)) as (λ _. required_hold trial all ≡ false) [
+      | inr e ↦ e
+      | inl e ↦ absurd (not_both (holds trial all place) (is_optional_at (slice_get trial place)) fail
+          (all_get (λ j. holds trial all j || is_optional_at (slice_get trial j)) all i 0 e lt))
     ])
 
 -- where nothing is taken away any more, the set is the largest, and the trial passes unless it is empty

@@ -1,5 +1,5 @@
 -- One round of taking away the buildpacks that do not hold.
-use Rattle.std.specs.Prelude.{ℕ, Bool, true, List, [], ◌∷◌, ◌&&◌, ◌||◌, nat_lt, reverse, slice_get, if◌then◌else◌, Option, Some, None}
+use Rattle.std.specs.Prelude.{ℕ, Bool, true, List, [], ◌∷◌, ◌&&◌, ◌||◌, not, nat_lt, reverse, slice_get, if◌then◌else◌, Option, Some, None}
 use Rattle.std.specs.List.{filter, list_any, list_all}
 use Rattle.plan_resolve.specs.declared.rows.TrialRow.{TrialRow}
 use Rattle.plan_resolve.specs.Trials.{has_name, has_need, provided_at, required_at, holds, is_optional_at}
@@ -21,6 +21,10 @@ is_required_by trial places name = list_any (λ place. has_need (required_at tri
 abbrev pub row_holds : List TrialRow → List ℕ → List ℕ → TrialRow → Bool
 row_holds trial before behind row =
     list_all (λ need. is_provided_by trial (reverse before) need.name) row.needs && list_all (is_required_by trial behind) row.provides
+
+-- whether a required place of a set does not hold
+abbrev pub fails : List TrialRow → List ℕ → ℕ → Bool
+fails trial set place = not (is_optional_at (slice_get trial place)) && not (holds trial set place)
 
 -- whether each of a set's places, the required ones at least, holds
 abbrev pub required_hold : List TrialRow → List ℕ → Bool

@@ -1,9 +1,9 @@
 // Which buildpacks of a trial hold together: those that do not are taken away until nothing changes.
-ghost use Rattle.std.specs.Prelude.{◌≡◌, ◌<◌, ◌^◌, IsTrue, IfOk, length, reverse, slice_get, slice_index};
+ghost use Rattle.std.specs.Prelude.{◌≡◌, ◌<◌, ◌^◌, IsTrue, IfOk, IfSome, IfNone, length, reverse, slice_get, slice_index};
 ghost use Rattle.std.specs.Option.{option_map};
 ghost use Rattle.std.specs.List.{list_all};
 ghost use Rattle.plan_resolve.specs.Trials.{has_name, has_need, provided_at, required_at, holds, is_optional_at, numbers_below, kept_of};
-ghost use Rattle.plan_resolve.specs.Pruning.{is_ascending, is_provided_by, is_required_by, row_holds, holding_of};
+ghost use Rattle.plan_resolve.specs.Pruning.{is_ascending, is_provided_by, is_required_by, row_holds, fails, required_hold, holding_of};
 
 use crate::borrowed::BorrowedRow;
 use cnb_toml::Need;
@@ -119,7 +119,35 @@ fn holding(alloc: Global, trial: &[BorrowedRow], set: &[u32]) -> Result<Option<V
     Ok(Some(held))
 }
 
-fn numbers_below(alloc: Global, count: u32) -> Result<Vec<u32>, Memory>
+/// Whether a required buildpack of a set does not hold.
+fn fails(trial: &[BorrowedRow], set: &[u32], index: usize) -> bool
+    requires within { index < length set.now }
+    requires ascending { IsTrue (is_ascending set.now) }
+    ensures { result ≡ fails trial.now set.now (slice_index set.now index) }
+{
+    !is_optional(trial, set[index]) && !holds(trial, set, index)
+}
+
+/// Where in a set a required buildpack does not hold, if one does not. The likeliest index is looked at first.
+pub fn failing(trial: &[BorrowedRow], set: &[u32], likely: usize) -> Option<usize>
+    requires { IsTrue (is_ascending set.now) }
+    ensures within { IfSome result (λ index. index < length set.now) }
+    ensures fails { IfSome result (λ index. IsTrue (fails trial.now set.now (slice_index set.now index))) }
+    ensures none { IfNone result (IsTrue (required_hold trial.now set.now)) }
+{
+    if likely < set.len() && fails(trial, set, likely) {
+        return Some(likely);
+    }
+    for index in 0..set.len() {
+        if fails(trial, set, index) {
+            return Some(index);
+        }
+    }
+    None
+}
+
+/// The numbers below a count, ascending.
+pub fn numbers_below(alloc: Global, count: u32) -> Result<Vec<u32>, Memory>
     ensures { IfOk result (λ numbers. numbers.items ≡ numbers_below count) }
 {
     let mut numbers = Vec::with_capacity(alloc, count as usize)?;

@@ -8,7 +8,7 @@ use crate::borrowed::BorrowedRow;
 use crate::choosing::{chosen, trial_count};
 use crate::kept_rows::kept_rows;
 use crate::plan::plan;
-use crate::pruning::kept_places;
+use crate::pruning::{failing, kept_places, numbers_below};
 use crate::rows::{Alive, AliveRow, Resolved};
 use cnb_world::{List, Memory};
 use std::alloc::Global;
@@ -54,15 +54,20 @@ fn resolved<'a>(
     })
 }
 
-/// The first of all trials that passes.
+/// The first of all trials that passes. Where a trial fails at once, the buildpack that it fails by is most likely the one
+/// that the next trial fails by.
 fn first_passing(alloc: Global, rows: &[AliveRow], trials: u32) -> Result<Option<Resolved>, Memory>
     requires len { length rows.now < 2 ^ 32 }
     requires count { trials ≡ choice_count rows.now }
     ensures { IfOk result (λ passing. passing ≡ first_passing rows.now 0 (choices_of rows.now)) }
 {
+    let all = numbers_below(alloc, rows.len() as u32)?;
+    let mut likely = 0;
     for number in 0..trials {
         let trial = chosen(alloc, rows, trials, number)?;
-        if let Some(places) = kept_places(alloc, trial.as_slice())? {
+        if let Some(index) = failing(trial.as_slice(), all.as_slice(), likely) {
+            likely = index;
+        } else if let Some(places) = kept_places(alloc, trial.as_slice())? {
             let resolved = resolved(
                 alloc,
                 rows,
