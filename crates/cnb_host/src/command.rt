@@ -1,10 +1,10 @@
-// The command of a detect child.
+// The commands of children.
 ghost use Rattle.std.specs.Prelude.{◌≡◌, ◌∷◌, [], ℕ, List as Seq, IfOk, OnOk, Some, true, option_map, if◌then◌else◌};
 ghost use Rattle.std.specs.Str.{bytes_eq};
-ghost use Rattle.std.specs.Process.{command_program, command_args, command_var, command_dir, clears_env, SameProgramAndArgs, SameDir};
+ghost use Rattle.std.specs.Process.{command_program, command_args, command_var, command_dir, clears_env, SameProgramAndArgs, SameEnv, SameDir};
 ghost use Rattle.cnb_world.specs.Env.{value_of};
 
-use cnb_world::{DetectJob, Env};
+use cnb_world::{ChildJob, DetectJob, Env, Path, Text};
 use std::alloc::{AllocError, Global};
 use std::process::{Command, Stdio};
 
@@ -20,11 +20,49 @@ pub fn detect_command(alloc: Global, job: &DetectJob) -> Result<Command, AllocEr
     let mut command = Command::new(alloc, job.program.as_str())?;
     command.arg(job.platform.as_str())?;
     command.arg(job.plan.as_str())?;
-    command.current_dir(job.dir.as_str())?;
     command.stdin(Stdio::null());
-    command.env_clear();
-    set_variables(&mut command, &job.env)?;
+    set_surroundings(&mut command, &job.dir, &job.env)?;
     Ok(command)
+}
+
+/// The command of a job: its program with its arguments, in its folder, with exactly its environment. It inherits
+/// standard input and the two outputs.
+pub fn child_command(alloc: Global, job: &ChildJob) -> Result<Command, AllocError>
+    ensures program { IfOk result (λ command. command_program command ≡ job.now.program) }
+    ensures args { IfOk result (λ command. command_args command ≡ job.now.args) }
+    ensures dir { IfOk result (λ command. command_dir command ≡ Some job.now.dir) }
+    ensures clears { IfOk result (λ command. clears_env command ≡ true) }
+    ensures vars { IfOk result (λ command. (name : Seq ℕ) → command_var command name ≡ option_map Some (value_of job.now.env name)) }
+{
+    let mut command = Command::new(alloc, job.program.as_str())?;
+    add_arguments(&mut command, job.args.as_slice())?;
+    set_surroundings(&mut command, &job.dir, &job.env)?;
+    Ok(command)
+}
+
+fn add_arguments(command: &mut Command, args: &[Text]) -> Result<(), AllocError>
+    requires { command_args command.old ≡ [] }
+    ensures args { OnOk result (command_args command.new ≡ args.now) }
+    ensures program { OnOk result (command_program command.new ≡ command_program command.old) }
+    ensures env { OnOk result (SameEnv command.old command.new) }
+{
+    for arg in args {
+        command.arg(arg.as_str())?;
+    }
+    Ok(())
+}
+
+// Sets the folder, and exactly this environment.
+fn set_surroundings(command: &mut Command, dir: &Path, env: &Env) -> Result<(), AllocError>
+    ensures call { OnOk result (SameProgramAndArgs command.old command.new) }
+    ensures dir { OnOk result (command_dir command.new ≡ Some dir.now) }
+    ensures clears { OnOk result (clears_env command.new ≡ true) }
+    ensures vars { OnOk result ((name : Seq ℕ) → command_var command.new name ≡ option_map Some (value_of env.now name)) }
+{
+    command.current_dir(dir.as_str())?;
+    command.env_clear();
+    set_variables(command, env)?;
+    Ok(())
 }
 
 // From the last variable to the first.

@@ -6,11 +6,11 @@
 ghost use Rattle.std.specs.Prelude.{◌≤◌, IfOk, length};
 
 use crate::fault::HostFault;
-use cnb_world::{Bytes, Kind};
+use cnb_world::{Bytes, Kind, Text};
 use std::alloc::Global;
 use std::fs::{Metadata, OpenFile, OpenOptions};
 use std::io::{ErrorKind, Read, Seek, SeekFrom, Write};
-use std::os::unix::fs::{MetadataExt, OpenOptionsExt};
+use std::os::unix::fs::{MetadataExt, OpenOptionsExt, symlink};
 use std::rt::Files;
 use std::{fs, io};
 
@@ -162,5 +162,28 @@ pub fn rename_file(rt: &impl Files, old: &str, new: &str) -> Result<(), HostFaul
     match (kind_at(rt, old)?, kind_at(rt, new)?) {
         (Kind::File { .. }, Kind::File { .. } | Kind::Absent) => Ok(fs::rename(rt, old, new)?),
         _ => Err(HostFault::Failed),
+    }
+}
+
+/// Makes a link, where nothing stands.
+pub fn make_link_at(rt: &impl Files, path: &str, target: &str) -> Result<(), HostFault> {
+    Ok(symlink(rt, target, path)?)
+}
+
+/// The target of the link at a path. A target that is not UTF-8 is a failure.
+pub fn link_target<R: Files + AllocGlobal>(rt: &R, path: &str) -> Result<Text, HostFault> {
+    let target = fs::read_link(rt, path)?;
+    Ok(Text::from_string(target.into_string()))
+}
+
+/// Takes away what stands at a path and below it. A link goes, and not what it points to.
+pub fn remove_at<R: Files + AllocGlobal>(rt: &R, path: &str) -> Result<(), HostFault> {
+    if path == "/" {
+        return Err(HostFault::Failed);
+    }
+    match kind_at(rt, path)? {
+        Kind::Absent => Ok(()),
+        Kind::Folder => Ok(fs::remove_dir_all(rt, path)?),
+        Kind::File { .. } | Kind::Link | Kind::Odd => Ok(fs::remove_file(rt, path)?),
     }
 }

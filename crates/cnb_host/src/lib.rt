@@ -14,7 +14,7 @@ mod sink;
 mod spawner;
 mod world;
 
-pub use command::detect_command;
+pub use command::{child_command, detect_command};
 pub use process::{StartFault, environment, words};
 pub use sink::StdoutSink;
 pub use spawner::HostSpawner;

@@ -6,8 +6,7 @@ ghost use Rattle.cnb_world.specs.Calls.{CountsDetect};
 use crate::command::detect_command;
 use crate::fault::HostFault;
 use crate::files::{fresh_file, make_folders, read_part};
-use cnb_world::{Bytes, DetectFault, DetectJob, Memory, Probed, Spawner, parent_text};
-use std::alloc::Global;
+use cnb_world::{Bytes, DetectFault, DetectJob, Probed, Spawner, parent_text};
 use std::marker::Model;
 use std::process::Processes;
 use std::rt::Files;
@@ -68,7 +67,7 @@ impl<R: Files + Processes + AllocGlobal + Drop> HostSpawner<R> {
         ensures faults { self.new.faults ≡ self.old.faults }
     {
         let alloc = self.rt.alloc();
-        let kept = copy_job(alloc, job)?;
+        let kept = job.copy(alloc)?;
         self.runs.reserve(1)?;
         let code = run_child(&self.rt, job)?;
         let plan = read_part(&self.rt, alloc, job.plan.as_str(), 0, PLAN_MAX)?;
@@ -112,20 +111,6 @@ impl<R: Files + Processes + AllocGlobal + Drop> Spawner for HostSpawner<R> {
         let outcome = self.run_job(job);
         self.counted(outcome)
     }
-}
-
-fn copy_job(alloc: Global, job: &DetectJob) -> Result<DetectJob, Memory>
-    ensures { IfOk result (λ copy. copy ≡ job.now) }
-{
-    Ok(DetectJob {
-        id: job.id.copy(alloc)?,
-        version: job.version.copy(alloc)?,
-        program: job.program.copy(alloc)?,
-        platform: job.platform.copy(alloc)?,
-        plan: job.plan.copy(alloc)?,
-        env: job.env.copy()?,
-        dir: job.dir.copy(alloc)?,
-    })
 }
 
 // Makes the plan file, runs the child and waits for it. A child that a signal ended has no code.

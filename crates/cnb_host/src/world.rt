@@ -1,63 +1,134 @@
-// Files of the system as a world.
-ghost use Rattle.std.specs.Prelude.{◌≡◌, None, []};
+// Files and children of the system as a world.
+ghost use Rattle.std.specs.Prelude.{◌≡◌, ◌≤◌, ◌++◌, ◌∷◌, [], None, false, IfOk, OnErr, length};
 ghost use Rattle.std.specs.Result.{result_ok};
-ghost use Rattle.cnb_world.specs.Calls.{CountsFailed};
+ghost use Rattle.cnb_world.specs.Calls.{CountsChild, CountsFailed};
 
+use crate::command::child_command;
 use crate::fault::HostFault;
-use crate::files::{append_bytes, create_file, kind_at, make_folders, read_part, rename_file};
+use crate::files::{
+    append_bytes, create_file, kind_at, link_target, make_folders, make_link_at, read_part,
+    remove_at, rename_file,
+};
 use crate::names::names_in;
-use cnb_world::{Bytes, FileFault, Kind, List, Path, Text, World};
+use cnb_world::{Bytes, ChildFault, ChildJob, End, FileFault, Kind, List, Path, Text, World};
 use std::marker::Model;
+use std::process::Processes;
 use std::rt::Files;
 
-/// The files of the system, which contracts see as the count of the calls that failed. What the files hold isn't told. A
-/// call that does not fit what stands at its path, as a read of a folder, fails here as it does in memory.
+/// The files and programs of the system, which contracts see as the list of the children that ended and the counts of
+/// the calls that failed. What the files hold isn't told. A call that does not fit what stands at its path, as a read
+/// of a folder, fails here as it does in memory.
 #[derive(Drop)]
-pub struct HostWorld<R: Files + AllocGlobal + Clone + Drop> {
+pub struct HostWorld<R: Files + Processes + AllocGlobal + Clone + Drop> {
     rt: R,
-    faults: u64,
+    runs: Vec<Row>,
+    file_faults: u64,
+    child_faults: u64,
 }
 
-impl<R: Files + AllocGlobal + Clone + Drop> Model for HostWorld<R> {
-    ghost use Rattle.std.specs.Prelude.{ℕ};
-
-    ghost Value = { ℕ };
-
-    ghost view = { λ world. world.faults };
+// A child that ended.
+#[derive(Drop)]
+struct Row {
+    job: ChildJob,
+    end: End,
 }
 
-impl<R: Files + AllocGlobal + Clone + Drop> HostWorld<R> {
+impl Model for Row {
+    ghost use Rattle.std.specs.Prelude.{None};
+    ghost use Rattle.cnb_world.specs.Runs.{Run};
+
+    ghost Value = { Run };
+
+    ghost view = { λ row. record { job = row.job; end = row.end; found = None; left = None } };
+}
+
+impl<R: Files + Processes + AllocGlobal + Clone + Drop> Model for HostWorld<R> {
+    ghost use Rattle.cnb_host.specs.System.{System};
+
+    ghost Value = { System };
+
+    ghost view = { λ world. record { runs = world.runs.items; file_faults = world.file_faults; child_faults = world.child_faults } };
+}
+
+impl<R: Files + Processes + AllocGlobal + Clone + Drop> HostWorld<R> {
     pub fn new(rt: R) -> HostWorld<R>
-        ensures { result ≡ 0 }
+        ensures runs { result.runs ≡ [] }
+        ensures files { result.file_faults ≡ 0 }
+        ensures children { result.child_faults ≡ 0 }
     {
-        HostWorld { rt, faults: 0 }
+        let runs = Vec::new(rt.alloc());
+        HostWorld {
+            rt,
+            runs,
+            file_faults: 0,
+            child_faults: 0,
+        }
     }
 
     fn counted<T>(&mut self, outcome: Result<T, HostFault>) -> Result<T, FileFault>
         ensures value { result_ok result ≡ result_ok outcome }
-        ensures faults { CountsFailed result self.old self.new }
+        ensures files { CountsFailed result self.old.file_faults self.new.file_faults }
+        ensures children { self.new.child_faults ≡ self.old.child_faults }
+        ensures runs { self.new.runs ≡ self.old.runs }
     {
         match outcome {
             Ok(value) => Ok(value),
             Err(HostFault::Failed) => {
-                self.faults = self.faults.saturating_add(1);
+                self.file_faults = self.file_faults.saturating_add(1);
                 Err(FileFault::Failed)
             }
             Err(HostFault::Memory) => Err(FileFault::Memory),
         }
     }
+
+    fn counted_end(&mut self, outcome: Result<End, HostFault>) -> Result<End, ChildFault>
+        ensures value { result_ok result ≡ result_ok outcome }
+        ensures children { CountsChild result self.old.child_faults self.new.child_faults }
+        ensures files { self.new.file_faults ≡ self.old.file_faults }
+        ensures runs { self.new.runs ≡ self.old.runs }
+    {
+        match outcome {
+            Ok(end) => Ok(end),
+            Err(HostFault::Failed) => {
+                self.child_faults = self.child_faults.saturating_add(1);
+                Err(ChildFault::Failed)
+            }
+            Err(HostFault::Memory) => Err(ChildFault::Memory),
+        }
+    }
+
+    // Takes the memory for the child's row before the child starts.
+    fn run_job(&mut self, job: &ChildJob) -> Result<End, HostFault>
+        ensures ok { IfOk result (λ end. self.new.runs ≡ self.old.runs ++ record { job = job.now; end = end; found = None; left = None } ∷ []) }
+        ensures bound { IfOk result (λ end. length end.side ≤ 1048577) }
+        ensures side { job.now.side ≡ false → IfOk result (λ end. end.side ≡ []) }
+        ensures err { OnErr result (self.new.runs ≡ self.old.runs) }
+        ensures files { self.new.file_faults ≡ self.old.file_faults }
+        ensures children { self.new.child_faults ≡ self.old.child_faults }
+    {
+        let alloc = self.rt.alloc();
+        let kept = job.copy(alloc)?;
+        self.runs.reserve(1)?;
+        let end = run_child(&self.rt, job)?;
+        let row = Row {
+            job: kept,
+            end: end.copy(alloc)?,
+        };
+        self.runs.push(row)?;
+        Ok(end)
+    }
 }
 
-impl<R: Files + AllocGlobal + Clone + Drop> World for HostWorld<R> {
+impl<R: Files + Processes + AllocGlobal + Clone + Drop> World for HostWorld<R> {
     ghost tree = { λ _. None };
 
-    ghost file_faults = { λ count. count };
+    ghost file_faults = { λ world. world.file_faults };
 
-    ghost child_faults = { λ _. 0 };
+    ghost child_faults = { λ world. world.child_faults };
 
     ghost misused = { λ _. 0 };
 
-    ghost runs = { λ _. [] };
+    ghost runs = { λ world. world.runs };
 
     fn kind(&mut self, path: &Path) -> Result<Kind, FileFault> {
         let kind = kind_at(&self.rt, path.as_str());
@@ -93,4 +164,39 @@ impl<R: Files + AllocGlobal + Clone + Drop> World for HostWorld<R> {
         let renamed = rename_file(&self.rt, old.as_str(), new.as_str());
         self.counted(renamed)
     }
+
+    fn make_link(&mut self, path: &Path, target: &str) -> Result<(), FileFault> {
+        let made = make_link_at(&self.rt, path.as_str(), target);
+        self.counted(made)
+    }
+
+    fn read_link(&mut self, path: &Path) -> Result<Text, FileFault> {
+        let target = link_target(&self.rt, path.as_str());
+        self.counted(target)
+    }
+
+    fn remove(&mut self, path: &Path) -> Result<(), FileFault> {
+        let removed = remove_at(&self.rt, path.as_str());
+        self.counted(removed)
+    }
+
+    fn run(&mut self, job: &ChildJob) -> Result<End, ChildFault> {
+        let outcome = self.run_job(job);
+        self.counted_end(outcome)
+    }
+}
+
+// Runs the child and waits for it. A child that a signal ended has no code.
+fn run_child<R: Files + Processes + AllocGlobal>(rt: &R, job: &ChildJob) -> Result<End, HostFault>
+    ensures bound { IfOk result (λ end. length end.side ≤ 1048577) }
+    ensures side { job.now.side ≡ false → IfOk result (λ end. end.side ≡ []) }
+{
+    if job.side {
+        return Err(HostFault::Failed);
+    }
+    let status = child_command(rt.alloc(), job)?.status(rt)?;
+    Ok(End {
+        code: status.code(),
+        side: Bytes::from_vec(Vec::new(rt.alloc())),
+    })
 }

@@ -1,10 +1,11 @@
 // Files.
-ghost use Rattle.std.specs.Prelude.{◌≡◌, ◌≤◌, List as Seq, ℕ, length, take, drop, Option, IfOk, IfSome, OnOk, OnErr};
+ghost use Rattle.std.specs.Prelude.{◌≡◌, ◌≤◌, List as Seq, ℕ, length, take, drop, Option, IfOk, IfSome, OnOk, OnErr, not, false, is_some, ◌++◌, ◌∷◌, []};
 ghost use Rattle.std.specs.Option.{option_map};
-ghost use Rattle.cnb_world.specs.Tree.{Tree, item_at, kind_of, bytes_of, can_list, can_read, can_create, can_make_folder, can_rename, created, appended, folder_made, renamed, Lists};
-ghost use Rattle.cnb_world.specs.Calls.{CountsFailed, CountsMisuse, AreNames, AppendsSome};
+ghost use Rattle.cnb_world.specs.Tree.{Tree, item_at, kind_of, bytes_of, can_list, can_read, can_create, can_make_folder, can_make_link, can_read_link, can_rename, created, appended, folder_made, is_root, linked, renamed, target_of, without, Lists};
+ghost use Rattle.cnb_world.specs.Calls.{CountsChild, CountsFailed, CountsMisuse, AreNames, AppendsSome, RemovesSome};
 ghost use Rattle.cnb_world.specs.Runs.{Run};
 
+use crate::child::{ChildFault, ChildJob, End};
 use crate::path::Path;
 use crate::values::{Bytes, List, Memory, Text};
 use std::alloc::AllocError;
@@ -64,7 +65,7 @@ impl From<AllocError> for FileFault {
     }
 }
 
-/// Files and folders. Where the tree is told, a call whose path has another kind than it needs fails, and is counted.
+/// Files, and children that run over them. Where the tree is told, a call whose path has another kind than it needs fails, and is counted.
 pub trait World {
     /// What stands at each path, where it is told.
     ghost tree: { Self → Option Tree };
@@ -145,4 +146,43 @@ pub trait World {
         ensures children { child_faults self.new ≡ child_faults self.old }
         ensures runs { runs self.new ≡ runs self.old }
         ensures misused { CountsMisuse (option_map (λ t. can_rename t old.now new.now) (tree self.old)) result (misused self.old) (misused self.new) };
+
+    /// Makes a link, where nothing stands.
+    fn make_link(&mut self, path: &Path, target: &str) -> Result<(), FileFault>
+        ensures ok { OnOk result (tree self.new ≡ option_map (linked path.now target.now) (tree self.old)) }
+        ensures err { OnErr result (tree self.new ≡ tree self.old) }
+        ensures files { CountsFailed result (file_faults self.old) (file_faults self.new) }
+        ensures children { child_faults self.new ≡ child_faults self.old }
+        ensures runs { runs self.new ≡ runs self.old }
+        ensures misused { CountsMisuse (option_map (λ t. can_make_link t path.now) (tree self.old)) result (misused self.old) (misused self.new) };
+
+    /// The target of the link.
+    fn read_link(&mut self, path: &Path) -> Result<Text, FileFault>
+        ensures told { IfSome (tree self.old) (λ t. IfOk result (λ target. target ≡ target_of (item_at t path.now))) }
+        ensures tree { tree self.new ≡ tree self.old }
+        ensures files { CountsFailed result (file_faults self.old) (file_faults self.new) }
+        ensures children { child_faults self.new ≡ child_faults self.old }
+        ensures runs { runs self.new ≡ runs self.old }
+        ensures misused { CountsMisuse (option_map (λ t. can_read_link t path.now) (tree self.old)) result (misused self.old) (misused self.new) };
+
+    /// Takes away what stands at the path and below it.
+    fn remove(&mut self, path: &Path) -> Result<(), FileFault>
+        ensures ok { OnOk result (tree self.new ≡ option_map (without path.now) (tree self.old)) }
+        ensures err { OnErr result (RemovesSome (tree self.old) (tree self.new) path.now) }
+        ensures files { CountsFailed result (file_faults self.old) (file_faults self.new) }
+        ensures children { child_faults self.new ≡ child_faults self.old }
+        ensures runs { runs self.new ≡ runs self.old }
+        ensures misused { CountsMisuse (option_map (λ _. not (is_root path.now)) (tree self.old)) result (misused self.old) (misused self.new) };
+
+    /// Runs the child to its end. It may change the files.
+    fn run(&mut self, job: &ChildJob) -> Result<End, ChildFault>
+        ensures ok { IfOk result (λ end. runs self.new ≡ runs self.old ++ record { job = job.now; end = end; found = tree self.old; left = tree self.new } ∷ []) }
+        ensures bound { IfOk result (λ end. length end.side ≤ 1048577) }
+        ensures side { job.now.side ≡ false → IfOk result (λ end. end.side ≡ []) }
+        ensures told { is_some (tree self.new) ≡ is_some (tree self.old) }
+        ensures err { OnErr result (runs self.new ≡ runs self.old) }
+        ensures err_tree { OnErr result (tree self.new ≡ tree self.old) }
+        ensures files { file_faults self.new ≡ file_faults self.old }
+        ensures children { CountsChild result (child_faults self.old) (child_faults self.new) }
+        ensures misused { misused self.new ≡ misused self.old };
 }

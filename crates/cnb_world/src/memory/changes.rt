@@ -1,15 +1,16 @@
 // A tree in memory, as the changes that made it.
 ghost use Rattle.std.specs.Prelude.{◌≡◌, ◌+◌, ◌≤◌, ◌<◌, ◌^◌, ◌++◌, ◌∷◌, [], IfOk, OnOk, OnErr, IsTrue, length, take, drop, is_some, Some, not, ◌||◌, false, slice_index};
 ghost use Rattle.std.specs.FinMap.{get, insert};
-ghost use Rattle.cnb_world.specs.Tree.{item_at, kind_of, bytes_of, is_folder, is_file, is_file_or_absent, can_make_folder, folders_from, folders_above, with_folders, folder_made, appended, renamed, Lists};
+ghost use Rattle.cnb_world.specs.Tree.{item_at, kind_of, bytes_of, is_folder, is_file, is_file_or_absent, can_make_folder, folders_from, folders_above, with_folders, folder_made, appended, is_link, renamed, target_of, without, Lists};
 ghost use Rattle.cnb_world.specs.Calls.{AreNames};
 ghost use Rattle.cnb_world.specs.Names.{AddsStanding};
-ghost use Rattle.cnb_world.specs.Memory.{tree_of, changed, bytes_written, length_of_change, length_of_item, placed, all_placed, laid, Extends};
+ghost use Rattle.cnb_world.specs.Memory.{tree_of, changed, bytes_written, length_of_change, length_of_item, placed, all_placed, all_without, laid, Extends};
 
-use crate::memory::change::Change;
-use crate::memory::effect::{gather, kind_after};
+use crate::memory::change::{Change, copy_changes};
+use crate::memory::effect::{gather, kind_after, target_after};
 use crate::memory::names::{add_name, name_in};
-use crate::values::{Bytes, Memory, Text};
+use crate::path::Path;
+use crate::values::{Bytes, List, Memory, Text};
 use crate::world::{Item, Kind, Placed};
 use std::alloc::Global;
 
@@ -34,6 +35,27 @@ impl Changes {
         }
     }
 
+    /// The changes once more, as a list.
+    pub fn copied(&self) -> Result<List<Change>, Memory>
+        ensures { IfOk result (λ copy. copy ≡ self.now.list.items) }
+    {
+        copy_changes(self.alloc, &self.list)
+    }
+
+    /// The changes with those that a child makes behind them.
+    pub fn after(&self, removes: &[Path], leaves: Vec<Placed>) -> Result<Changes, Memory>
+        ensures { IfOk result (λ after. tree_of after.list.items ≡ all_placed leaves.items (all_without removes.now (tree_of self.now.list.items))) }
+    {
+        let mut after = Changes {
+            alloc: self.alloc,
+            list: self.copied()?.into_vec(),
+            written: self.written,
+        };
+        after.empty_all(removes)?;
+        after.place_all(leaves)?;
+        Ok(after)
+    }
+
     /// What stands at a path.
     pub fn kind(&self, path: &str) -> Kind
         ensures { result ≡ kind_of (item_at (tree_of self.now.list.items) path.now) }
@@ -51,6 +73,23 @@ impl Changes {
         let mut bytes = Bytes::from_vec(Vec::new(self.alloc));
         gather(&self.list, path, &mut bytes)?;
         Bytes::of(self.alloc, part(bytes.as_slice(), at, max))
+    }
+
+    /// The target of a link.
+    pub fn link_target(&self, path: &str) -> Result<Text, Memory>
+        ensures { IfOk result (λ target. target ≡ target_of (get (tree_of self.now.list.items) path.now)) }
+    {
+        target_after(self.alloc, &self.list, path)
+    }
+
+    /// Whether a link stands at a path.
+    pub fn is_link(&self, path: &str) -> bool
+        ensures { result ≡ is_link (item_at (tree_of self.now.list.items) path.now) }
+    {
+        match self.kind(path) {
+            Kind::Link => true,
+            Kind::Absent | Kind::File { .. } | Kind::Folder | Kind::Odd => false,
+        }
     }
 
     /// Whether something stands at a path.
@@ -251,12 +290,24 @@ impl Changes {
         Ok(())
     }
 
-    fn empty(&mut self, path: &str) -> Result<(), Memory>
+    /// Takes away what stands at a path and below it.
+    pub fn empty(&mut self, path: &str) -> Result<(), Memory>
+        ensures tree { OnOk result (tree_of self.new.list.items ≡ without path.now (tree_of self.old.list.items)) }
         ensures ok { OnOk result (self.new.list.items ≡ self.old.list.items ++ Change.Emptied path.now ∷ []) }
         ensures err { OnErr result (self.new.list.items ≡ self.old.list.items) }
     {
         let path = Text::of(self.alloc, path)?;
-        self.push(Change::Emptied { path }, 0)
+        self.push(Change::Emptied { path }, 0)?;
+        Ok(())
+    }
+
+    fn empty_all(&mut self, paths: &[Path]) -> Result<(), Memory>
+        ensures { OnOk result (tree_of self.new.list.items ≡ all_without paths.now (tree_of self.old.list.items)) }
+    {
+        for path in paths {
+            self.empty(path.as_str())?;
+        }
+        Ok(())
     }
 
     /// Whether nothing but folders, or nothing, stands at a path and above it.

@@ -1,35 +1,29 @@
 // A world in memory, with the calls that fail.
-ghost use Rattle.std.specs.Prelude.{◌≡◌, ◌&&◌, Some, [], IfOk};
+ghost use Rattle.std.specs.Prelude.{◌≡◌, ◌&&◌, ◌++◌, ◌∷◌, Some, [], IfOk, OnOk, OnErr};
 ghost use Rattle.std.specs.FinMap.{empty};
-ghost use Rattle.cnb_world.specs.Tree.{can_create, can_rename};
+ghost use Rattle.cnb_world.specs.Tree.{can_create, can_make_link, can_rename};
 ghost use Rattle.cnb_world.specs.Calls.{Rose};
-ghost use Rattle.cnb_world.specs.Memory.{tree_of, all_placed};
+ghost use Rattle.cnb_world.specs.Memory.{tree_of, all_placed, all_ran_over};
 
-use crate::child::End;
+use crate::child::{ChildFault, ChildJob, End};
 use crate::memory::changes::Changes;
 use crate::memory::numbers::{Numbers, raised};
+use crate::memory::play::{ChildRun, Play};
 use crate::path::{Path, parent_text};
 use crate::values::{Bytes, List, Memory, Text};
 use crate::world::{FileFault, Item, Kind, Placed, World};
 use std::alloc::Global;
-
-/// What a child of a program does: it ends so, after it removed paths with all below them and left items.
-#[derive(Drop)]
-pub struct Play {
-    pub program: Text,
-    pub end: End,
-    pub removes: List<Path>,
-    pub leaves: List<Placed>,
-}
 
 /// A world in memory. Calls are numbered from 0, and those of the given numbers are counted faults.
 #[derive(Drop)]
 pub struct MemWorld {
     alloc: Global,
     changes: Changes,
-    script: List<Play>,
+    script: Vec<Play>,
+    ran: Vec<ChildRun>,
     numbers: Numbers,
     file_faults: u64,
+    child_faults: u64,
     misused: u64,
 }
 
@@ -48,9 +42,11 @@ impl MemWorld {
         Ok(MemWorld {
             alloc,
             changes,
-            script,
+            script: script.into_vec(),
+            ran: Vec::new(alloc),
             numbers: Numbers::new(faulty),
             file_faults: 0,
+            child_faults: 0,
             misused: 0,
         })
     }
@@ -59,6 +55,8 @@ impl MemWorld {
     fn fault(&mut self) -> FileFault
         ensures fault { result ≡ FileFault.Failed }
         ensures changes { self.new.changes ≡ self.old.changes }
+        ensures ran { self.new.ran ≡ self.old.ran }
+        ensures children { self.new.child_faults ≡ self.old.child_faults }
         ensures misused { self.new.misused ≡ self.old.misused }
         ensures files { Rose self.old.file_faults self.new.file_faults }
     {
@@ -70,6 +68,8 @@ impl MemWorld {
     fn misuse(&mut self) -> FileFault
         ensures fault { result ≡ FileFault.Failed }
         ensures changes { self.new.changes ≡ self.old.changes }
+        ensures ran { self.new.ran ≡ self.old.ran }
+        ensures children { self.new.child_faults ≡ self.old.child_faults }
         ensures misused { Rose self.old.misused self.new.misused }
         ensures files { Rose self.old.file_faults self.new.file_faults }
     {
@@ -78,10 +78,41 @@ impl MemWorld {
         FileFault::Failed
     }
 
+    // Counts a child that gave no end.
+    fn child_fault(&mut self) -> ChildFault
+        ensures fault { result ≡ ChildFault.Failed }
+        ensures changes { self.new.changes ≡ self.old.changes }
+        ensures ran { self.new.ran ≡ self.old.ran }
+        ensures files { self.new.file_faults ≡ self.old.file_faults }
+        ensures misused { self.new.misused ≡ self.old.misused }
+        ensures children { Rose self.old.child_faults self.new.child_faults }
+    {
+        self.child_faults = raised(self.child_faults);
+        ChildFault::Failed
+    }
+
+    fn add_row(&mut self, row: ChildRun) -> Result<(), Memory>
+        ensures ok { OnOk result (self.new.ran.items ≡ self.old.ran.items ++ row ∷ []) }
+        ensures err { OnErr result (self.new.ran.items ≡ self.old.ran.items) }
+        ensures changes { self.new.changes ≡ self.old.changes }
+        ensures files { self.new.file_faults ≡ self.old.file_faults }
+        ensures children { self.new.child_faults ≡ self.old.child_faults }
+        ensures misused { self.new.misused ≡ self.old.misused }
+    {
+        self.ran.push(row)?;
+        Ok(())
+    }
+
     fn can_create(&self, path: &str) -> bool
         ensures { result ≡ can_create (tree_of self.now.changes.list.items) path.now }
     {
         self.changes.is_file_or_absent(path) && self.changes.is_folder(parent_text(path))
+    }
+
+    fn can_make_link(&self, path: &str) -> bool
+        ensures { result ≡ can_make_link (tree_of self.now.changes.list.items) path.now }
+    {
+        !self.changes.stands(path) && self.changes.is_folder(parent_text(path))
     }
 
     fn can_rename(&self, old: &str, new: &str) -> bool
@@ -98,11 +129,11 @@ impl World for MemWorld {
 
     ghost file_faults = { λ w. w.file_faults };
 
-    ghost child_faults = { λ _. 0 };
+    ghost child_faults = { λ w. w.child_faults };
 
     ghost misused = { λ w. w.misused };
 
-    ghost runs = { λ _. [] };
+    ghost runs = { λ w. all_ran_over w.ran.items };
 
     fn kind(&mut self, path: &Path) -> Result<Kind, FileFault> {
         if self.numbers.is_next_faulty() {
@@ -181,4 +212,75 @@ impl World for MemWorld {
         self.changes.rename(old.as_str(), new.as_str())?;
         Ok(())
     }
+
+    fn make_link(&mut self, path: &Path, target: &str) -> Result<(), FileFault> {
+        let is_faulty = self.numbers.is_next_faulty();
+        if !self.can_make_link(path.as_str()) {
+            return Err(self.misuse());
+        }
+        if is_faulty {
+            return Err(self.fault());
+        }
+        let target = Text::of(self.alloc, target)?;
+        self.changes.set(path.as_str(), Item::Link { target })?;
+        Ok(())
+    }
+
+    fn read_link(&mut self, path: &Path) -> Result<Text, FileFault> {
+        let is_faulty = self.numbers.is_next_faulty();
+        if !self.changes.is_link(path.as_str()) {
+            return Err(self.misuse());
+        }
+        if is_faulty {
+            return Err(self.fault());
+        }
+        Ok(self.changes.link_target(path.as_str())?)
+    }
+
+    fn remove(&mut self, path: &Path) -> Result<(), FileFault> {
+        let is_faulty = self.numbers.is_next_faulty();
+        if path.as_str() == "/" {
+            return Err(self.misuse());
+        }
+        if is_faulty {
+            return Err(self.fault());
+        }
+        self.changes.empty(path.as_str())?;
+        Ok(())
+    }
+
+    fn run(&mut self, job: &ChildJob) -> Result<End, ChildFault> {
+        if self.numbers.is_next_faulty() {
+            return Err(self.child_fault());
+        }
+        let Some(play) = take_play(&mut self.script, job.program.as_str()) else {
+            return Err(self.child_fault());
+        };
+        let end = play.end_of(self.alloc, job)?;
+        let Play {
+            removes,
+            leaves,
+            ..
+        } = play;
+        let left = self.changes.after(removes.as_slice(), leaves.into_vec())?;
+        let row = ChildRun {
+            job: job.copy(self.alloc)?,
+            end: end.copy(self.alloc)?,
+            found: self.changes.copied()?,
+            left: left.copied()?,
+        };
+        self.add_row(row)?;
+        self.changes = left;
+        Ok(end)
+    }
+}
+
+// Takes the first play of a program out of a script.
+fn take_play(script: &mut Vec<Play>, program: &str) -> Option<Play> {
+    for place in 0..script.len() {
+        if script[place].program.as_str() == program {
+            return Some(script.remove(place));
+        }
+    }
+    None
 }
