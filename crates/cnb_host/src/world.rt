@@ -2,6 +2,7 @@
 ghost use Rattle.std.specs.Prelude.{◌≡◌, ◌≤◌, ◌++◌, ◌∷◌, [], None, false, IfOk, OnErr, length};
 ghost use Rattle.std.specs.Result.{result_ok};
 ghost use Rattle.cnb_world.specs.Calls.{CountsChild, CountsFailed};
+ghost use Rattle.cnb_host.specs.System.{runs_of};
 
 use crate::command::child_command;
 use crate::fault::HostFault;
@@ -34,12 +35,11 @@ struct Row {
 }
 
 impl Model for Row {
-    ghost use Rattle.std.specs.Prelude.{None};
-    ghost use Rattle.cnb_world.specs.Runs.{Run};
+    ghost use Rattle.cnb_host.specs.System.{Ended};
 
-    ghost Value = { Run };
+    ghost Value = { Ended };
 
-    ghost view = { λ row. record { job = row.job; end = row.end; found = None; left = None } };
+    ghost view = { λ row. record { job = row.job; end = row.end } };
 }
 
 impl<R: Files + Processes + AllocGlobal + Clone + Drop> Model for HostWorld<R> {
@@ -99,7 +99,7 @@ impl<R: Files + Processes + AllocGlobal + Clone + Drop> HostWorld<R> {
 
     // Takes the memory for the child's row before the child starts.
     fn run_job(&mut self, job: &ChildJob) -> Result<End, HostFault>
-        ensures ok { IfOk result (λ end. self.new.runs ≡ self.old.runs ++ record { job = job.now; end = end; found = None; left = None } ∷ []) }
+        ensures ok { IfOk result (λ end. self.new.runs ≡ self.old.runs ++ record { job = job.now; end = end } ∷ []) }
         ensures bound { IfOk result (λ end. length end.side ≤ 1048577) }
         ensures side { job.now.side ≡ false → IfOk result (λ end. end.side ≡ []) }
         ensures err { OnErr result (self.new.runs ≡ self.old.runs) }
@@ -128,7 +128,7 @@ impl<R: Files + Processes + AllocGlobal + Clone + Drop> World for HostWorld<R> {
 
     ghost misused = { λ _. 0 };
 
-    ghost runs = { λ world. world.runs };
+    ghost runs = { λ world. runs_of world.runs };
 
     fn kind(&mut self, path: &Path) -> Result<Kind, FileFault> {
         let kind = kind_at(&self.rt, path.as_str());
