@@ -3,7 +3,7 @@ use Rattle.std.proofs.Common.{◌≡◌, ℕ, ◌+◌, ◌-◌, ◌≤◌, true,
 use Rattle.std.specs.Prelude.{nat_le}
 use Rattle.std.specs.List.{list_all}
 use Rattle.std.proofs.lemmas.Bool.{and_parts, and_from, leb-true}
-use Rattle.toml.specs.Data.{Data, Members, no_members, depth, items_depth, members_depth, has_valid_dates, items_have_valid_dates, members_have_valid_dates}
+use Rattle.toml.specs.Data.{Data, string, integer, float, boolean, datetime, array, table, Members, no_members, depth, items_depth, members_depth, has_valid_dates, items_have_valid_dates, members_have_valid_dates}
 use Rattle.toml.specs.View.{items_of}
 use Rattle.cnb_toml.specs.declared.meta.Meta.{Meta}
 use Rattle.cnb_toml.specs.declared.meta.MetaEntry.{MetaEntry}
@@ -12,7 +12,8 @@ use Rattle.cnb_toml.specs.declared.meta.Meta.TheOpen as layer
 use Rattle.cnb_toml.specs.declared.meta.Meta.TheViews.{roll-Meta, roll-MetaEntry}
 use Rattle.cnb_toml.specs.declared.meta.Meta.TheFolds.{map-Meta, ind-Meta}
 use Rattle.cnb_toml.specs.Writing.{put, put_all}
-use Rattle.cnb_toml.specs.Meta.{deepest, data_of, entry_of, ascend, is_kept_at, entries_kept_at}
+use Rattle.cnb_toml.specs.Meta.{deepest, members_of, is_kept, data_of, entry_of, ascend, is_kept_at, entries_kept_at}
+use Rattle.cnb_toml.specs.Written.{metadata_data}
 use Rattle.cnb_toml.proofs.Puts.{put-dates, put-depth}
 use Rattle.cnb_toml.proofs.Metas.{data_of-Bool, data_of-Int, data_of-Text, data_of-List, data_of-Table, entry_of-parts, is_kept_at-Bool, is_kept_at-Int, is_kept_at-Text, is_kept_at-List, is_kept_at-Table}
 
@@ -97,3 +98,29 @@ data_of-dates meta = (sound meta).0
 
 pub data_of-depth : (meta : Meta) (at : ℕ) → is_kept_at meta at ≡ true → depth (data_of meta) + at ≤ deepest + 1
 data_of-depth meta = (sound meta).1
+
+-- ---- what is written of metadata as a table
+
+of_dates : (written : Data) → has_valid_dates written ≡ true → has_valid_dates (table (members_of written)) ≡ true
+of_dates (table inner) h = h
+of_dates (string s) h = refl
+of_dates (integer z) h = refl
+of_dates (float x) h = refl
+of_dates (boolean b) h = refl
+of_dates (datetime t) h = refl
+of_dates (array xs) h = refl
+
+of_depth : (written : Data) → depth written ≤ 33 → depth (table (members_of written)) ≤ 33
+of_depth (table inner) h = h
+of_depth (string s) h = omega arith
+of_depth (integer z) h = omega arith
+of_depth (float x) h = omega arith
+of_depth (boolean b) h = omega arith
+of_depth (datetime t) h = omega arith
+of_depth (array xs) h = omega arith
+
+pub metadata_dates : (meta : Meta) → has_valid_dates (metadata_data meta) ≡ true
+metadata_dates meta = of_dates (data_of meta) (data_of-dates meta)
+
+pub metadata_within : (meta : Meta) → is_kept meta ≡ true → depth (metadata_data meta) ≤ 33
+metadata_within meta kept = of_depth (data_of meta) (omega (arith, data_of-depth meta 0 (and_parts _ (is_kept_at meta 0) kept).1))

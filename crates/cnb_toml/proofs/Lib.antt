@@ -3,7 +3,9 @@ pub mod Ids
 pub mod Items
 pub mod Joined
 pub mod Kept
+pub mod Layers
 pub mod Metas
+pub mod NeedLaws
 pub mod Puts
 pub mod RoundTrip
 pub mod Texts

@@ -4,6 +4,8 @@ use Rattle.std.specs.Str.{is_utf8}
 use Rattle.toml.specs.Data.{Members}
 use Rattle.toml.specs.Parse.{parse_document}
 use Rattle.toml.specs.View.{table_view}
+use Rattle.cnb_toml.specs.Form.{TableForm}
+use Rattle.cnb_toml.specs.Reading.{◌>>=◌}
 use Rattle.cnb_toml.specs.declared.doc.Doc.{Doc}
 use Rattle.cnb_toml.specs.declared.fault.DocFault.{DocFault}
 use Rattle.cnb_toml.specs.declared.fault.DocFault.TheVariants.{NotUtf8, NotToml}
@@ -23,3 +25,7 @@ or_not_toml None = Err NotToml
 -- the table that bytes are as UTF-8 and TOML
 abbrev pub document_in : List ℕ → Result Members DocFault
 document_in bytes = if is_utf8 bytes then or_not_toml (parse_document bytes) else Err NotUtf8
+
+-- what a document's bytes read as, whose table is of this kind
+abbrev pub document_of : {A : Type 0} → TableForm A → List ℕ → Result A DocFault
+document_of form bytes = document_in bytes >>= form

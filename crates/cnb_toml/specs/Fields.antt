@@ -1,5 +1,5 @@
 -- The keys of a table.
-use Rattle.std.specs.Prelude.{ℕ, Bool, false, ◌==◌, List, [], length, Option, Some, None, Result, Ok, Err, if◌then◌else◌}
+use Rattle.std.specs.Prelude.{ℕ, Bool, false, List, [], ◌∷◌, Option, Some, None, Result, Ok, Err}
 use Rattle.toml.specs.Data.{Data, Members, get_member}
 use Rattle.cnb_toml.specs.declared.fault.DocFault.{DocFault}
 use Rattle.cnb_toml.specs.declared.fault.DocFault.TheVariants.{Missing, Wrong}
@@ -38,5 +38,9 @@ abbrev pub list_at : {A : Type 0} → Form A → List ℕ → Members → Result
 list_at form key table = value_or [] (list_of form) key table
 
 -- a list of at least one item
+abbrev pub filled : {A : Type 0} → List ℕ → List A → Result (List A) DocFault
+filled key [] = Err (Wrong key)
+filled key (first ∷ rest) = Ok (first ∷ rest)
+
 abbrev pub filled_list_at : {A : Type 0} → Form A → List ℕ → Members → Result (List A) DocFault
-filled_list_at form key table = list_at form key table >>= (λ list. if length list == 0 then Err (Wrong key) else Ok list)
+filled_list_at form key table = list_at form key table >>= filled key

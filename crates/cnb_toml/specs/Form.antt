@@ -1,8 +1,8 @@
 -- What the values of a document are read as. The path of a fault begins at the value: it is empty where the value
 -- itself is at fault.
-use Rattle.std.specs.Prelude.{ℕ, Bool, ◌+◌, List, [], ◌∷◌, Option, Some, None, Result, Ok, Err, if◌then◌else◌}
+use Rattle.std.specs.Prelude.{ℕ, ℤ, Bool, ◌+◌, List, [], ◌∷◌, Option, Some, None, Result, Ok, Err, if◌then◌else◌}
 use Rattle.std.specs.Fmt.{decimal}
-use Rattle.toml.specs.Data.{Data, Items, no_items, item, Members, as_str, as_bool, as_table, as_array}
+use Rattle.toml.specs.Data.{Data, Items, no_items, item, Members, as_str, as_bool, as_integer, as_table, as_array}
 use Rattle.cnb_toml.specs.declared.fault.DocFault.{DocFault}
 use Rattle.cnb_toml.specs.declared.fault.DocFault.TheVariants.{Wrong, Name}
 use Rattle.cnb_toml.specs.Reading.{◌>>=◌, under}
@@ -25,6 +25,17 @@ text_of value = or_wrong (as_str value)
 
 abbrev pub truth_of : Form Bool
 truth_of value = or_wrong (as_bool value)
+
+abbrev pub whole_of : Form ℤ
+whole_of value = or_wrong (as_integer value)
+
+-- a text that isn't empty
+abbrev pub filled_text : List ℕ → Result (List ℕ) DocFault
+filled_text [] = Err (Wrong [])
+filled_text (byte ∷ text) = Ok (byte ∷ text)
+
+abbrev pub filled_text_of : Form (List ℕ)
+filled_text_of value = text_of value >>= filled_text
 
 -- a text of a name's form
 abbrev pub name_of : (List ℕ → Bool) → Form (List ℕ)

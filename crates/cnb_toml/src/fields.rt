@@ -82,8 +82,8 @@ pub fn filled_list_at<F: Form>(
     ensures { Answers result (filled_list_at F.value_of key.now (table_view table.now)) }
 {
     let list = list_at::<F>(alloc, table, key)?;
-    if list.as_slice().is_empty() {
-        return Err(DocFault::wrong(alloc).under(alloc, key));
+    match list.as_slice() {
+        [] => Err(DocFault::wrong(alloc).under(alloc, key)),
+        [..] => Ok(list),
     }
-    Ok(list)
 }

@@ -3,14 +3,10 @@ ghost use Rattle.std.specs.Prelude.{◌≡◌};
 ghost use Rattle.std.specs.Fmt.{decimal};
 ghost use Rattle.toml.specs.View.{view, table_view, array_view};
 ghost use Rattle.cnb_toml.specs.Reading.{Answers, IsFault, fault_under, under};
-ghost use Rattle.cnb_toml.specs.Form.{text_of, truth_of, name_of, table_of, items_in, list_of};
-ghost use Rattle.cnb_toml.specs.Keys.{key_in};
-ghost use Rattle.cnb_toml.specs.Names.{is_bp_id, is_bp_version};
+ghost use Rattle.cnb_toml.specs.Form.{table_of, items_in, list_of};
 
-use crate::fault::{DocFault, of_name};
-use crate::fields::required_at;
-use crate::names::{BpId, BpVersion, Key};
-use cnb_world::{List, Text};
+use crate::fault::DocFault;
+use cnb_world::List;
 use std::alloc::Global;
 use std::marker::PhantomData;
 use toml::value::Array;
@@ -58,67 +54,16 @@ impl<F: TableForm> Form for TableOf<F> {
     }
 }
 
-impl Form for Text {
-    type Value = Text;
+/// The lists of values of a kind, as values.
+pub struct ListOf<F>(PhantomData<F>);
 
-    ghost value_of = { text_of };
+impl<F: Form> Form for ListOf<F> {
+    type Value = List<F::Value>;
 
-    fn read(alloc: Global, value: &Value) -> Result<Text, DocFault> {
-        match value.as_str() {
-            Some(text) => Ok(Text::of(alloc, text)?),
-            None => Err(DocFault::wrong(alloc)),
-        }
-    }
-}
+    ghost value_of = { list_of F.value_of };
 
-impl Form for bool {
-    type Value = bool;
-
-    ghost value_of = { truth_of };
-
-    fn read(alloc: Global, value: &Value) -> Result<bool, DocFault> {
-        match value.as_bool() {
-            Some(truth) => Ok(truth),
-            None => Err(DocFault::wrong(alloc)),
-        }
-    }
-}
-
-impl Form for BpId {
-    type Value = BpId;
-
-    ghost value_of = { name_of is_bp_id };
-
-    fn read(alloc: Global, value: &Value) -> Result<BpId, DocFault> {
-        match value.as_str() {
-            Some(text) => of_name(alloc, BpId::parse(alloc, text)),
-            None => Err(DocFault::wrong(alloc)),
-        }
-    }
-}
-
-impl Form for BpVersion {
-    type Value = BpVersion;
-
-    ghost value_of = { name_of is_bp_version };
-
-    fn read(alloc: Global, value: &Value) -> Result<BpVersion, DocFault> {
-        match value.as_str() {
-            Some(text) => of_name(alloc, BpVersion::parse(alloc, text)),
-            None => Err(DocFault::wrong(alloc)),
-        }
-    }
-}
-
-impl TableForm for Key {
-    type Value = Key;
-
-    ghost value_in = { key_in };
-
-    fn read(alloc: Global, table: &Table) -> Result<Key, DocFault> {
-        let id = required_at::<BpId>(alloc, table, "id")?;
-        let version = required_at::<BpVersion>(alloc, table, "version")?;
-        Ok(Key { id, version })
+    fn read(alloc: Global, value: &Value) -> Result<List<F::Value>, DocFault> {
+        list_of::<F>(alloc, value)
     }
 }
 

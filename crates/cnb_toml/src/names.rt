@@ -7,7 +7,7 @@ ghost use Rattle.std.specs.Hash as fed;
 ghost use Rattle.std.specs.Cmp.Rules.{comparing, hashing};
 ghost use Rattle.std.proofs.Common.{rules};
 ghost use Rattle.cnb_world.specs.Path.{is_part};
-ghost use Rattle.cnb_toml.specs.Names.{is_id_byte, is_reserved, is_bp_id, is_release, is_bp_version, folder_of};
+ghost use Rattle.cnb_toml.specs.Names.{is_id_byte, is_reserved, is_bp_id, is_release, is_bp_version, IsJoinedNumbers, folder_of};
 
 use crate::fault::NameFault;
 use cnb_world::{Memory, Text};
@@ -186,10 +186,11 @@ impl BpId {
 }
 
 impl BpVersion {
-    /// Whether a text is a version.
+    #[tactic(auto, using(crate::proofs::Versions::version_numbers))]
     pub fn parse(alloc: Global, text: &str) -> Result<BpVersion, NameFault>
         ensures ok { IfOk result (λ version. version ≡ text.now) }
         ensures bad { IsErrOf result NameFault.Bad ↔ (is_bp_version text.now ≡ false) }
+        ensures numbers { IsTrue (is_bp_version text.now) ↔ IsJoinedNumbers text.now }
     {
         match Version::parse(alloc, text) {
             Ok(version) if is_release(&version) => Ok(BpVersion {

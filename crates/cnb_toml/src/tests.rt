@@ -1,5 +1,5 @@
 // Names and documents by rows: an input, and what is answered.
-use crate::{BpId, BpVersion, Doc, DocFault, NameFault};
+use crate::{BpId, BpVersion, Doc, DocFault, ImageName, LayerName, NameFault, ProcType};
 use std::test::Fail;
 
 fn told_name<T: Drop>(answer: Result<T, NameFault>) -> &'static str {
@@ -78,6 +78,53 @@ fn versions(rt: HostRuntime) {
             want,
             "at {text}"
         );
+    }
+}
+
+/// A text, and what the readers of a layer's name, a process type and an image's name answer.
+const NAMES: [(&str, &str, &str, &str); 21] = [
+    ("jre", "Ok", "Ok", "Ok"),
+    ("9a_b.c-d", "Ok", "Ok", "Ok"),
+    ("", "Bad", "Bad", "Bad"),
+    (".", "Bad", "Bad", "Bad"),
+    ("..", "Bad", "Bad", "Bad"),
+    ("...", "Ok", "Ok", "Bad"),
+    ("_a", "Ok", "Ok", "Bad"),
+    ("-a", "Ok", "Ok", "Bad"),
+    ("Demo", "Ok", "Ok", "Bad"),
+    ("build", "Bad", "Ok", "Ok"),
+    ("launch", "Bad", "Ok", "Ok"),
+    ("store", "Bad", "Ok", "Ok"),
+    ("stores", "Ok", "Ok", "Ok"),
+    ("a/b", "Bad", "Bad", "Bad"),
+    ("a\0", "Bad", "Bad", "Bad"),
+    ("a b", "Ok", "Bad", "Bad"),
+    ("é", "Ok", "Bad", "Bad"),
+    (LONGEST_NAME, "Ok", "Ok", "Ok"),
+    (LONG_NAME, "Ok", "Bad", "Bad"),
+    (LONGEST_LAYER, "Ok", "Bad", "Bad"),
+    (LONG_LAYER, "Bad", "Bad", "Bad"),
+];
+
+const LONGEST_NAME: &str =
+    "aaaaaaaaaaaaaaaaaaaaaaaaaaaaaaaaaaaaaaaaaaaaaaaaaaaaaaaaaaaaaaaaaaaaaaaaaaaaaaaaaaaaaaaaaaaaaaaaaaaaaaaaaaaaaaaaaaaaaaaaaaaaaaaa";
+
+const LONG_NAME: &str =
+    "aaaaaaaaaaaaaaaaaaaaaaaaaaaaaaaaaaaaaaaaaaaaaaaaaaaaaaaaaaaaaaaaaaaaaaaaaaaaaaaaaaaaaaaaaaaaaaaaaaaaaaaaaaaaaaaaaaaaaaaaaaaaaaaaa";
+
+const LONGEST_LAYER: &str =
+    "aaaaaaaaaaaaaaaaaaaaaaaaaaaaaaaaaaaaaaaaaaaaaaaaaaaaaaaaaaaaaaaaaaaaaaaaaaaaaaaaaaaaaaaaaaaaaaaaaaaaaaaaaaaaaaaaaaaaaaaaaaaaaaaaaaaaaaaaaaaaaaaaaaaaaaaaaaaaaaaaaaaaaaaaaaaaaaaaaaaaaaaaaaaaaaaaaaaaaaaa";
+
+const LONG_LAYER: &str =
+    "aaaaaaaaaaaaaaaaaaaaaaaaaaaaaaaaaaaaaaaaaaaaaaaaaaaaaaaaaaaaaaaaaaaaaaaaaaaaaaaaaaaaaaaaaaaaaaaaaaaaaaaaaaaaaaaaaaaaaaaaaaaaaaaaaaaaaaaaaaaaaaaaaaaaaaaaaaaaaaaaaaaaaaaaaaaaaaaaaaaaaaaaaaaaaaaaaaaaaaaaa";
+
+#[test]
+fn names(rt: HostRuntime) {
+    let alloc = rt.alloc();
+    for (text, layer, process, image) in NAMES {
+        assert_eq!(rt; told_name(LayerName::parse(alloc, text)), layer, "at {text}");
+        assert_eq!(rt; told_name(ProcType::parse(alloc, text)), process, "at {text}");
+        assert_eq!(rt; told_name(ImageName::parse(alloc, text)), image, "at {text}");
     }
 }
 

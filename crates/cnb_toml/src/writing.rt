@@ -1,13 +1,13 @@
-// Tables that are written as documents.
-ghost use Rattle.std.specs.Prelude.{◌≡◌, ◌≤◌, true, IfOk, OnOk};
-ghost use Rattle.toml.specs.Data.{string, members_depth, members_have_valid_dates};
+// What is put into a table that is to be written.
+ghost use Rattle.std.specs.Prelude.{codes, ◌≡◌, IfSome, OnOk, IsTrue};
 ghost use Rattle.toml.specs.View.{view, table_view};
-ghost use Rattle.cnb_toml.specs.Document.{document_in};
-ghost use Rattle.cnb_toml.specs.Writing.{nesting_limit, put};
+ghost use Rattle.cnb_toml.specs.Writing.{put};
+ghost use Rattle.cnb_toml.specs.Written.{metadata_data, put_some};
 
-use cnb_world::{Bytes, Memory};
+use crate::meta::Meta;
+use crate::written::Written;
+use cnb_world::Memory;
 use std::alloc::Global;
-use toml::ser::Error;
 use toml::{Table, Value};
 
 /// Puts a value at a key of a table, in place of the value that stands there.
@@ -19,24 +19,42 @@ pub fn put(alloc: Global, table: &mut Table, key: &str, value: Value) -> Result<
     Ok(())
 }
 
-/// Puts a text at a key of a table.
-pub fn put_text(alloc: Global, table: &mut Table, key: &str, text: &str) -> Result<(), Memory>
-    ensures { OnOk result (table_view table.new ≡ put key.now (string text.now) (table_view table.old)) }
+/// Puts a value of a kind at a key of a table.
+pub fn put_at<F: Written>(
+    alloc: Global,
+    table: &mut Table,
+    key: &str,
+    value: &F::Value,
+) -> Result<(), Memory>
+    ensures written { OnOk result (table_view table.new ≡ put key.now (F.data_of value.now) (table_view table.old)) }
+    ensures typed { OnOk result (IsTrue (F.is_typed value.now)) }
 {
-    let value = Value::string(alloc, text)?;
-    put(alloc, table, key, value)?;
+    let written = F::write(alloc, value)?;
+    put(alloc, table, key, written)?;
     Ok(())
 }
 
-/// The bytes of a table as a document, whose layout isn't fixed.
-pub fn document_bytes(alloc: Global, table: &Table) -> Result<Bytes, Memory>
-    requires { members_have_valid_dates (table_view table.now) ≡ true }
-    ensures { IfOk result (λ bytes. members_depth (table_view table.now) ≤ nesting_limit
-        → document_in bytes ≡ Ok (table_view table.now)) }
+/// Puts a value of a kind at a key of a table, where there is one.
+pub fn put_optional<F: Written>(
+    alloc: Global,
+    table: &mut Table,
+    key: &str,
+    value: &Option<F::Value>,
+) -> Result<(), Memory>
+    ensures written { OnOk result (table_view table.new ≡ put_some F.data_of key.now value.now (table_view table.old)) }
+    ensures typed { OnOk result (IfSome value.now (λ v. IsTrue (F.is_typed v))) }
 {
-    match toml::table_to_string(alloc, table) {
-        Ok(text) => Ok(Bytes::from_vec(text.into_bytes())),
-        Err(Error::OutOfMemory) => Err(Memory),
-        Err(Error::DateInvalid) => unreachable!(),
+    match value {
+        Some(value) => put_at::<F>(alloc, table, key, value),
+        None => Ok(()),
     }
+}
+
+/// Puts metadata at its key of a table.
+pub fn put_metadata(alloc: Global, table: &mut Table, meta: &Meta) -> Result<(), Memory>
+    ensures { OnOk result (table_view table.new ≡ put (codes "metadata") (metadata_data meta.now) (table_view table.old)) }
+{
+    let written = meta.to_table(alloc)?;
+    put(alloc, table, "metadata", Value::Table(written))?;
+    Ok(())
 }

@@ -1,18 +1,9 @@
 -- The program's own word (platform.md, "launcher").
-use Rattle.std.specs.Prelude.{ℕ, ◌==◌, ◌&&◌, ◌||◌, ◌+◌, Bool, not, List, codes, drop, length, nat_eq, nat_le}
-use Rattle.std.specs.Char.{is_ascii_alphanumeric}
-use Rattle.std.specs.List.{ends_with, list_all}
+use Rattle.std.specs.Prelude.{ℕ, ◌&&◌, ◌||◌, ◌+◌, Bool, List, codes, drop, length, nat_eq}
+use Rattle.std.specs.List.{ends_with}
 use Rattle.std.specs.Str.{bytes_eq}
-use Rattle.cnb_world.specs.Path.{parent_of}
-use Rattle.cnb_words.specs.Values.{is_short_path}
-
--- a letter, a digit, `.`, `_` or `-`
-abbrev pub is_type_byte : ℕ → Bool
-is_type_byte byte = is_ascii_alphanumeric byte || byte == 46 || byte == 95 || byte == 45
-
--- a process type (buildpack.md, "launch.toml (TOML)") that can be a file's name
-abbrev pub is_process_type : List ℕ → Bool
-is_process_type name = nat_le 1 (length name) && nat_le (length name) 128 && list_all is_type_byte name && not (bytes_eq name (codes ".")) && not (bytes_eq name (codes ".."))
+use Rattle.cnb_toml.specs.Names.{is_process_type}
+use Rattle.cnb_world.specs.Path.{is_short_path, parent_of}
 
 -- the part of a path behind its folder, where that isn't `/`
 abbrev pub last_part : List ℕ → List ℕ

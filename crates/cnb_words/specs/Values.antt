@@ -1,11 +1,7 @@
 -- The values of options.
-use Rattle.std.specs.Prelude.{ℕ, ◌==◌, ◌&&◌, ◌+◌, ◌-◌, ◌*◌, Bool, not, List, [], ◌∷◌, length, nat_le, if◌then◌else◌, Option, Some, None}
+use Rattle.std.specs.Prelude.{ℕ, ◌==◌, ◌&&◌, ◌+◌, ◌-◌, ◌*◌, Bool, not, List, [], ◌∷◌, nat_le, if◌then◌else◌, Option, Some, None}
 use Rattle.std.specs.Char.{is_ascii_digit}
-use Rattle.cnb_world.specs.Path.{is_path}
-
--- a path of at most 4,096 bytes
-abbrev pub is_short_path : List ℕ → Bool
-is_short_path text = nat_le (length text) 4096 && is_path text
+use Rattle.cnb_world.specs.Path.{is_short_path}
 
 -- the path that a text is
 abbrev pub path_in : List ℕ → Option (List ℕ)

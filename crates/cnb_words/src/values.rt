@@ -1,32 +1,20 @@
 // The values of options.
 ghost use Rattle.std.specs.Prelude.{◌≡◌, ◌≤◌, IfOk, IfSome, length};
 ghost use Rattle.cnb_words.specs.Faults.{Reads};
-ghost use Rattle.cnb_words.specs.Values.{is_short_path, leading_digit, number_in, path_in, two_digits, workers_in};
+ghost use Rattle.cnb_words.specs.Values.{leading_digit, number_in, path_in, two_digits, workers_in};
 
 use crate::fault::WordsFault;
 use cnb_world::Path;
 use std::alloc::Global;
 
-const LONGEST_PATH: usize = 4096;
-
 const MOST_WORKERS: usize = 64;
-
-/// Whether a text is a path of at most 4,096 bytes.
-pub(crate) fn is_short_path(text: &str) -> bool
-    ensures { result ≡ is_short_path text.now }
-{
-    text.len() <= LONGEST_PATH && Path::is_path(text)
-}
 
 /// The path that a text is, of at most 4,096 bytes.
 pub(crate) fn path_in(alloc: Global, text: &str) -> Result<Path, WordsFault>
     ensures reads { Reads result (path_in text.now) }
     ensures short { IfOk result (λ path. length path ≤ 4096) }
 {
-    if text.len() > LONGEST_PATH {
-        return Err(WordsFault::Usage);
-    }
-    let path = Path::parse(alloc, text)?;
+    let path = Path::parse_short(alloc, text)?;
     Ok(path)
 }
 

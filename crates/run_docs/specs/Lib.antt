@@ -1,3 +1,4 @@
 pub mod Group
+pub mod GroupLaws
 pub mod Plan
-pub mod Written
+pub mod PlanLaws

@@ -1,30 +1,38 @@
 -- `plan.toml` (platform.md, "plan.toml (TOML)").
-use Rattle.std.specs.Prelude.{ℕ, Bool, true, false, ◌&&◌, List, [], ◌∷◌, Result, Ok, Err, codes, if◌then◌else◌}
+use Rattle.std.specs.Prelude.{ℕ, Bool, true, false, ◌&&◌, List, [], ◌∷◌, Option, Some, None, Result, Ok, Err, codes, if◌then◌else◌}
 use Rattle.std.specs.List.{list_all}
 use Rattle.std.specs.Str.{bytes_eq}
+use Rattle.toml.specs.Data.{Members, no_members, member}
 use Rattle.cnb_toml.specs.declared.fault.DocFault.{DocFault}
 use Rattle.cnb_toml.specs.declared.fault.DocFault.TheVariants.{Wrong}
 use Rattle.cnb_toml.specs.declared.meta.Need.{Need}
 use Rattle.cnb_toml.specs.declared.names.Key.{Key}
-use Rattle.cnb_toml.specs.Document.{document_in}
+use Rattle.cnb_toml.specs.Document.{document_of}
 use Rattle.cnb_toml.specs.Fields.{required_at, value_or, list_at}
 use Rattle.cnb_toml.specs.Form.{TableForm, text_of, table_of}
-use Rattle.cnb_toml.specs.Keys.{key_in}
+use Rattle.cnb_toml.specs.Keys.{key_in, is_key, key_members}
 use Rattle.cnb_toml.specs.Meta.{metadata_in, is_kept}
+use Rattle.cnb_toml.specs.Need.{need_members}
 use Rattle.cnb_toml.specs.Reading.{◌>>=◌}
 use Rattle.cnb_toml.specs.Rows.{RowForm, rows_of}
+use Rattle.cnb_toml.specs.Written.{list_data, table_data}
 use Rattle.run_docs.specs.declared.plan.PlanEntry.{PlanEntry}
 
--- the name that the first requirement of an entry gives it, which a later one must have
-abbrev pub same_name : List Need → List ℕ → Result (List ℕ) DocFault
-same_name [] name = Ok name
-same_name (first ∷ before) name = if bytes_eq first.name name then Ok name else Err (Wrong (codes "name"))
+-- the name that the first requirement of an entry gives it
+abbrev pub first_name : List Need → Option (List ℕ)
+first_name [] = None
+first_name (first ∷ needs) = Some first.name
 
--- a requirement behind others of its entry
+-- a name, where it is that of the first requirement
+abbrev pub same_name : Option (List ℕ) → List ℕ → Result (List ℕ) DocFault
+same_name None name = Ok name
+same_name (Some first) name = if bytes_eq first name then Ok name else Err (Wrong (codes "name"))
+
+-- a requirement behind others of its entry, which has the first one's name
 abbrev pub need_in : RowForm Need
 need_in before table = do
   name ← required_at text_of (codes "name") table
-  same ← same_name before name
+  same ← same_name (first_name before) name
   meta ← metadata_in table
   Ok (record { name = name; meta = meta })
 
@@ -39,11 +47,14 @@ entry_in table = do
   needs ← value_or [] (rows_of need_in) (codes "requires") table
   entry_of providers needs
 
+abbrev pub entries_in : TableForm (List PlanEntry)
+entries_in table = list_at (table_of entry_in) (codes "entries") table
+
 -- the plan that bytes read as, or their first fault
 abbrev pub plan_in : List ℕ → Result (List PlanEntry) DocFault
-plan_in bytes = document_in bytes >>= list_at (table_of entry_in) (codes "entries")
+plan_in bytes = document_of entries_in bytes
 
--- a plan that can be written: each entry has a requirement, and each requirement has the entry's name and kept metadata
+-- a plan that can be read: each entry has a requirement, and each requirement has the entry's name and kept metadata
 abbrev pub has_needs : List Need → Bool
 has_needs [] = false
 has_needs (first ∷ needs) = true
@@ -56,3 +67,15 @@ is_entry entry = has_needs entry.needs && list_all (is_need_of entry.name) entry
 
 abbrev pub is_plan_doc : List PlanEntry → Bool
 is_plan_doc entries = list_all is_entry entries
+
+-- the names of its providers are of their form
+abbrev pub has_key_providers : PlanEntry → Bool
+has_key_providers entry = list_all is_key entry.providers
+
+-- what is written of it
+abbrev pub entry_members : PlanEntry → Members
+entry_members entry =
+    member (codes "providers") (list_data (table_data key_members) entry.providers) (member (codes "requires") (list_data (table_data need_members) entry.needs) no_members)
+
+abbrev pub plan_members : List PlanEntry → Members
+plan_members entries = member (codes "entries") (list_data (table_data entry_members) entries) no_members

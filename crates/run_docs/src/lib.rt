@@ -1,7 +1,6 @@
 //! The documents that one run of the lifecycle hands from phase to phase: `group.toml`, `plan.toml`.
 #![tactic(auto)]
 
-mod document;
 mod group;
 mod plan;
 

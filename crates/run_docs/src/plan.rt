@@ -1,21 +1,21 @@
 // `plan.toml`.
-ghost use Rattle.std.specs.Prelude.{◌≡◌, map, IfOk, OnOk, IsTrue, Ok};
+ghost use Rattle.std.specs.Prelude.{◌≡◌, true, IfOk, IsTrue, List as Seq, Ok};
 ghost use Rattle.std.specs.List.{list_all};
-ghost use Rattle.toml.specs.Data.{table};
-ghost use Rattle.toml.specs.View.{view, items_of, array_view};
+ghost use Rattle.cnb_toml.specs.Document.{document_in};
+ghost use Rattle.cnb_toml.specs.Need.{need_members};
+ghost use Rattle.cnb_toml.proofs.NeedLaws.{need_dates};
 ghost use Rattle.cnb_toml.specs.Reading.{Answers};
-ghost use Rattle.run_docs.specs.Plan.{same_name, need_in, entry_of, entry_in, plan_in, is_plan_doc};
-ghost use Rattle.run_docs.specs.Written.{is_key, key_data, need_data, entry_data, has_key_providers};
+ghost use Rattle.run_docs.specs.Plan.{first_name, same_name, need_in, entry_of, entry_in, entries_in, plan_in, is_entry, is_plan_doc, has_key_providers, entry_members, plan_members};
+ghost use Rattle.run_docs.specs.PlanLaws.{may_follow, entry_need_read, entry_need_within, entry_read, entry_dates, entry_within, plan_read, plan_dates, plan_within};
 
-use crate::document::list_document;
 use cnb_toml::{
-    Doc, DocFault, Key, Need, RowForm, RowsOf, TableForm, TableOf, list_at, metadata_at, put,
-    put_text, required_at, value_or,
+    DocFault, Key, ListOf, Need, RowForm, RowsOf, TableForm, TableOf, WrittenRow, WrittenTable,
+    list_at, metadata_at, put_at, read_document, required_at, value_or,
+    write_document,
 };
 use cnb_world::{Bytes, List, Memory, Text};
 use std::alloc::Global;
-use toml::value::Array;
-use toml::{Table, Value};
+use toml::Table;
 
 /// A name with the buildpacks that provide it and all that is required of it (platform.md, "plan.toml (TOML)").
 #[derive(Drop)]
@@ -25,29 +25,66 @@ pub struct PlanEntry {
     pub needs: List<Need>,
 }
 
-/// The plan of a group, names ascending.
+/// The build plan of the chosen group.
 pub type PlanDoc = List<PlanEntry>;
 
-/// A requirement of an entry: each has the name of the first.
+/// A requirement of an entry, which has the name of the entry's first one.
 struct EntryNeed;
 
 impl RowForm for EntryNeed {
     type Value = Need;
 
+    /// The first requirement's name.
+    type Seen = Option<Text>;
+
     ghost row_in = { need_in };
 
-    fn read(alloc: Global, before: &[Need], table: &Table) -> Result<Need, DocFault> {
-        let name = same_name(alloc, before, required_at::<Text>(alloc, table, "name")?)?;
+    ghost keeps = { λ before seen. seen ≡ first_name before };
+
+    fn none_seen(_: Global) -> Option<Text> {
+        None
+    }
+
+    fn read(alloc: Global, seen: &Option<Text>, table: &Table) -> Result<Need, DocFault> {
+        let name = required_at::<Text>(alloc, table, "name")?;
+        let name = same_name(alloc, seen, name)?;
         let meta = metadata_at(alloc, table)?;
         Ok(Need { name, meta })
     }
+
+    fn see(alloc: Global, seen: &mut Option<Text>, need: &Need) -> Result<(), Memory> {
+        if seen.is_none() {
+            *seen = Some(need.name.copy(alloc)?);
+        }
+        Ok(())
+    }
 }
 
-fn same_name(alloc: Global, before: &[Need], name: Text) -> Result<Text, DocFault>
-    ensures { Answers result (same_name before.now name) }
+impl WrittenRow for EntryNeed {
+    ghost members_of = { need_members };
+
+    ghost is_typed = { λ _. true };
+
+    ghost follows = { may_follow };
+
+    ghost nesting = { 33 };
+
+    fn write(alloc: Global, need: &Need) -> Result<Table, Memory> {
+        need.to_table(alloc)
+    }
+
+    ghost reads_back = { entry_need_read };
+
+    ghost dates = { need_dates };
+
+    ghost within = { entry_need_within };
+}
+
+fn same_name(alloc: Global, first: &Option<Text>, name: Text) -> Result<Text, DocFault>
+    ensures { Answers result (same_name first.now name) }
 {
-    match before {
-        [first, ..] if first.name.as_str() != name.as_str() => {
+    match first {
+        Some(first) if first.as_str() != name.as_str() => {
             Err(DocFault::wrong(alloc).under(alloc, "name"))
         }
         _ => Ok(name),
@@ -66,6 +103,29 @@ impl TableForm for PlanEntry {
     }
 }
 
+impl WrittenTable for PlanEntry {
+    ghost members_of = { entry_members };
+
+    ghost is_typed = { has_key_providers };
+
+    ghost is_sound = { is_entry };
+
+    ghost nesting = { 35 };
+
+    fn write(alloc: Global, entry: &PlanEntry) -> Result<Table, Memory> {
+        let mut table = Table::new(alloc);
+        put_at::<ListOf<TableOf<Key>>>(alloc, &mut table, "providers", &entry.providers)?;
+        put_at::<RowsOf<EntryNeed>>(alloc, &mut table, "requires", &entry.needs)?;
+        Ok(table)
+    }
+
+    ghost reads_back = { entry_read };
+
+    ghost dates = { entry_dates };
+
+    ghost within = { entry_within };
+}
+
 fn entry_of(alloc: Global, providers: List<Key>, needs: List<Need>) -> Result<PlanEntry, DocFault>
     ensures { Answers result (entry_of providers needs) }
 {
@@ -79,82 +139,52 @@ fn entry_of(alloc: Global, providers: List<Key>, needs: List<Need>) -> Result<Pl
     }
 }
 
+/// The table of `plan.toml`.
+struct Plan;
+
+impl TableForm for Plan {
+    type Value = PlanDoc;
+
+    ghost value_in = { entries_in };
+
+    fn read(alloc: Global, table: &Table) -> Result<PlanDoc, DocFault> {
+        list_at::<TableOf<PlanEntry>>(alloc, table, "entries")
+    }
+}
+
+impl WrittenTable for Plan {
+    ghost members_of = { plan_members };
+
+    ghost is_typed = { list_all has_key_providers };
+
+    ghost is_sound = { is_plan_doc };
+
+    ghost nesting = { 37 };
+
+    fn write(alloc: Global, entries: &PlanDoc) -> Result<Table, Memory> {
+        let mut table = Table::new(alloc);
+        put_at::<ListOf<TableOf<PlanEntry>>>(alloc, &mut table, "entries", entries)?;
+        Ok(table)
+    }
+
+    ghost reads_back = { plan_read };
+
+    ghost dates = { plan_dates };
+
+    ghost within = { plan_within };
+}
+
 /// Reads `plan.toml`. The first fault in the order of keys and rows is answered, as `entries.0.requires.1.name`.
 pub fn read_plan(alloc: Global, bytes: &[u8]) -> Result<PlanDoc, DocFault>
     ensures { Answers result (plan_in bytes.now) }
 {
-    let doc = Doc::read(alloc, bytes)?;
-    list_at::<TableOf<PlanEntry>>(alloc, doc.table(), "entries")
+    read_document::<Plan>(alloc, bytes)
 }
 
 /// The text of `plan.toml`.
 pub fn write_plan(alloc: Global, value: &PlanDoc) -> Result<Bytes, Memory>
-    ensures { IfOk result (λ bytes. IsTrue (is_plan_doc value.now) → plan_in bytes ≡ Ok value.now) }
+    ensures written { IfOk result (λ bytes. IsTrue (is_plan_doc value.now) → document_in bytes ≡ Ok (plan_members value.now)) }
+    ensures reads_back { IfOk result (λ bytes. IsTrue (is_plan_doc value.now) → plan_in bytes ≡ Ok value.now) }
 {
-    let entries = entries(alloc, value.as_slice())?;
-    list_document(alloc, "entries", entries)
-}
-
-fn entries(alloc: Global, entries: &[PlanEntry]) -> Result<Array, Memory>
-    ensures written { IfOk result (λ values. array_view values ≡ items_of (map entry_data entries.now)) }
-    ensures named { OnOk result (IsTrue (list_all has_key_providers entries.now)) }
-{
-    let mut values = Array::new(alloc);
-    for entry in entries {
-        values.push(entry_value(alloc, entry)?)?;
-    }
-    Ok(values)
-}
-
-fn entry_value(alloc: Global, entry: &PlanEntry) -> Result<Value, Memory>
-    ensures written { IfOk result (λ value. view value ≡ entry_data entry.now) }
-    ensures named { OnOk result (IsTrue (has_key_providers entry.now)) }
-{
-    let providers = providers(alloc, entry.providers.as_slice())?;
-    let needs = needs(alloc, entry.needs.as_slice())?;
-    let mut table = Table::new(alloc);
-    put(alloc, &mut table, "providers", Value::Array(providers))?;
-    put(alloc, &mut table, "requires", Value::Array(needs))?;
-    Ok(Value::Table(table))
-}
-
-fn providers(alloc: Global, keys: &[Key]) -> Result<Array, Memory>
-    ensures written { IfOk result (λ values. array_view values ≡ items_of (map key_data keys.now)) }
-    ensures named { OnOk result (IsTrue (list_all is_key keys.now)) }
-{
-    let mut values = Array::new(alloc);
-    for key in keys {
-        values.push(key_value(alloc, key)?)?;
-    }
-    Ok(values)
-}
-
-fn key_value(alloc: Global, key: &Key) -> Result<Value, Memory>
-    ensures written { IfOk result (λ value. view value ≡ key_data key.now) }
-    ensures named { OnOk result (IsTrue (is_key key.now)) }
-{
-    let mut table = Table::new(alloc);
-    put_text(alloc, &mut table, "id", key.id.as_str())?;
-    put_text(alloc, &mut table, "version", key.version.as_str())?;
-    Ok(Value::Table(table))
-}
-
-fn needs(alloc: Global, needs: &[Need]) -> Result<Array, Memory>
-    ensures { IfOk result (λ values. array_view values ≡ items_of (map need_data needs.now)) }
-{
-    let mut values = Array::new(alloc);
-    for need in needs {
-        values.push(need_value(alloc, need)?)?;
-    }
-    Ok(values)
-}
-
-fn need_value(alloc: Global, need: &Need) -> Result<Value, Memory>
-    ensures { IfOk result (λ value. view value ≡ need_data need.now) }
-{
-    let metadata = need.meta.to_table(alloc)?;
-    let mut table = Table::new(alloc);
-    put_text(alloc, &mut table, "name", need.name.as_str())?;
-    put(alloc, &mut table, "metadata", Value::Table(metadata))?;
-    Ok(Value::Table(table))
+    write_document::<Plan>(alloc, value)
 }

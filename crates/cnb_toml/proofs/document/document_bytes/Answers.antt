@@ -3,7 +3,7 @@ use Rattle.std.proofs.lemmas.Bool.{cond-true}
 use Rattle.std.proofs.lemmas.Str.{IsUtf8-string_bytes}
 use Rattle.cnb_toml.specs.Document.{document_in, or_not_toml}
 use Rattle.cnb_toml.proofs.Texts.{is_text}
-use Rattle.cnb_toml.proofs.writing.document_bytes.Goals as goal
+use Rattle.cnb_toml.proofs.document.document_bytes.Goals as goal
 
 pub returns-in-Ok : goal.returns-in-Ok
 returns-in-Ok c = λ within.
