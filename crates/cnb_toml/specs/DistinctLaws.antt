@@ -39,7 +39,7 @@ module _ {A K : Type 0} (eq : K → K → Bool) (key_of : A → K) where
         let parts = and_parts (not (has_key eq key_of (before ++ row ∷ rest) (key_of first))) (are_distinct eq key_of (before ++ row ∷ rest)) h in
         let none : has_key eq key_of (before ++ row ∷ rest) (key_of first) ≡ false = not-true _ parts.0 in
         let split = or_parts (has_key eq key_of before (key_of first)) (has_key eq key_of (row ∷ rest) (key_of first))
-                (sym (list_any-append (λ other. eq (key_of other) (key_of first)) before (row ∷ rest)) ∙ none) in
+        (sym (list_any-append (λ other. eq (key_of other) (key_of first)) before (row ∷ rest)) ∙ none) in
         let other = or_parts (eq (key_of row) (key_of first)) (has_key eq key_of rest (key_of first)) split.1 in
         or_from _ _ (symmetric (key_of first) (key_of row) ∙ other.0) (not_before before row rest parts.1)
 

@@ -23,11 +23,14 @@ pub fn read_document<F: TableForm>(alloc: Global, bytes: &[u8]) -> Result<F::Val
     F::read(alloc, doc.table())
 }
 
-/// The bytes of a document, which hold each key of the value and read as it where it is sound. Their layout isn't fixed.
+/// The bytes of a document, which hold each key of the value and, where it is sound, read as it. Their layout isn't
+/// fixed.
 pub fn write_document<F: WrittenTable>(alloc: Global, value: &F::Value) -> Result<Bytes, Memory>
     requires { F.nesting ≤ nesting_limit }
-    ensures written { IfOk result (λ bytes. F.is_sound value.now ≡ true → document_in bytes ≡ Ok (F.members_of value.now)) }
-    ensures reads_back { IfOk result (λ bytes. F.is_sound value.now ≡ true → document_of F.value_in bytes ≡ Ok value.now) }
+    ensures written { IfOk result (λ bytes. F.is_sound value.now ≡ true
+        → document_in bytes ≡ Ok (F.members_of value.now)) }
+    ensures reads_back { IfOk result (λ bytes. F.is_sound value.now ≡ true
+        → document_of F.value_in bytes ≡ Ok value.now) }
 {
     let table = F::write(alloc, value)?;
     document_bytes(alloc, &table)

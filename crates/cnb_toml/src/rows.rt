@@ -34,11 +34,13 @@ pub trait RowForm {
 
     /// Reads a table behind those that were read before it; the path of a fault begins at the table's own keys.
     fn read(alloc: Global, seen: &Self::Seen, table: &Table) -> Result<Self::Value, DocFault>
-        ensures { (before : List Self.Value) → keeps before seen.now → Answers result (row_in before (table_view table.now)) };
+        ensures { (before : List Self.Value) → keeps before seen.now
+            → Answers result (row_in before (table_view table.now)) };
 
     /// Keeps what the rows after this one need to know of it.
     fn see(alloc: Global, seen: &mut Self::Seen, row: &Self::Value) -> Result<(), Memory>
-        ensures { OnOk result ((before : List Self.Value) → keeps before seen.old → keeps (before ++ row.now ∷ []) seen.new) };
+        ensures { OnOk result ((before : List Self.Value) → keeps before seen.old
+            → keeps (before ++ row.now ∷ []) seen.new) };
 }
 
 /// The lists of tables of a kind, as values.
@@ -85,12 +87,9 @@ fn row<F: RowForm>(
     }
 }
 
-fn row_table<F: RowForm>(
-    alloc: Global,
-    seen: &F::Seen,
-    value: &Value,
-) -> Result<F::Value, DocFault>
-    ensures { (before : Seq F.Value) → F.keeps before seen.now → Answers result (table_of (F.row_in before) (view value.now)) }
+fn row_table<F: RowForm>(alloc: Global, seen: &F::Seen, value: &Value) -> Result<F::Value, DocFault>
+    ensures { (before : Seq F.Value) → F.keeps before seen.now
+        → Answers result (table_of (F.row_in before) (view value.now)) }
 {
     match value.as_table() {
         Some(table) => F::read(alloc, seen, table),

@@ -122,9 +122,21 @@ const LONG_LAYER: &str =
 fn names(rt: HostRuntime) {
     let alloc = rt.alloc();
     for (text, layer, process, image) in NAMES {
-        assert_eq!(rt; told_name(LayerName::parse(alloc, text)), layer, "at {text}");
-        assert_eq!(rt; told_name(ProcType::parse(alloc, text)), process, "at {text}");
-        assert_eq!(rt; told_name(ImageName::parse(alloc, text)), image, "at {text}");
+        assert_eq!(rt;
+            told_name(LayerName::parse(alloc, text)),
+            layer,
+            "at {text}"
+        );
+        assert_eq!(rt;
+            told_name(ProcType::parse(alloc, text)),
+            process,
+            "at {text}"
+        );
+        assert_eq!(rt;
+            told_name(ImageName::parse(alloc, text)),
+            image,
+            "at {text}"
+        );
     }
 }
 

@@ -52,7 +52,8 @@ pub fn put_optional<F: Written>(
 
 /// Puts metadata at its key of a table.
 pub fn put_metadata(alloc: Global, table: &mut Table, meta: &Meta) -> Result<(), Memory>
-    ensures { OnOk result (table_view table.new ≡ put (codes "metadata") (metadata_data meta.now) (table_view table.old)) }
+    ensures { OnOk result (table_view table.new
+        ≡ put (codes "metadata") (metadata_data meta.now) (table_view table.old)) }
 {
     let written = meta.to_table(alloc)?;
     put(alloc, table, "metadata", Value::Table(written))?;

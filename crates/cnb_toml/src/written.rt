@@ -57,7 +57,8 @@ pub trait WrittenTable: TableForm {
         ensures written { IfOk result (λ written. table_view written ≡ members_of value.now) }
         ensures typed { OnOk result (IsTrue (is_typed value.now)) };
 
-    ghost reads_back: { (v : Self.Value) → is_typed v ≡ true → is_sound v ≡ true → Self.value_in (members_of v) ≡ Ok v };
+    ghost reads_back: { (v : Self.Value) → is_typed v ≡ true → is_sound v ≡ true
+        → Self.value_in (members_of v) ≡ Ok v };
 
     ghost dates: { (v : Self.Value) → members_have_valid_dates (members_of v) ≡ true };
 
@@ -82,11 +83,13 @@ pub trait WrittenRow: RowForm {
         ensures written { IfOk result (λ written. table_view written ≡ members_of value.now) }
         ensures typed { OnOk result (IsTrue (is_typed value.now)) };
 
-    ghost reads_back: { (before : List Self.Value) (v : Self.Value) → is_typed v ≡ true → follows before v ≡ true → Self.row_in before (members_of v) ≡ Ok v };
+    ghost reads_back: { (before : List Self.Value) (v : Self.Value) → is_typed v ≡ true → follows before v ≡ true
+        → Self.row_in before (members_of v) ≡ Ok v };
 
     ghost dates: { (v : Self.Value) → members_have_valid_dates (members_of v) ≡ true };
 
-    ghost within: { (before : List Self.Value) (v : Self.Value) → follows before v ≡ true → members_depth (members_of v) ≤ nesting };
+    ghost within: { (before : List Self.Value) (v : Self.Value) → follows before v ≡ true
+        → members_depth (members_of v) ≤ nesting };
 }
 
 impl<F: Written> Written for ListOf<F> {
@@ -170,4 +173,3 @@ fn written_rows<F: WrittenRow>(alloc: Global, rows: &[F::Value]) -> Result<Array
     }
     Ok(values)
 }
-

@@ -131,7 +131,8 @@ pub fn read_group(alloc: Global, bytes: &[u8]) -> Result<GroupDoc, DocFault>
 
 /// The text of `group.toml`.
 pub fn write_group(alloc: Global, value: &GroupDoc) -> Result<Bytes, Memory>
-    ensures written { IfOk result (λ bytes. IsTrue (is_group_doc value.now) → document_in bytes ≡ Ok (group_members value.now)) }
+    ensures written { IfOk result (λ bytes. IsTrue (is_group_doc value.now)
+        → document_in bytes ≡ Ok (group_members value.now)) }
     ensures reads_back { IfOk result (λ bytes. IsTrue (is_group_doc value.now) → group_in bytes ≡ Ok value.now) }
 {
     write_document::<Group>(alloc, value)

@@ -10,8 +10,7 @@ ghost use Rattle.run_docs.specs.PlanLaws.{may_follow, entry_need_read, entry_nee
 
 use cnb_toml::{
     DocFault, Key, ListOf, Need, RowForm, RowsOf, TableForm, TableOf, WrittenRow, WrittenTable,
-    list_at, metadata_at, put_at, read_document, required_at, value_or,
-    write_document,
+    list_at, metadata_at, put_at, read_document, required_at, value_or, write_document,
 };
 use cnb_world::{Bytes, List, Memory, Text};
 use std::alloc::Global;
@@ -183,7 +182,8 @@ pub fn read_plan(alloc: Global, bytes: &[u8]) -> Result<PlanDoc, DocFault>
 
 /// The text of `plan.toml`.
 pub fn write_plan(alloc: Global, value: &PlanDoc) -> Result<Bytes, Memory>
-    ensures written { IfOk result (λ bytes. IsTrue (is_plan_doc value.now) → document_in bytes ≡ Ok (plan_members value.now)) }
+    ensures written { IfOk result (λ bytes. IsTrue (is_plan_doc value.now)
+        → document_in bytes ≡ Ok (plan_members value.now)) }
     ensures reads_back { IfOk result (λ bytes. IsTrue (is_plan_doc value.now) → plan_in bytes ≡ Ok value.now) }
 {
     write_document::<Plan>(alloc, value)
