@@ -1,5 +1,5 @@
 -- What a decoder was fed, and what its calls answer.
-use Rattle.std.specs.Prelude.{◌≡◌, ℕ, ◌++◌, List, length, Result, Ok, Err}
+use Rattle.std.specs.Prelude.{◌≡◌, ◌⊎◌, ℕ, ◌++◌, List, length, Result, Ok, Err}
 use Rattle.tree_canon.specs.declared.node.Node.{Node}
 use Rattle.tree_canon.specs.declared.fault.Reason.{Reason}
 use Rattle.tree_canon.specs.declared.fault.Reason.TheVariants as reasons
@@ -35,3 +35,13 @@ EndsTo bytes (Err fault) = IsShort bytes × (fault ≡ faults.Bad (length bytes)
 abbrev pub Ends : Fed → Result Node DecodeFault → Type 0
 Ends (Ok fed) result = EndsTo fed result
 Ends (Err fault) result = result ≡ Err fault
+
+-- where and why bytes spell no tree: at a field that breaks its rule, or at their end, which comes too early
+abbrev pub IsBad : List ℕ → ℕ → Reason → Type 0
+IsBad bytes at reason = IsBroken bytes at reason ⊎ (IsShort bytes × (at ≡ length bytes) × (reason ≡ reasons.Short))
+
+-- what decoding whole bytes answers: the tree that they spell, and else why there is none
+abbrev pub DecodesTo : List ℕ → Result Node DecodeFault → Type 0
+DecodesTo bytes (Ok tree) = Spells tree bytes
+DecodesTo bytes (Err (faults.Bad at reason)) = IsBad bytes at reason
+DecodesTo bytes (Err faults.Memory) = Unit {0}

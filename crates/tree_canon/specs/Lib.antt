@@ -9,3 +9,4 @@ pub mod Reading
 pub mod Feeding
 pub mod Readers
 pub mod Digest
+pub mod Judging

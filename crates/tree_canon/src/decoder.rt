@@ -2,6 +2,7 @@
 ghost use Rattle.std.specs.Prelude.{◌≡◌, ◌↔◌, ◌++◌, [], ℕ, List, Result, Ok, Err, IfOk};
 ghost use Rattle.tree_canon.specs.declared.node.Node.{Node};
 ghost use Rattle.tree_canon.specs.Division.{Spells, IsDivided};
+ghost use Rattle.tree_canon.specs.Feeding.{DecodesTo};
 
 use crate::cut::Hole;
 use crate::fault::{DecodeFault, Reason};
@@ -87,4 +88,15 @@ impl Decoder {
             }),
         }
     }
+}
+
+/// The tree that these bytes spell; `Bad` is the fault that feeding them gives. Nothing is kept of the bytes but what
+/// the tree holds.
+pub fn decode(alloc: Global, bytes: &[u8]) -> Result<Tree, DecodeFault>
+    ensures decodes { DecodesTo bytes.now result }
+    ensures divided { IsDivided bytes.now }
+{
+    let mut decoder = Decoder::new(alloc)?;
+    decoder.feed(bytes)?;
+    decoder.finish()
 }

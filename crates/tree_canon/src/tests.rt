@@ -1,4 +1,4 @@
-// The rows of the format, each fed whole and in pieces of one byte.
+// The rows of the format, each fed whole and in pieces of one byte, and decoded at once.
 ghost use Rattle.std.specs.Prelude.{◌<◌};
 
 use super::*;
@@ -17,23 +17,21 @@ fn decoded(alloc: Global, bytes: &[u8], size: usize) -> Result<Tree, DecodeFault
     decoder.finish()
 }
 
-fn has_fault(alloc: Global, bytes: &[u8], size: usize, at: u64, reason: Reason) -> bool
-    requires { 0 < size }
-{
-    match decoded(alloc, bytes, size) {
+fn has_fault(answer: Result<Tree, DecodeFault>, at: u64, reason: Reason) -> bool {
+    match answer {
         Err(fault) => fault == DecodeFault::Bad { at, reason },
         Ok(_) => false,
     }
 }
 
 fn is_bad(alloc: Global, bytes: &[u8], at: u64, reason: Reason) -> bool {
-    has_fault(alloc, bytes, 4096, at, reason) && has_fault(alloc, bytes, 1, at, reason)
+    has_fault(decoded(alloc, bytes, 4096), at, reason)
+        && has_fault(decoded(alloc, bytes, 1), at, reason)
+        && has_fault(decode(alloc, bytes), at, reason)
 }
 
-fn is_spelled_again(alloc: Global, bytes: &[u8], size: usize) -> bool
-    requires { 0 < size }
-{
-    let Ok(tree) = decoded(alloc, bytes, size) else {
+fn is_spelled_again(alloc: Global, bytes: &[u8], answer: Result<Tree, DecodeFault>) -> bool {
+    let Ok(tree) = answer else {
         return false;
     };
     let Ok(copy) = tree.copy(alloc) else {
@@ -46,7 +44,9 @@ fn is_spelled_again(alloc: Global, bytes: &[u8], size: usize) -> bool
 }
 
 fn is_tree(alloc: Global, bytes: &[u8]) -> bool {
-    is_spelled_again(alloc, bytes, 4096) && is_spelled_again(alloc, bytes, 1)
+    is_spelled_again(alloc, bytes, decoded(alloc, bytes, 4096))
+        && is_spelled_again(alloc, bytes, decoded(alloc, bytes, 1))
+        && is_spelled_again(alloc, bytes, decode(alloc, bytes))
 }
 
 #[test]
@@ -174,4 +174,33 @@ fn digests(rt: HostRuntime) -> Result<(), Fail> {
     let upper = "BA7816BF8F01CFEA414140DE5DAE2223B00361A396177A9CB410FF61F20015AD";
     assert!(rt; Digest::parse(upper).is_none());
     Ok(())
+}
+
+/// Whether bytes under the digest of others are damaged, with this digest of their own and this reason.
+fn is_damaged(alloc: Global, kept: &[u8], bytes: &[u8], reason: Option<Reason>) -> bool {
+    match judge(alloc, &Digest::of(kept), bytes) {
+        Ok(Judged::Damaged { asked, found, bad }) => {
+            asked.same(&Digest::of(kept)) && found.same(&Digest::of(bytes)) && bad == reason
+        }
+        Ok(Judged::Tree(_)) => false,
+        Err(Memory) => false,
+    }
+}
+
+#[test]
+fn bytes_under_a_digest(rt: HostRuntime) {
+    let link: &[u8] = b"CNBT\x01L\0\x01a";
+    let rows: [(&[u8], &[u8], Option<Reason>); 4] = [
+        (link, b"CNBT\x01L\0\x01b", None),
+        (link, b"CNBT", None),
+        (b"CNBT", b"CNBT", Some(Reason::Short)),
+        (b"CNBT\x01X", b"CNBT\x01X", Some(Reason::Tag)),
+    ];
+    for (kept, bytes, reason) in rows {
+        assert!(rt; is_damaged(rt.alloc(), kept, bytes, reason));
+    }
+    match judge(rt.alloc(), &Digest::of(link), link) {
+        Ok(Judged::Tree(tree)) => assert!(rt; matches!(tree.node(), Node::Link { .. })),
+        _ => assert!(rt; false),
+    }
 }
