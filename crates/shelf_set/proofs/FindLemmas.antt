@@ -1,0 +1,18 @@
+-- From the search to what is found.
+use Rattle.std.proofs.Common.{◌≡◌, ℕ, List, take, drop, sym, subst, Option, Result, Ok}
+use Rattle.cnb_world.specs.declared.values.Memory.{Memory}
+use Rattle.shelf_set.specs.ShelfState.{ShelfState}
+use Rattle.shelf_set.specs.Dropping.{Drops}
+use Rattle.shelf_set.specs.Searching.{Searches}
+use Rattle.shelf_set.specs.Finding.{Finds, LeavesSame, IsFound}
+use Rattle.shelf_set.specs.declared.finding.Found.{Found}
+
+pub finds : (old : List ShelfState) (places digest : List ℕ) (found : Result (Option (List ℕ)) Memory) (held : Option (List ℕ)) (answer : Found) (new : List ShelfState) (numbers standing gone : List ℕ) (n : ℕ) → Searches old places digest found new numbers n
+    → found ≡ Ok held → standing ≡ take n numbers → gone ≡ drop n numbers → IsFound digest held answer → Finds old places digest answer new standing gone
+finds old places digest found held answer new numbers standing gone n s is left dropped f =
+    let t : Searches old places digest (Ok held) new numbers n = subst (λ r. Searches old places digest r new numbers n) is s in
+    let d : Drops t.turns old new places standing gone = subst (λ x. Drops t.turns old new places x gone) (sym left) (subst (λ x. Drops t.turns old new places (take n numbers) x) (sym dropped) t.drops) in
+    record { turns = t.turns; drops = d; same = t.same; held = held; first = t.first; found = f }
+
+pub leaves : (old : List ShelfState) (places digest : List ℕ) (found : Result (Option (List ℕ)) Memory) (new : List ShelfState) (numbers standing : List ℕ) (n : ℕ) → Searches old places digest found new numbers n → standing ≡ take n numbers → LeavesSame old places new standing
+leaves old places digest found new numbers standing n s left = record { turns = s.turns; gone = drop n numbers; drops = subst (λ x. Drops s.turns old new places x (drop n numbers)) (sym left) s.drops; same = s.same }

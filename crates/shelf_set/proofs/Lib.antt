@@ -1,0 +1,4 @@
+pub mod Lists
+pub mod TurnLemmas
+pub mod SearchLemmas
+pub mod FindLemmas

@@ -1,0 +1,163 @@
+-- Searching shelves for bytes.
+use Rattle.std.proofs.Common.{◌≡◌, ℕ, ◌+◌, ◌-◌, ◌<◌, ◌≤◌, List, [], ◌∷◌, ◌++◌, map, length, take, refl, sym, ap, subst, ◌∙◌, arith, Result, Ok, Err, Option, append-nil}
+use Rattle.std.specs.Prelude.{Some, None, IfSome}
+use Rattle.std.specs.List.{AllByRecursion}
+use Rattle.std.specs.FinMap.{get}
+use Rattle.std.proofs.lemmas.List.{length-append}
+use Rattle.cnb_world.specs.Shelf.{Held}
+use Rattle.cnb_world.specs.declared.shelf.ShelfFault.{ShelfFault}
+use Rattle.cnb_world.specs.declared.shelf.ShelfFault.TheVariants as shelf
+use Rattle.cnb_world.specs.declared.values.Memory.{Memory}
+use Rattle.shelf_set.specs.ShelfState.{ShelfState}
+use Rattle.shelf_set.specs.Dropping.{Turn, after_of, left_of, AreCounting}
+use Rattle.shelf_set.specs.Turns.{TakesTurn, is_failed}
+use Rattle.shelf_set.specs.Finding.{TellsSame, IsFirst, holds_first}
+use Rattle.shelf_set.specs.Searching.{Asks, Lacks, Searching, Searches}
+use Rattle.shelf_set.proofs.Lists.{map-last, onto, all_both}
+use Rattle.shelf_set.proofs.TurnLemmas.{counted, OneMore, one_more, left-kept, left-dropped, still, all_still, none_yet, finish, left_tell, ends_at}
+
+first_none : (ss : List ShelfState) (digest : List ℕ) → AllByRecursion (Lacks digest) ss → IsFirst ss digest None
+first_none [] digest all = refl
+first_none (s ∷ ss) digest all = by s.held all.0 (first_none ss digest all.1)
+  where
+    by : (o : Option Held) → IfSome o (λ h. get h digest ≡ None) → IsFirst ss digest None → IfSome o (λ h. holds_first digest (get h digest) (IsFirst ss digest None) None)
+    by None l later = tt
+    by (Some h) l later = subst (λ f. holds_first digest f (IsFirst ss digest None) None) (sym l) later
+
+first_some : (ss : List ShelfState) (s : ShelfState) (rest : List ShelfState) (digest bytes : List ℕ) → AllByRecursion (Lacks digest) ss → IfSome s.held (λ h. get h digest ≡ Some bytes) → IsFirst (ss ++ s ∷ rest) digest (Some bytes)
+first_some [] s rest digest bytes all is = by s.held is
+  where
+    by : (o : Option Held) → IfSome o (λ h. get h digest ≡ Some bytes) → IfSome o (λ h. holds_first digest (get h digest) (IsFirst rest digest (Some bytes)) (Some bytes))
+    by None l = tt
+    by (Some h) l = subst (λ f. holds_first digest f (IsFirst rest digest (Some bytes)) (Some bytes)) (sym l) refl
+first_some (x ∷ ss) s rest digest bytes all is = by x.held all.0 (first_some ss s rest digest bytes all.1 is)
+  where
+    by : (o : Option Held) → IfSome o (λ h. get h digest ≡ None) → IsFirst (ss ++ s ∷ rest) digest (Some bytes) → IfSome o (λ h. holds_first digest (get h digest) (IsFirst (ss ++ s ∷ rest) digest (Some bytes)) (Some bytes))
+    by None l later = tt
+    by (Some h) l later = subst (λ f. holds_first digest f (IsFirst (ss ++ s ∷ rest) digest (Some bytes)) (Some bytes)) (sym l) later
+
+-- ---- the search
+
+pub begin : (old : List ShelfState) (places digest : List ℕ) → length places ≤ length old → Searching old old places places digest 0 0
+begin old places digest h = record { turns = []; goes = none_yet old places h; same = tt; lacks = tt; count = refl }
+
+same_still : (rest : List ShelfState) (later : List ℕ) → AllByRecursion TellsSame (still rest later)
+same_still rest later = all_still TellsSame (λ n s. (refl, refl)) rest later
+
+module _ (old now new : List ShelfState) (places numbers later digest : List ℕ) (at asked next : ℕ) (lt : asked < length places) (counting : AreCounting (take (length places) old)) (s : Searching old now places numbers digest at asked) where
+  -- the next shelf gives this answer
+  abbrev Answers : Result (Option (List ℕ)) ShelfFault → Type 0
+  Answers result = TakesTurn now numbers at (Asks digest result) (is_failed result) new later next
+
+  next_turn : (result : Result (Option (List ℕ)) ShelfFault) → Answers result → OneMore s.turns old new places later next (Asks digest result) (is_failed result)
+  next_turn result k =
+      one_more s.turns old now places numbers at (Asks digest result) (is_failed result) new later next (subst (λ n. n < length places) (sym s.count) lt) counting
+      (λ b a asks low. counted result b.faults a.faults low asks.faults) s.goes k
+
+  same_more : (result : Result (Option (List ℕ)) ShelfFault) → (m : OneMore s.turns old new places later next (Asks digest result) (is_failed result)) → AllByRecursion TellsSame (s.turns ++ m.turn ∷ [])
+  same_more result m = all_both TellsSame s.turns (m.turn ∷ []) s.same ((m.does.held, m.does.rows), tt)
+
+  count_more : (t : Turn) → length (s.turns ++ t ∷ []) ≡ asked + 1
+  count_more t = length-append s.turns (t ∷ []) ∙ ap (λ k. k + 1) s.count
+
+  -- a shelf that stands and lacks the digest
+  pub lacking : Answers (Ok None) → Searching old new places later digest next (asked + 1)
+  lacking k =
+      let m = next_turn (Ok None) k in
+      let e = left-kept s.turns m.turn m.failing in
+      let lack : Lacks digest m.turn.after = lacks_after m.turn.before.held m.turn.after.held m.does.held m.does.told in
+      record {
+        turns = s.turns ++ m.turn ∷ [];
+        goes = m.goes;
+        same = same_more (Ok None) m;
+        lacks = subst (λ l. AllByRecursion (Lacks digest) l) (sym (ap (map after_of) e ∙ map-last after_of (left_of s.turns) m.turn)) (all_both (Lacks digest) (map after_of (left_of s.turns)) (m.turn.after ∷ []) s.lacks (lack, tt));
+        count = count_more m.turn;
+      }
+    where
+      lacks_after : (o p : Option Held) → p ≡ o → IfSome o (λ h. None ≡ get h digest) → IfSome p (λ h. get h digest ≡ None)
+      lacks_after o None e told = tt
+      lacks_after None (Some h) e told = absurd (cc)
+      lacks_after (Some g) (Some h) e told = let same : g ≡ h = cc in sym (told ∙ ap (λ x. get x digest) same)
+
+  -- a shelf that failed
+  pub failing : Answers (Err shelf.Failed) → Searching old new places later digest next (asked + 1)
+  failing k =
+      let m = next_turn (Err shelf.Failed) k in
+      record {
+        turns = s.turns ++ m.turn ∷ [];
+        goes = m.goes;
+        same = same_more (Err shelf.Failed) m;
+        lacks = subst (λ l. AllByRecursion (Lacks digest) (map after_of l)) (sym (left-dropped s.turns m.turn m.failing)) s.lacks;
+        count = count_more m.turn;
+      }
+
+  -- where the search ends
+  total_then : next + (length places - asked - 1) + (asked + 1) ≡ next + length places
+  total_then = omega (arith, lt)
+
+  pub out_of_memory : (e : Memory) → Answers (Err shelf.Memory) → Searches old places digest (Err e) new later (next + (length places - asked - 1))
+  out_of_memory e k =
+      let m = next_turn (Err shelf.Memory) k in
+      let g = m.goes in
+      let turns : List Turn = s.turns ++ m.turn ∷ [] in
+      let end = ends_at turns old new places later next (asked + 1) _ g (count_more m.turn) total_then in
+      record {
+        turns = turns ++ still g.rest g.later;
+        drops = finish turns old new places later next _ g end.stands;
+        same = all_both TellsSame turns (still g.rest g.later) (same_more (Err shelf.Memory) m) (same_still g.rest g.later);
+        first = tt;
+        fits = end.fits;
+      }
+
+  pub holding : (bytes : List ℕ) → Answers (Ok (Some bytes)) → Searches old places digest (Ok (Some bytes)) new later (next + (length places - asked - 1))
+  holding bytes k =
+      let m = next_turn (Ok (Some bytes)) k in
+      let g = m.goes in
+      let turns : List Turn = s.turns ++ m.turn ∷ [] in
+      let end = ends_at turns old new places later next (asked + 1) _ g (count_more m.turn) total_then in
+      let A : List ShelfState = map after_of (left_of s.turns) in
+      let told : IfSome m.turn.after.held (λ h. get h digest ≡ Some bytes) = held_after bytes m.turn.before.held m.turn.after.held m.does.held m.does.told in
+      let list : map after_of (left_of (turns ++ still g.rest g.later)) ≡ A ++ m.turn.after ∷ g.rest = left_tell turns g.rest g.later g.paired ∙ ap (λ l. map after_of l ++ g.rest) (left-kept s.turns m.turn m.failing) ∙ ap (λ l. l ++ g.rest) (map-last after_of (left_of s.turns) m.turn) ∙ onto A m.turn.after g.rest in
+      record {
+        turns = turns ++ still g.rest g.later;
+        drops = finish turns old new places later next _ g end.stands;
+        same = all_both TellsSame turns (still g.rest g.later) (same_more (Ok (Some bytes)) m) (same_still g.rest g.later);
+        first = subst (λ l. IsFirst l digest (Some bytes)) (sym list) (first_some A m.turn.after g.rest digest bytes s.lacks told);
+        fits = end.fits;
+      }
+    where
+      held_after : (bytes : List ℕ) (o p : Option Held) → p ≡ o → IfSome o (λ h. Some bytes ≡ get h digest) → IfSome p (λ h. get h digest ≡ Some bytes)
+      held_after bytes o None e told = tt
+      held_after bytes None (Some h) e told = absurd (cc)
+      held_after bytes (Some g) (Some h) e told = let same : g ≡ h = cc in sym (told ∙ ap (λ x. get x digest) same)
+
+  -- the same of what a call answered
+  pub lacking_then : (result : Result (Option (List ℕ)) ShelfFault) (found : Option (List ℕ)) → Answers result → result ≡ Ok found → found ≡ None → Searching old new places later digest next (asked + 1)
+  lacking_then result found k is none = lacking (subst (λ r. Answers r) (is ∙ ap (λ f. Ok f) none) k)
+
+  pub failing_then : (result : Result (Option (List ℕ)) ShelfFault) (fault : ShelfFault) → Answers result → result ≡ Err fault → fault ≡ shelf.Failed → Searching old new places later digest next (asked + 1)
+  failing_then result fault k is failed = failing (subst (λ r. Answers r) (is ∙ ap (λ f. Err f) failed) k)
+
+  pub ended_then : (result : Result (Option (List ℕ)) ShelfFault) (fault : ShelfFault) (e : Memory) (count : ℕ) → Answers result → result ≡ Err fault → fault ≡ shelf.Memory → count ≡ length places → Searches old places digest (Err e) new later (next + (count - asked - 1))
+  ended_then result fault e count k is ended all = subst (λ n. Searches old places digest (Err e) new later (next + (n - asked - 1))) (sym all) (out_of_memory e (subst (λ r. Answers r) (is ∙ ap (λ f. Err f) ended) k))
+
+  pub holding_then : (result : Result (Option (List ℕ)) ShelfFault) (found : Option (List ℕ)) (bytes : List ℕ) (count : ℕ) → Answers result → result ≡ Ok found → found ≡ Some bytes → count ≡ length places → Searches old places digest (Ok (Some bytes)) new later (next + (count - asked - 1))
+  holding_then result found bytes count k is some all = subst (λ n. Searches old places digest (Ok (Some bytes)) new later (next + (n - asked - 1))) (sym all) (holding bytes (subst (λ r. Answers r) (is ∙ ap (λ f. Ok f) some) k))
+
+-- all were asked
+pub nowhere : (old new : List ShelfState) (places numbers digest : List ℕ) (at asked : ℕ) → Searching old new places numbers digest at asked → asked ≡ length places → Searches old places digest (Ok None) new numbers at
+nowhere old new places numbers digest at asked s all =
+    let g = s.goes in
+    let end = ends_at s.turns old new places numbers at asked at g s.count (ap (λ n. at + n) all) in
+    let none : length g.later ≡ 0 = let e = end.stands in omega (arith, e) in
+    record {
+      turns = s.turns ++ still g.rest g.later;
+      drops = finish s.turns old new places numbers at at g end.stands;
+      same = all_both TellsSame s.turns (still g.rest g.later) s.same (same_still g.rest g.later);
+      first = subst (λ l. IsFirst l digest None) (sym (left_tell s.turns g.rest g.later g.paired ∙ no_rest g.rest (g.paired ∙ none))) (first_none (map after_of (left_of s.turns)) digest s.lacks);
+      fits = end.fits;
+    }
+  where
+    no_rest : (rest : List ShelfState) → length rest ≡ 0 → map after_of (left_of s.turns) ++ rest ≡ map after_of (left_of s.turns)
+    no_rest [] h = append-nil (map after_of (left_of s.turns))
+    no_rest (r ∷ rest) h = absurd (omega (arith, h))

@@ -1,0 +1,5 @@
+pub mod ShelfState
+pub mod Dropping
+pub mod Turns
+pub mod Finding
+pub mod Searching

@@ -1,0 +1,74 @@
+// Finding a tree.
+ghost use Rattle.std.specs.Prelude.{◌≤◌, IfOk, OnErr, length, map, take};
+ghost use Rattle.shelf_set.specs.ShelfState.{state_of};
+ghost use Rattle.shelf_set.specs.Dropping.{AreCounting};
+ghost use Rattle.shelf_set.specs.Finding.{IsFound, Finds, LeavesSame};
+
+use crate::searching::{Searched, search};
+use crate::turns::{Shelves, numbers_from};
+use cnb_world::{Bytes, List, Memory, Shelf};
+use std::alloc::Global;
+use std::mem;
+use tree_canon::{Digest, Judged, Reason, Tree, judge};
+
+/// What shelves hold under a digest: a tree, nothing, or bytes that are damaged. Of these `found` is the digest, and
+/// where it is the one that was asked for, `bad` says why they spell no tree.
+#[derive(Drop)]
+pub enum Found {
+    Tree(Tree),
+    None,
+    Damaged {
+        asked: Digest,
+        found: Digest,
+        bad: Option<Reason>,
+    },
+}
+
+/// What was found, and the numbers of the shelves that were dropped.
+#[derive(Drop)]
+pub struct Search {
+    pub found: Found,
+    pub gone: List<u32>,
+}
+
+fn answer(alloc: Global, digest: &Digest, held: Option<Bytes>) -> Result<Found, Memory>
+    ensures { IfOk result (IsFound digest.now held) }
+{
+    let Some(bytes) = held else {
+        return Ok(Found::None);
+    };
+    match judge(alloc, digest, bytes.as_slice())? {
+        Judged::Tree(tree) => Ok(Found::Tree(tree)),
+        Judged::Damaged { asked, found, bad } => Ok(Found::Damaged { asked, found, bad }),
+    }
+}
+
+/// Searches the shelves that stand, in order, for the tree of a digest. `places` has their numbers, and the first
+/// shelves of the list, as many, are these. Each is asked at most once, and none behind one that holds the digest.
+#[tactic(auto, using(crate::proofs::FindLemmas::finds, crate::proofs::FindLemmas::leaves))]
+pub fn find(
+    alloc: Global,
+    shelves: &mut Shelves,
+    places: &mut List<u32>,
+    digest: &Digest,
+) -> Result<Search, Memory>
+    requires standing { length places.old ≤ length shelves.old.items }
+    requires counting { AreCounting (take (length places.old)
+        (map (λ s. state_of (held s) (rows s) (faults s)) shelves.old.items)) }
+    ensures finds { IfOk result (λ search. Finds
+        (map (λ s. state_of (held s) (rows s) (faults s)) shelves.old.items) places.old
+        digest.now search.found
+        (map (λ s. state_of (held s) (rows s) (faults s)) shelves.new.items) places.new search.gone) }
+    ensures memory { OnErr result (LeavesSame
+        (map (λ s. state_of (held s) (rows s) (faults s)) shelves.old.items) places.old
+        (map (λ s. state_of (held s) (rows s) (faults s)) shelves.new.items) places.new) }
+{
+    let mut numbers = mem::replace(places, List::new(alloc)).into_vec();
+    let Searched { found, standing } = search(shelves, &mut numbers, digest.bytes());
+    let gone = numbers_from(alloc, &numbers, standing);
+    numbers.truncate(standing);
+    *places = List::from_vec(numbers);
+    let gone = gone?;
+    let found = answer(alloc, digest, found?)?;
+    Ok(Search { found, gone })
+}

@@ -1,0 +1,71 @@
+// Searching the shelves that stand for bytes.
+ghost use Rattle.std.specs.Prelude.{◌<◌, ◌≤◌, length, map, take};
+ghost use Rattle.shelf_set.specs.ShelfState.{state_of};
+ghost use Rattle.shelf_set.specs.Dropping.{AreCounting};
+ghost use Rattle.shelf_set.specs.Turns.{TakesTurn, is_failed};
+ghost use Rattle.shelf_set.specs.Searching.{Asks, Searches};
+
+use crate::ask::ask_at;
+use crate::turns::{Shelves, has_failed, settle};
+use cnb_world::{Bytes, Memory, Shelf, ShelfFault};
+
+fn take_turn(
+    shelves: &mut Shelves,
+    numbers: &mut Vec<u32>,
+    at: &mut usize,
+    digest: &[u8; 32],
+) -> Result<Option<Bytes>, ShelfFault>
+    requires within { at.old < length shelves.old.items }
+    requires numbered { at.old < length numbers.old.items }
+    ensures { TakesTurn
+        (map (λ s. state_of (held s) (rows s) (faults s)) shelves.old.items) numbers.old.items at.old
+        (Asks digest.now result) (is_failed result)
+        (map (λ s. state_of (held s) (rows s) (faults s)) shelves.new.items) numbers.new.items at.new }
+{
+    let answer = ask_at(shelves, *at, digest);
+    let failed = has_failed(&answer);
+    settle(shelves, numbers, at, failed);
+    answer
+}
+
+/// What was found, and how many shelves stand.
+pub(crate) struct Searched {
+    pub found: Result<Option<Bytes>, Memory>,
+    pub standing: usize,
+}
+
+/// Asks one shelf after another, until one holds the digest or memory runs out.
+pub(crate) fn search(shelves: &mut Shelves, numbers: &mut Vec<u32>, digest: &[u8; 32]) -> Searched
+    requires standing { length numbers.old.items ≤ length shelves.old.items }
+    requires counting { AreCounting (take (length numbers.old.items)
+        (map (λ s. state_of (held s) (rows s) (faults s)) shelves.old.items)) }
+    ensures { Searches
+        (map (λ s. state_of (held s) (rows s) (faults s)) shelves.old.items) numbers.old.items
+        digest.now result.found
+        (map (λ s. state_of (held s) (rows s) (faults s)) shelves.new.items) numbers.new.items result.standing }
+{
+    let count = numbers.len();
+    let mut at = 0usize;
+    for asked in 0..count {
+        match take_turn(shelves, numbers, &mut at, digest) {
+            Ok(None) => {}
+            Err(ShelfFault::Failed) => {}
+            Ok(Some(bytes)) => {
+                return Searched {
+                    found: Ok(Some(bytes)),
+                    standing: at + (count - asked - 1),
+                };
+            }
+            Err(ShelfFault::Memory) => {
+                return Searched {
+                    found: Err(Memory),
+                    standing: at + (count - asked - 1),
+                };
+            }
+        }
+    }
+    Searched {
+        found: Ok(None),
+        standing: at,
+    }
+}

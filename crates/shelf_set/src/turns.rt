@@ -1,0 +1,55 @@
+// Shelves one after another.
+ghost use Rattle.std.specs.Prelude.{◌≡◌, ◌<◌, ◌≤◌, IfOk, drop, length, map};
+ghost use Rattle.shelf_set.specs.ShelfState.{state_of};
+ghost use Rattle.shelf_set.specs.Turns.{MovesLast, Settles, is_failed};
+
+use cnb_world::{List, Memory, Shelf, ShelfFault};
+use std::alloc::Global;
+
+/// Shelves in order: those that stand, and behind them those that were dropped, in the order of dropping.
+pub type Shelves = Vec<Box<dyn Shelf>>;
+
+pub(crate) fn has_failed<T>(answer: &Result<T, ShelfFault>) -> bool
+    ensures { result ≡ is_failed answer.now }
+{
+    match answer {
+        Err(ShelfFault::Failed) => true,
+        Err(ShelfFault::Memory) | Ok(_) => false,
+    }
+}
+
+fn move_last<T>(items: &mut Vec<T>, at: usize)
+    requires { at < length items.old.items }
+    ensures { MovesLast items.old.items at items.new.items }
+{
+    items[at..].rotate_left(1);
+}
+
+/// Drops the shelf at a place, if it failed, and else goes on to the next place.
+pub(crate) fn settle(shelves: &mut Shelves, numbers: &mut Vec<u32>, at: &mut usize, failed: bool)
+    requires within { at.old < length shelves.old.items }
+    requires numbered { at.old < length numbers.old.items }
+    ensures { Settles failed
+        (map (λ s. state_of (held s) (rows s) (faults s)) shelves.old.items) numbers.old.items at.old
+        (map (λ s. state_of (held s) (rows s) (faults s)) shelves.new.items) numbers.new.items at.new }
+{
+    if failed {
+        move_last(shelves, *at);
+        move_last(numbers, *at);
+    } else {
+        *at += 1;
+    }
+}
+
+/// The numbers from a place on.
+pub(crate) fn numbers_from(
+    alloc: Global,
+    numbers: &[u32],
+    place: usize,
+) -> Result<List<u32>, Memory>
+    requires { place ≤ length numbers.now }
+    ensures { IfOk result (λ part. part ≡ drop place numbers.now) }
+{
+    let part = numbers[place..].to_vec(alloc)?;
+    Ok(List::from_vec(part))
+}
