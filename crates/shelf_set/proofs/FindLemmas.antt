@@ -2,10 +2,11 @@
 use Rattle.std.proofs.Common.{◌≡◌, ℕ, List, take, drop, sym, subst, Option, Result, Ok}
 use Rattle.cnb_world.specs.declared.values.Memory.{Memory}
 use Rattle.shelf_set.specs.ShelfState.{ShelfState}
-use Rattle.shelf_set.specs.Dropping.{Drops}
+use Rattle.shelf_set.specs.Dropping.{Drops, AreStanding}
 use Rattle.shelf_set.specs.Searching.{Searches}
 use Rattle.shelf_set.specs.Finding.{Finds, LeavesSame, IsFound}
 use Rattle.shelf_set.specs.declared.finding.Found.{Found}
+use Rattle.shelf_set.proofs.TurnLemmas.{standing_again}
 
 pub finds : (old : List ShelfState) (places digest : List ℕ) (found : Result (Option (List ℕ)) Memory) (held : Option (List ℕ)) (answer : Found) (new : List ShelfState) (numbers standing gone : List ℕ) (n : ℕ) → Searches old places digest found new numbers n
     → found ≡ Ok held → standing ≡ take n numbers → gone ≡ drop n numbers → IsFound digest held answer → Finds old places digest answer new standing gone
@@ -16,3 +17,8 @@ finds old places digest found held answer new numbers standing gone n s is left 
 
 pub leaves : (old : List ShelfState) (places digest : List ℕ) (found : Result (Option (List ℕ)) Memory) (new : List ShelfState) (numbers standing : List ℕ) (n : ℕ) → Searches old places digest found new numbers n → standing ≡ take n numbers → LeavesSame old places new standing
 leaves old places digest found new numbers standing n s left = record { turns = s.turns; gone = drop n numbers; drops = subst (λ x. Drops s.turns old new places x (drop n numbers)) (sym left) s.drops; same = s.same }
+
+pub again : (old : List ShelfState) (given places digest : List ℕ) (found : Result (Option (List ℕ)) Memory) (new : List ShelfState) (numbers standing : List ℕ) (n : ℕ) → Searches old given digest found new numbers n → AreStanding places old → given ≡ places → standing ≡ take n numbers → AreStanding standing new
+again old given places digest found new numbers standing n s ready is left =
+    let d : Drops s.turns old new given standing (drop n numbers) = subst (λ x. Drops s.turns old new given x (drop n numbers)) (sym left) s.drops in
+    standing_again s.turns old new given standing (drop n numbers) d (subst (λ p. AreStanding p old) (sym is) ready)

@@ -2,6 +2,7 @@
 use Rattle.std.proofs.Common.{◌≡◌, ℕ, ◌+◌, ◌-◌, ◌^◌, ◌<◌, ◌≤◌, Bool, true, false, cond, not, List, [], ◌∷◌, ◌++◌, map, length, take, drop, refl, sym, ap, subst, ◌∙◌, arith, zero, suc, append_assoc, Result, Ok, Err, min, append-nil}
 use Rattle.std.specs.Prelude.{nat_lt}
 use Rattle.std.specs.List.{AllByRecursion}
+use Rattle.std.proofs.lemmas.Bool.{ltb-false}
 use Rattle.std.proofs.lemmas.Bool.Decides.{nat_tests}
 use Rattle.std.proofs.Math.Seq.{take-append_seam, drop-append_seam}
 use Rattle.std.proofs.lemmas.List.{length-append, map-append, length-map, length-take-le, take-append-drop}
@@ -10,7 +11,7 @@ use Rattle.cnb_world.specs.Calls.{CountsShelf, Rose}
 use Rattle.cnb_world.specs.declared.shelf.ShelfFault.{ShelfFault}
 use Rattle.cnb_world.specs.declared.shelf.ShelfFault.TheVariants as shelf
 use Rattle.shelf_set.specs.ShelfState.{ShelfState}
-use Rattle.shelf_set.specs.Dropping.{Turn, has_failed, number_of, before_of, after_of, failed_of, left_of, AreCounting, Drops}
+use Rattle.shelf_set.specs.Dropping.{Turn, has_failed, number_of, before_of, after_of, failed_of, left_of, AreCounting, AreStanding, Drops}
 use Rattle.shelf_set.specs.Turns.{Replaces, Goes, Settles, TakesTurn, is_failed}
 use Rattle.shelf_set.proofs.Lists.{same_split, SameSplit, moved, regroup2, regroup3, map-last, onto}
 
@@ -212,3 +213,30 @@ ends_at turns old new places numbers at asked standing g count total =
     let k = length-append g.later (map number_of (failed_of turns)) in
     let place = g.place in
     record { stands = omega (arith, e, count, total); fits = omega (arith, e, count, total, m, n, k, place) }
+
+-- ---- the next call
+
+counting_before : (turns : List Turn) (rest : List ShelfState) (n : ℕ) → n ≡ length turns → AreCounting (take n (map before_of turns ++ rest)) → AreCounting (map before_of turns)
+counting_before [] rest n e all = tt
+counting_before (t ∷ ts) rest zero e all = absurd (omega (arith, e))
+counting_before (t ∷ ts) rest (suc n) e all = (all.0, counting_before ts rest n (omega (arith, e)) all.1)
+
+counting_left : (turns : List Turn) → AreCounting (map before_of turns) → AreCounting (map after_of (left_of turns))
+counting_left [] all = tt
+counting_left (t ∷ ts) all = by (has_failed t) refl (counting_left ts all.1)
+  where
+    by : (b : Bool) → has_failed t ≡ b → AreCounting (map after_of (left_of ts)) → AreCounting (map after_of (cond (not b) (t ∷ left_of ts) (left_of ts)))
+    by true e later = later
+    by false e later = (let le : t.after.faults ≤ t.before.faults = ltb-false t.before.faults t.after.faults e in let low = all.0 in omega (arith, le, low), later)
+
+-- a call leaves the shelves as the next one asks for
+pub standing_again : (turns : List Turn) (old new : List ShelfState) (places standing gone : List ℕ) → Drops turns old new places standing gone → AreStanding places old → AreStanding standing new
+standing_again turns old new places standing gone d ready =
+    let L : List ShelfState = map after_of (left_of turns) in
+    let R : List ShelfState = d.earlier ++ map after_of (failed_of turns) in
+    let count : length places ≡ length turns = ap length d.numbers ∙ length-map turns number_of in
+    let size : length standing ≡ length L = ap length d.left ∙ length-map (left_of turns) number_of ∙ sym (length-map (left_of turns) after_of) in
+    let front : take (length standing) new ≡ L = ap (λ n. take n new) size ∙ ap (take (length L)) d.exit ∙ take-append_seam L R in
+    let before : AreCounting (map before_of turns) = counting_before turns d.earlier (length places) count (subst (λ o. AreCounting (take (length places) o)) d.entry ready.counting) in
+    let total = ap length d.exit ∙ length-append L R in
+    record { there = omega (arith, size, total); counting = subst AreCounting (sym front) (counting_left turns before) }

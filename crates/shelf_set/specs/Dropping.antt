@@ -1,7 +1,16 @@
 -- Which shelves a call leaves standing, of all calls of this crate.
-use Rattle.std.specs.Prelude.{ℕ, Bool, not, ◌≡◌, ◌<◌, ◌-◌, ◌^◌, ◌++◌, List, map, nat_lt}
+use Rattle.std.specs.Prelude.{ℕ, Bool, not, ◌≡◌, ◌<◌, ◌≤◌, ◌-◌, ◌^◌, ◌++◌, List, length, map, take, nat_lt}
 use Rattle.std.specs.List.{AllByRecursion, filter}
 use Rattle.shelf_set.specs.ShelfState.{ShelfState}
+
+-- no count stands at its last value
+abbrev pub AreCounting : List ShelfState → Type 0
+AreCounting shelves = AllByRecursion (λ s. s.faults < 2 ^ 64 - 1) shelves
+
+-- what every call asks for: the numbers are those of the first shelves, and these can count a fault
+pub record AreStanding (places : List ℕ) (shelves : List ShelfState) : Type 0 where
+  pub there : length places ≤ length shelves
+  pub counting : AreCounting (take (length places) shelves)
 
 -- a shelf that stood before a call: its number in the list that the caller first had, and its states before and after
 pub record Turn : Type 0 where
@@ -28,10 +37,6 @@ failed_of turns = filter has_failed turns
 
 abbrev pub left_of : List Turn → List Turn
 left_of turns = filter (λ t. not (has_failed t)) turns
-
--- no count stands at its last value
-abbrev pub AreCounting : List ShelfState → Type 0
-AreCounting shelves = AllByRecursion (λ s. s.faults < 2 ^ 64 - 1) shelves
 
 -- Of the shelves that stood, exactly those whose counts rose are dropped. The others stand in their old order. The dropped
 -- ones are at the end, behind those that were dropped before, which are as they were; `gone` has their numbers.

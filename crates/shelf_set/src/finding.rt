@@ -1,11 +1,11 @@
 // Finding a tree.
-ghost use Rattle.std.specs.Prelude.{◌≤◌, IfOk, OnErr, length, map, take};
+ghost use Rattle.std.specs.Prelude.{IfOk, OnErr, map};
 ghost use Rattle.shelf_set.specs.ShelfState.{state_of};
-ghost use Rattle.shelf_set.specs.Dropping.{AreCounting};
+ghost use Rattle.shelf_set.specs.Dropping.{AreStanding};
 ghost use Rattle.shelf_set.specs.Finding.{IsFound, Finds, LeavesSame};
 
 use crate::searching::{Searched, search};
-use crate::turns::{Shelves, numbers_from};
+use crate::turns::{Shelves, part};
 use cnb_world::{Bytes, List, Memory, Shelf};
 use std::alloc::Global;
 use std::mem;
@@ -52,9 +52,7 @@ pub fn find(
     places: &mut List<u32>,
     digest: &Digest,
 ) -> Result<Search, Memory>
-    requires standing { length places.old ≤ length shelves.old.items }
-    requires counting { AreCounting (take (length places.old)
-        (map (λ s. state_of (held s) (rows s) (faults s)) shelves.old.items)) }
+    requires { AreStanding places.old (map (λ s. state_of (held s) (rows s) (faults s)) shelves.old.items) }
     ensures finds { IfOk result (λ search. Finds
         (map (λ s. state_of (held s) (rows s) (faults s)) shelves.old.items) places.old
         digest.now search.found
@@ -62,13 +60,11 @@ pub fn find(
     ensures memory { OnErr result (LeavesSame
         (map (λ s. state_of (held s) (rows s) (faults s)) shelves.old.items) places.old
         (map (λ s. state_of (held s) (rows s) (faults s)) shelves.new.items) places.new) }
+    ensures again { AreStanding places.new (map (λ s. state_of (held s) (rows s) (faults s)) shelves.new.items) }
 {
     let mut numbers = mem::replace(places, List::new(alloc)).into_vec();
     let Searched { found, standing } = search(shelves, &mut numbers, digest.bytes());
-    let gone = numbers_from(alloc, &numbers, standing);
-    numbers.truncate(standing);
-    *places = List::from_vec(numbers);
-    let gone = gone?;
+    let gone = part(alloc, places, numbers, standing)?;
     let found = answer(alloc, digest, found?)?;
     Ok(Search { found, gone })
 }

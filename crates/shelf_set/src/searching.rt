@@ -1,7 +1,7 @@
 // Searching the shelves that stand for bytes.
-ghost use Rattle.std.specs.Prelude.{◌<◌, ◌≤◌, length, map, take};
+ghost use Rattle.std.specs.Prelude.{◌<◌, length, map};
 ghost use Rattle.shelf_set.specs.ShelfState.{state_of};
-ghost use Rattle.shelf_set.specs.Dropping.{AreCounting};
+ghost use Rattle.shelf_set.specs.Dropping.{AreStanding};
 ghost use Rattle.shelf_set.specs.Turns.{TakesTurn, is_failed};
 ghost use Rattle.shelf_set.specs.Searching.{Asks, Searches};
 
@@ -36,9 +36,7 @@ pub(crate) struct Searched {
 
 /// Asks one shelf after another, until one holds the digest or memory runs out.
 pub(crate) fn search(shelves: &mut Shelves, numbers: &mut Vec<u32>, digest: &[u8; 32]) -> Searched
-    requires standing { length numbers.old.items ≤ length shelves.old.items }
-    requires counting { AreCounting (take (length numbers.old.items)
-        (map (λ s. state_of (held s) (rows s) (faults s)) shelves.old.items)) }
+    requires { AreStanding numbers.old.items (map (λ s. state_of (held s) (rows s) (faults s)) shelves.old.items) }
     ensures { Searches
         (map (λ s. state_of (held s) (rows s) (faults s)) shelves.old.items) numbers.old.items
         digest.now result.found

@@ -1,5 +1,5 @@
 // Shelves one after another.
-ghost use Rattle.std.specs.Prelude.{◌≡◌, ◌<◌, ◌≤◌, IfOk, drop, length, map};
+ghost use Rattle.std.specs.Prelude.{◌≡◌, ◌<◌, ◌≤◌, IfOk, drop, length, map, take};
 ghost use Rattle.shelf_set.specs.ShelfState.{state_of};
 ghost use Rattle.shelf_set.specs.Turns.{MovesLast, Settles, is_failed};
 
@@ -41,15 +41,19 @@ pub(crate) fn settle(shelves: &mut Shelves, numbers: &mut Vec<u32>, at: &mut usi
     }
 }
 
-/// The numbers from a place on.
-pub(crate) fn numbers_from(
+/// Leaves so many numbers in the list, and answers the others.
+pub(crate) fn part(
     alloc: Global,
-    numbers: &[u32],
-    place: usize,
+    places: &mut List<u32>,
+    mut numbers: Vec<u32>,
+    standing: usize,
 ) -> Result<List<u32>, Memory>
-    requires { place ≤ length numbers.now }
-    ensures { IfOk result (λ part. part ≡ drop place numbers.now) }
+    requires { standing ≤ length numbers.items }
+    ensures left { places.new ≡ take standing numbers.items }
+    ensures gone { IfOk result (λ gone. gone ≡ drop standing numbers.items) }
 {
-    let part = numbers[place..].to_vec(alloc)?;
-    Ok(List::from_vec(part))
+    let gone = numbers[standing..].to_vec(alloc);
+    numbers.truncate(standing);
+    *places = List::from_vec(numbers);
+    Ok(List::from_vec(gone?))
 }

@@ -5,7 +5,7 @@ use Rattle.shelf_set.proofs.searching.search.Goals as goal
 use Rattle.shelf_set.proofs.searching.search.Goals.{in-Ok-None, in-Err-Failed}
 
 pub loop-asked-init : goal.loop-asked-init
-loop-asked-init g c = begin _ c.args.numbers.now.items c.args.digest.now (subst (λ n. length c.args.numbers.now.items ≤ n) (sym (length-map c.args.shelves.now.items _)) c.requires.standing)
+loop-asked-init g c = begin _ c.args.numbers.now.items c.args.digest.now c.requires.there
 
 pub returns-in-Ok-Some : goal.returns-in-Ok-Some
 returns-in-Ok-Some g c =
