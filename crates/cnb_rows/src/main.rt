@@ -1,0 +1,93 @@
+//! Goes through the rows of a folder: what the top call is given in memory, and what is wanted of it.
+//!
+//! Prints `ok NAME` for each row, or `differs NAME:` and what differs. The folder is the one that a word names, or else the
+//! one that the program runs in; data/README.md says how a row is written.
+#![tactic(auto)]
+
+mod check;
+mod every_call;
+mod fault;
+mod folder;
+mod items;
+mod run;
+mod scenario;
+mod short;
+mod standing;
+
+use check::{Differences, check_run};
+use cnb_host::{HostWorld, words};
+use cnb_world::Path;
+use every_call::check_every_call;
+use fault::{Fault, path_of};
+use folder::Scenarios;
+use scenario::Scenario;
+use std::alloc::Global;
+use std::env;
+use std::process::ExitCode;
+use std::thread::Threads;
+
+fn rows_folder(rt: &HostRuntime) -> Result<Path, Fault> {
+    let Ok(words) = words(rt) else {
+        return Err(Fault::Memory);
+    };
+    if let Some(folder) = words.get(1) {
+        return path_of(rt.alloc(), folder);
+    }
+    let folder = env::current_dir(rt)?;
+    path_of(rt.alloc(), folder.as_str())
+}
+
+// What differs in a row and, where it says so, with each call failing in turn.
+fn judge<R: Threads + Sync>(
+    rt: &R,
+    alloc: Global,
+    scenarios: &Scenarios,
+    row: &Scenario,
+) -> Result<Differences, Fault> {
+    let chain = scenarios.chain(alloc, row)?;
+    let Some(want) = &row.want else {
+        return Err(Fault::wrong(alloc, "nothing is wanted of", &row.name));
+    };
+    let found = check_run(rt, alloc, &chain, want)?;
+    if row.every_call && found.text.is_empty() {
+        return check_every_call(rt, alloc, &chain, want);
+    }
+    Ok(found)
+}
+
+// Prints the line of a row, and tells whether the row is as wanted.
+fn tell<R: Threads + Sync + Print>(
+    rt: &R,
+    alloc: Global,
+    scenarios: &Scenarios,
+    row: &Scenario,
+) -> Result<bool, Fault> {
+    let name = &row.name;
+    match judge(rt, alloc, scenarios, row) {
+        Ok(found) if found.text.is_empty() => {
+            println!(rt; "ok {name}")?;
+            Ok(true)
+        }
+        Ok(found) => {
+            println!(rt; "differs {name}:{}", found.text)?;
+            Ok(false)
+        }
+        Err(fault) => {
+            println!(rt; "wrong {name}: {fault}")?;
+            Ok(false)
+        }
+    }
+}
+
+fn main(rt: HostRuntime) -> Result<ExitCode, Fault> {
+    let folder = rows_folder(&rt)?;
+    let mut world = HostWorld::new(rt.clone()?);
+    let scenarios = Scenarios::read(rt.alloc(), &mut world, &folder)?;
+    let mut differ = 0u8;
+    for row in &scenarios.rows {
+        if !tell(&rt, rt.alloc(), &scenarios, row)? {
+            differ = 1;
+        }
+    }
+    Ok(ExitCode::from(differ))
+}
