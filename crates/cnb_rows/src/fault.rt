@@ -1,20 +1,20 @@
 // Why a row gives no answer.
 use cnb_world::{FileFault, Memory, Path};
-use std::alloc::{AllocError, AllocFailed, Global};
+use std::alloc::{AllocError, Global};
 use std::io;
 use thiserror::Error;
 
 /// Why a row, or a file of rows, gives no answer. `Wrong` is a fault of what was written.
 #[derive(Debug, Drop, Error)]
 pub enum Fault {
-    #[error("out of memory")]
-    Memory,
+    #[error(transparent)]
+    Memory(#[from(alloc)] AllocError),
     #[error("{0}")]
     Wrong(String),
     #[error("the files could not be looked at")]
     Files,
-    #[error("{0}")]
-    Output(io::Error),
+    #[error(transparent)]
+    Output(#[from] io::Error),
 }
 
 impl Fault {
@@ -22,26 +22,14 @@ impl Fault {
     pub fn wrong(alloc: Global, text: &str, word: &str) -> Fault {
         match format!(in alloc; "{text} `{word}`") {
             Ok(text) => Fault::Wrong(text),
-            Err(_) => Fault::Memory,
+            Err(error) => Fault::Memory(error),
         }
-    }
-}
-
-impl From<AllocError> for Fault {
-    fn from(_: AllocError) -> Self {
-        Fault::Memory
-    }
-}
-
-impl<T: Drop> From<AllocFailed<T>> for Fault {
-    fn from(_: AllocFailed<T>) -> Self {
-        Fault::Memory
     }
 }
 
 impl From<Memory> for Fault {
     fn from(_: Memory) -> Self {
-        Fault::Memory
+        Fault::Memory(AllocError)
     }
 }
 
@@ -49,14 +37,8 @@ impl From<FileFault> for Fault {
     fn from(fault: FileFault) -> Self {
         match fault {
             FileFault::Failed => Fault::Files,
-            FileFault::Memory => Fault::Memory,
+            FileFault::Memory => Fault::Memory(AllocError),
         }
-    }
-}
-
-impl From<io::Error> for Fault {
-    fn from(error: io::Error) -> Self {
-        Fault::Output(error)
     }
 }
 

@@ -1,5 +1,6 @@
 // The rows of a folder.
-use crate::fault::Fault;
+use crate::chain::Chain;
+use crate::fault::{Fault, path_of};
 use crate::scenario::{Scenario, ScenarioFile};
 use cnb_world::{List, Path, Text, Whole, World, read_whole};
 use std::alloc::Global;
@@ -7,7 +8,7 @@ use std::alloc::Global;
 /// The most bytes of a file of rows.
 const MAX_FILE: u64 = 1_048_576;
 
-/// The scenarios of a folder, and how many of them, the first ones, are rows.
+/// The scenarios of a folder.
 #[derive(Drop)]
 pub struct Scenarios {
     pub rows: Vec<Scenario>,
@@ -40,15 +41,15 @@ impl Scenarios {
         Ok(())
     }
 
-    /// A scenario, the one that it stands on, the one that this stands on, and so on.
-    pub fn chain<'a>(&'a self, alloc: Global, row: &'a Scenario) -> Result<Vec<&'a Scenario>, Fault> {
-        let mut chain = Vec::new(alloc);
+    /// A row with all that it stands on.
+    pub fn chain<'a>(&'a self, alloc: Global, row: &'a Scenario) -> Result<Chain<'a>, Fault> {
+        let mut scenarios = Vec::new(alloc);
         let mut next = Some(row);
         for _ in 0..=self.rows.len().saturating_add(self.bases.len()) {
             let Some(scenario) = next else {
-                return Ok(chain);
+                return Ok(Chain { alloc, scenarios });
             };
-            chain.push(scenario)?;
+            scenarios.push(scenario)?;
             next = self.base_of(alloc, scenario)?;
         }
         Err(Fault::wrong(alloc, "a base stands on itself:", &row.name))
@@ -73,7 +74,10 @@ fn read_file<W: World>(
     folder: &Path,
     name: &str,
 ) -> Result<ScenarioFile, Fault> {
-    let path = folder.join(alloc, name).map_err(|_| Fault::Memory)?;
+    let path = path_of(
+        alloc,
+        format!(in alloc; "{}/{name}", folder.as_str())?.as_str(),
+    )?;
     match read_whole(world, &path, MAX_FILE)? {
         Whole::Bytes(bytes) => parse(alloc, name, bytes.as_slice()),
         Whole::Absent | Whole::Large(_) => Err(Fault::wrong(alloc, "no file of rows:", name)),

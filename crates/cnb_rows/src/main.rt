@@ -4,22 +4,22 @@
 //! one that the program runs in; data/README.md says how a row is written.
 #![tactic(auto)]
 
-mod check;
-mod every_call;
+mod chain;
+mod comparison;
 mod fault;
 mod folder;
 mod items;
+mod judging;
 mod run;
 mod scenario;
 mod short;
 mod standing;
 
-use check::{Differences, check_run};
 use cnb_host::{HostWorld, words};
 use cnb_world::Path;
-use every_call::check_every_call;
 use fault::{Fault, path_of};
 use folder::Scenarios;
+use judging::{judge, judge_every_call};
 use scenario::Scenario;
 use std::alloc::Global;
 use std::env;
@@ -28,7 +28,7 @@ use std::thread::Threads;
 
 fn rows_folder(rt: &HostRuntime) -> Result<Path, Fault> {
     let Ok(words) = words(rt) else {
-        return Err(Fault::Memory);
+        return Err(Fault::wrong(rt.alloc(), "the words are no", "text"));
     };
     if let Some(folder) = words.get(1) {
         return path_of(rt.alloc(), folder);
@@ -38,19 +38,19 @@ fn rows_folder(rt: &HostRuntime) -> Result<Path, Fault> {
 }
 
 // What differs in a row and, where it says so, with each call failing in turn.
-fn judge<R: Threads + Sync>(
+fn differences<R: Threads + Sync>(
     rt: &R,
     alloc: Global,
     scenarios: &Scenarios,
     row: &Scenario,
-) -> Result<Differences, Fault> {
+) -> Result<String, Fault> {
     let chain = scenarios.chain(alloc, row)?;
     let Some(want) = &row.want else {
         return Err(Fault::wrong(alloc, "nothing is wanted of", &row.name));
     };
-    let found = check_run(rt, alloc, &chain, want)?;
-    if row.every_call && found.text.is_empty() {
-        return check_every_call(rt, alloc, &chain, want);
+    let found = judge(rt, &chain, want)?;
+    if row.every_call && found.is_empty() {
+        return judge_every_call(rt, &chain, want);
     }
     Ok(found)
 }
@@ -63,13 +63,13 @@ fn tell<R: Threads + Sync + Print>(
     row: &Scenario,
 ) -> Result<bool, Fault> {
     let name = &row.name;
-    match judge(rt, alloc, scenarios, row) {
-        Ok(found) if found.text.is_empty() => {
+    match differences(rt, alloc, scenarios, row) {
+        Ok(found) if found.is_empty() => {
             println!(rt; "ok {name}")?;
             Ok(true)
         }
         Ok(found) => {
-            println!(rt; "differs {name}:{}", found.text)?;
+            println!(rt; "differs {name}:{found}")?;
             Ok(false)
         }
         Err(fault) => {

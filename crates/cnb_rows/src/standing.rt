@@ -58,9 +58,9 @@ fn visit(
 ) -> Result<(), Fault> {
     let names = world.list(folder)?;
     for name in names.as_slice() {
-        let path = folder
-            .join(alloc, name.as_str())
-            .map_err(|_| Fault::Memory)?;
+        let Ok(path) = folder.join(alloc, name.as_str()) else {
+            return Err(Fault::Files);
+        };
         match world.kind(&path)? {
             Kind::Folder => folders.push(path)?,
             Kind::Absent | Kind::File { .. } | Kind::Link | Kind::Odd => leaves.push(path)?,
@@ -102,6 +102,8 @@ fn is_same(
     after: &mut MemWorld,
     path: &Path,
 ) -> Result<bool, Fault> {
-    Ok(before.kind(path)? == after.kind(path)?
-        && text_at(alloc, before, path)? == text_at(alloc, after, path)?)
+    Ok(
+        before.kind(path)? == after.kind(path)?
+            && text_at(alloc, before, path)? == text_at(alloc, after, path)?,
+    )
 }
