@@ -5,7 +5,7 @@ use crate::run::Came;
 use crate::scenario::Want;
 use crate::short::id_and_version;
 use crate::standing::{changed, kind_word, reads_as, text_at};
-use cnb_world::{MemWorld, World};
+use cnb_world::{Env, MemWorld, World};
 use std::alloc::{AllocError, Global};
 
 /// What differs from what a row wants, in one line; the text is empty where nothing does.
@@ -42,8 +42,9 @@ impl<'a> Comparison<'a> {
     pub fn judge(&mut self, came: &mut Came) -> Result<(), Fault> {
         self.compare_end(came)?;
         let wanted = self.wanted_asked()?;
-        let asked = self.asked_text(&came.asked)?;
+        let asked = self.asked_text(&came.asked(self.alloc)?)?;
         self.compare("asked", &wanted, &asked)?;
+        self.compare_environments(came)?;
         self.compare_documents(&mut came.world)?;
         self.compare_files(&mut came.world)?;
         self.compare_kinds(&mut came.world)?;
@@ -94,6 +95,18 @@ impl<'a> Comparison<'a> {
         Ok(text)
     }
 
+    fn compare_environments(&mut self, came: &Came) -> Result<(), Fault> {
+        for (name, variables) in &self.want.environments {
+            let mut wanted = String::new(self.alloc);
+            for (name, value) in variables {
+                write!(wanted, " {name}={value}")?;
+            }
+            let environment = environment_text(self.alloc, came.environment_of(name))?;
+            self.compare(name, &wanted, &environment)?;
+        }
+        Ok(())
+    }
+
     fn compare_documents(&mut self, world: &mut MemWorld) -> Result<(), Fault> {
         for (path, table) in &self.want.documents {
             let text = text_or_none(self.alloc, world, path)?;
@@ -134,7 +147,7 @@ impl<'a> Comparison<'a> {
             self.tell("with a failed call", "its line", &came.printed)?;
         }
         let wanted = self.wanted_asked()?;
-        let asked = self.asked_text(&came.asked)?;
+        let asked = self.asked_text(&came.asked(self.alloc)?)?;
         if !wanted.starts_with(asked.as_str()) {
             self.tell("asked with a failed call", &wanted, &asked)?;
         }
@@ -158,6 +171,18 @@ impl<'a> Comparison<'a> {
             None => Ok(false),
         }
     }
+}
+
+fn environment_text(alloc: Global, env: Option<&Env>) -> Result<String, Fault> {
+    let mut text = String::new(alloc);
+    if let Some(env) = env {
+        for place in 0..env.len() {
+            let name = env.name(place).as_str();
+            let value = env.value(place).as_str();
+            write!(text, " {name}={value}")?;
+        }
+    }
+    Ok(text)
 }
 
 fn text_or_none(alloc: Global, world: &mut MemWorld, path: &str) -> Result<String, Fault> {

@@ -39,7 +39,7 @@ pub fn judge_every_call<R: Threads + Sync>(
         }
         comparison.judge_failed(&mut came, &[2, 5])?;
     }
-    for number in 0..run_as_given(rt, chain)?.asked.len() {
+    for number in 0..run_as_given(rt, chain)?.asked(chain.alloc)?.len() {
         let mut failing = Failing::none(chain.alloc);
         failing.spawner.push(number as u64)?;
         comparison.judge_failed(&mut chain.run(rt, &failing)?, &[5])?;

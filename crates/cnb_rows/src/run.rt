@@ -2,18 +2,47 @@
 use crate::chain::Chain;
 use crate::fault::Fault;
 use crate::scenario::Failing;
+use crate::short::id_and_version;
 use cnb_lifecycle::lifecycle;
-use cnb_world::{List, MemSink, MemSpawner, MemWorld, Shelf};
+use cnb_world::{Env, List, MemSink, MemSpawner, MemWorld, Shelf};
 use std::alloc::Global;
 use std::thread::Threads;
 
-/// What came of a run: its status, the text that was taken, the buildpacks that were asked, as `a@1.0.0`, and the files.
+/// What came of a run: its status, the text that was taken, the children that ran, and the files.
 #[derive(Drop)]
 pub struct Came {
     pub status: u8,
     pub printed: String,
-    pub asked: Vec<String>,
+    pub spawners: Vec<MemSpawner>,
     pub world: MemWorld,
+}
+
+impl Came {
+    /// The buildpacks whose children ran, as `a@1.0.0`.
+    pub fn asked(&self, alloc: Global) -> Result<Vec<String>, Fault> {
+        let mut asked = Vec::new(alloc);
+        for spawner in &self.spawners {
+            for ran in spawner.runs() {
+                let id = ran.job.id.as_str();
+                let version = ran.job.version.as_str();
+                asked.push(format!(in alloc; "{id}@{version}")?)?;
+            }
+        }
+        Ok(asked)
+    }
+
+    /// The environment of a buildpack's child, where it ran.
+    pub fn environment_of(&self, name: &str) -> Option<&Env> {
+        let (id, version) = id_and_version(name);
+        for spawner in &self.spawners {
+            for ran in spawner.runs() {
+                if ran.job.id.as_str() == id && ran.job.version.as_str() == version {
+                    return Some(&ran.job.env);
+                }
+            }
+        }
+        None
+    }
 }
 
 impl Failing {
@@ -52,7 +81,7 @@ impl Chain<'_> {
         Ok(Came {
             status: status.code(),
             printed: String::from_utf8_lossy(self.alloc, out.as_slice())?,
-            asked: asked(self.alloc, &spawners)?,
+            spawners,
             world,
         })
     }
@@ -77,16 +106,4 @@ impl Chain<'_> {
 
 fn numbers(alloc: Global, numbers: &[u64]) -> Result<List<u64>, Fault> {
     Ok(List::from_vec(Vec::from_slice(alloc, numbers)?))
-}
-
-fn asked(alloc: Global, spawners: &[MemSpawner]) -> Result<Vec<String>, Fault> {
-    let mut asked = Vec::new(alloc);
-    for spawner in spawners {
-        for ran in spawner.runs() {
-            let id = ran.job.id.as_str();
-            let version = ran.job.version.as_str();
-            asked.push(format!(in alloc; "{id}@{version}")?)?;
-        }
-    }
-    Ok(asked)
 }

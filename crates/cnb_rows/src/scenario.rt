@@ -96,6 +96,8 @@ pub struct Want {
     #[serde(default)]
     pub asked: String,
     #[serde(default)]
+    pub environments: BTreeMap<String, BTreeMap<String, String>>,
+    #[serde(default)]
     pub documents: BTreeMap<String, Table>,
     #[serde(default)]
     pub files: BTreeMap<String, String>,
