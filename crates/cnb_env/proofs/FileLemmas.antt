@@ -16,8 +16,10 @@ use Rattle.cnb_world.specs.declared.world.Kind.TheVariants as kind
 use Rattle.doc_files.specs.Reading.{Reads}
 use Rattle.doc_files.specs.declared.fault.ReadFault.{ReadFault}
 use Rattle.doc_files.specs.declared.fault.ReadFault.TheVariants.{File, Document, Limit, Memory}
-use Rattle.cnb_env.specs.Contents.{contents_of, file_of, file_at, has_equals}
+use Rattle.cnb_env.specs.Contents.{contents_of, file_of, file_at}
+use Rattle.cnb_env.specs.Names.{is_ignored}
 use Rattle.cnb_env.specs.declared.files.EnvFile.{EnvFile}
+use Rattle.cnb_env.specs.declared.names.Naming.{Naming}
 
 not_more : (n m : ℕ) → n ≤ m → nat_lt m n ≡ false
 not_more n m h = grind (arith, nat_tests)
@@ -49,29 +51,32 @@ of_refused name path want Memory h = tt
 of_refused name path want (Document p f) h = ap (file_of name path) h
 of_refused name path want (Limit kind) h = ap (file_of name path) h
 
-module _ (folder name path : List ℕ) (place : path ≡ joined folder name) where
-  -- a name with `=` is no variable's
-  pub no_file : (o : Option Tree) → has_equals name ≡ true → IfSome o (λ files. Reads (Ok None) (file_at files folder name))
+module _ (naming : Naming) (folder name path : List ℕ) (place : path ≡ joined folder name) where
+  -- a name that is passed over has no file
+  pub no_file : (o : Option Tree) → is_ignored naming name ≡ true → IfSome o (λ files. Reads (Ok None) (file_at naming files folder name))
   unfolding file_at
   no_file None h = tt
   no_file (Some files) h = ap (λ b. cond b (Ok None) (file_of name (joined folder name) (contents_of (item_at files (joined folder name))))) h
 
-  at_path : (files : Tree) → has_equals name ≡ false → file_at files folder name ≡ file_of name path (contents_of (item_at files path))
+  at_path : (files : Tree) → is_ignored naming name ≡ false → file_at naming files folder name ≡ file_of name path (contents_of (item_at files path))
   unfolding file_at
   at_path files h = ap (λ b. cond b (Ok None) (file_of name (joined folder name) (contents_of (item_at files (joined folder name))))) h ∙ ap (λ p. file_of name p (contents_of (item_at files p))) (sym place)
 
-  pub refused_file : (o : Option Tree) (fault : ReadFault) → has_equals name ≡ false → IfSome o (λ files. Reads {T = Option (List ℕ)} (Err fault) (contents_of (item_at files path))) → IfSome o (λ files. Reads {T = Option EnvFile} (Err fault) (file_at files folder name))
+  pub refused_file : (o : Option Tree) (fault : ReadFault) → is_ignored naming name ≡ false → IfSome o (λ files. Reads {T = Option (List ℕ)} (Err fault) (contents_of (item_at files path)))
+      → IfSome o (λ files. Reads {T = Option EnvFile} (Err fault) (file_at naming files folder name))
   refused_file None fault h r = tt
   refused_file (Some files) fault h r = let P : Result (Option EnvFile) ReadFault → Type 0 = λ x. Reads (Err fault) x in subst P (sym (at_path files h)) (of_refused name path (contents_of (item_at files path)) fault r)
 
-  found_at : (files : Tree) (found : Option (List ℕ)) (result : Result (Option EnvFile) ReadFault) → has_equals name ≡ false → contents_of (item_at files path) ≡ Ok found → Reads result (file_of name path (Ok found)) → Reads result (file_at files folder name)
+  found_at : (files : Tree) (found : Option (List ℕ)) (result : Result (Option EnvFile) ReadFault) → is_ignored naming name ≡ false → contents_of (item_at files path) ≡ Ok found → Reads result (file_of name path (Ok found)) → Reads result (file_at naming files folder name)
   found_at files found result h r of = let P : Result (Option EnvFile) ReadFault → Type 0 = λ x. Reads result x in subst P (sym (at_path files h ∙ ap (file_of name path) r)) of
 
-  pub found_refused : (o : Option Tree) (found : Option (List ℕ)) (fault : ReadFault) → has_equals name ≡ false → IfSome o (λ files. contents_of (item_at files path) ≡ Ok found) → Reads {T = Option EnvFile} (Err fault) (file_of name path (Ok found)) → IfSome o (λ files. Reads {T = Option EnvFile} (Err fault) (file_at files folder name))
+  pub found_refused : (o : Option Tree) (found : Option (List ℕ)) (fault : ReadFault) → is_ignored naming name ≡ false → IfSome o (λ files. contents_of (item_at files path) ≡ Ok found) → Reads {T = Option EnvFile} (Err fault) (file_of name path (Ok found))
+      → IfSome o (λ files. Reads {T = Option EnvFile} (Err fault) (file_at naming files folder name))
   found_refused None found fault h r of = tt
   found_refused (Some files) found fault h r of = found_at files found (Err fault) h r of
 
-  pub found_file : (o : Option Tree) (found : Option (List ℕ)) (file : Option EnvFile) → has_equals name ≡ false → IfSome o (λ files. contents_of (item_at files path) ≡ Ok found) → file_of name path (Ok found) ≡ Ok file → IfSome o (λ files. file_at files folder name ≡ Ok file)
+  pub found_file : (o : Option Tree) (found : Option (List ℕ)) (file : Option EnvFile) → is_ignored naming name ≡ false → IfSome o (λ files. contents_of (item_at files path) ≡ Ok found) → file_of name path (Ok found) ≡ Ok file
+      → IfSome o (λ files. file_at naming files folder name ≡ Ok file)
   found_file None found file h r of = tt
   found_file (Some files) found file h r of = found_at files found (Ok file) h r of
 
@@ -91,8 +96,8 @@ part_short name h =
     leb-true (length name) 255 (and_true (nat_lt 0 (length name)) (nat_le (length name) 255) one.0).1
 
 -- a name in a folder has a path
-pub file_fits : (folder name : List ℕ) → length folder ≤ 8196 → IsTrue (is_part name) → length (joined folder name) ≤ 32768
+pub file_fits : (folder name : List ℕ) → length folder ≤ 16384 → IsTrue (is_part name) → length (joined folder name) ≤ 32768
 file_fits folder name short part = let by : length (joined folder name) ≤ length folder + 1 + length name = length-joined_by (bytes_eq folder (47 ∷ [])) folder name in omega (arith, part_short name part)
 
-pub folder_fits : (platform : List ℕ) → length platform ≤ 8192 → length (joined platform (101 ∷ 110 ∷ 118 ∷ [])) ≤ 8196
+pub folder_fits : (platform : List ℕ) → length platform ≤ 8192 → length (joined platform (101 ∷ 110 ∷ 118 ∷ [])) ≤ 16384
 folder_fits platform short = let by : length (joined platform (101 ∷ 110 ∷ 118 ∷ [])) ≤ length platform + 1 + 3 = length-joined_by (bytes_eq platform (47 ∷ [])) platform (101 ∷ 110 ∷ 118 ∷ []) in omega arith

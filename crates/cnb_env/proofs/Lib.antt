@@ -1,3 +1,4 @@
+pub mod Applied
 pub mod FileLemmas
 pub mod FolderLemmas
 pub mod Texts

@@ -4,7 +4,7 @@ use Rattle.std.proofs.lemmas.Bool.Decides.{nat_tests}
 use Rattle.std.proofs.lemmas.Str.{utf8_valid_len-IsUtf8, utf8_valid_len-IsValidUpTo}
 use Rattle.std.specs.Str.{IsUtf8, IsValidUpTo}
 use Rattle.std.specs.Str.Lossy.{utf8_valid_len}
-use Rattle.cnb_env.specs.Files.{is_utf8}
+use Rattle.cnb_env.specs.Contents.{is_utf8}
 
 pub is_text : (bytes : List ℕ) → IsUtf8 bytes → is_utf8 bytes ≡ true
 is_text bytes is = let e : utf8_valid_len bytes ≡ length bytes = utf8_valid_len-IsUtf8 bytes is in grind (arith, nat_tests)

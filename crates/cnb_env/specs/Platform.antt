@@ -1,5 +1,5 @@
 -- The platform's environment files (platform.md, "User-Provided Variables"; buildpack.md, "Environment").
-use Rattle.std.specs.Prelude.{ℕ, Bool, List, [], ◌∷◌, ◌++◌, codes, if◌then◌else◌, Option, Some, None}
+use Rattle.std.specs.Prelude.{ℕ, ◌≡◌, ◌<◌, Bool, List, [], ◌∷◌, ◌++◌, codes, if◌then◌else◌, length, take, Option, Some, None}
 use Rattle.std.specs.List.{list_any}
 use Rattle.std.specs.Str.{bytes_eq}
 use Rattle.cnb_world.specs.declared.env.Variable.{Variable}
@@ -28,3 +28,7 @@ with_file file env =
 abbrev pub with_files : List EnvFile → List Variable → List Variable
 with_files [] env = env
 with_files (file ∷ files) env = with_files files (with_file file env)
+
+-- the environment with the first of these files applied, and not all
+abbrev pub HasFirstFiles : List EnvFile → List Variable → List Variable → Type 0
+HasFirstFiles files old new = (count : ℕ) × (count < length files) × (new ≡ with_files (take count files) old)

@@ -1,14 +1,14 @@
 // One environment file.
-ghost use Rattle.std.specs.Prelude.{◌≡◌, ◌≤◌, ◌==◌, IfSome, IsTrue, Ok, length, ℕ};
+ghost use Rattle.std.specs.Prelude.{◌≡◌, ◌≤◌, ◌==◌, IfErr, IfSome, IsTrue, Ok, length, ℕ};
 ghost use Rattle.std.specs.List.{list_any};
 ghost use Rattle.cnb_world.specs.Path.{is_part, joined};
 ghost use Rattle.cnb_world.specs.Tree.{item_at};
 ghost use Rattle.doc_files.specs.Counts.{CountsFiles};
-ghost use Rattle.doc_files.specs.Reading.{Reads};
-ghost use Rattle.cnb_env.specs.Contents.{contents_of, file_at, file_of, has_equals};
-ghost use Rattle.cnb_env.specs.Files.{value_in};
+ghost use Rattle.doc_files.specs.Reading.{BlamesOnly, Reads};
+ghost use Rattle.cnb_env.specs.Contents.{contents_of, file_at, file_of, value_in};
 
 use crate::files::EnvFile;
+use crate::names::{Naming, is_ignored};
 use cnb_toml::DocFault;
 use cnb_world::{Bytes, Kind, LimitKind, Path, Text, World};
 use doc_files::{ReadFault, blamed};
@@ -20,6 +20,7 @@ const LONGEST_FILE: u64 = 1048576;
 // The bytes of a regular file.
 fn contents<W: World>(alloc: Global, world: &mut W, path: &Path) -> Result<Option<Bytes>, ReadFault>
     ensures reads { IfSome (W.tree world.old) (λ files. Reads result (contents_of (item_at files path.now))) }
+    ensures blames { IfErr result (BlamesOnly path.now) }
     ensures tree { W.tree world.new ≡ W.tree world.old }
     ensures files { CountsFiles result (W.file_faults world.old) (W.file_faults world.new) }
     ensures children { W.child_faults world.new ≡ W.child_faults world.old }
@@ -45,16 +46,11 @@ fn has_zero(bytes: &[u8]) -> bool
     bytes.iter().any(|byte| *byte == 0)
 }
 
-fn has_equals(name: &[u8]) -> bool
-    ensures { result ≡ has_equals name.now }
-{
-    name.iter().any(|byte| *byte == b'=')
-}
-
 // The value that a file's bytes are.
 #[tactic(auto, using(crate::proofs::Texts::is_text, crate::proofs::Texts::is_no_text))]
 fn value_in(alloc: Global, path: &Path, bytes: &[u8]) -> Result<Text, ReadFault>
     ensures reads { Reads result (value_in path.now bytes.now) }
+    ensures blames { IfErr result (BlamesOnly path.now) }
     ensures files { (n : ℕ) → CountsFiles result n n }
 {
     match std::str::from_utf8(bytes) {
@@ -67,7 +63,7 @@ fn value_in(alloc: Global, path: &Path, bytes: &[u8]) -> Result<Text, ReadFault>
     }
 }
 
-// The variable's file of a name, from the bytes of the regular file there.
+// The environment file of a name, from the bytes of the regular file there.
 fn file_of(
     alloc: Global,
     path: &Path,
@@ -75,6 +71,7 @@ fn file_of(
     found: Option<Bytes>,
 ) -> Result<Option<EnvFile>, ReadFault>
     ensures reads { Reads result (file_of name.now path.now (Ok found)) }
+    ensures blames { IfErr result (BlamesOnly path.now) }
     ensures files { (n : ℕ) → CountsFiles result n n }
 {
     match found {
@@ -87,24 +84,26 @@ fn file_of(
     }
 }
 
-/// The variable's file of a name in the folder.
-#[tactic(auto, using(crate::proofs::FileLemmas::file_fits, doc_files::proofs::Steps::counts_after))]
+/// The environment file of a name in the folder.
+#[tactic(auto, using(crate::proofs::FileLemmas::file_fits, doc_files::proofs::Counts::counts_after))]
 pub(crate) fn read_file<W: World>(
     alloc: Global,
     world: &mut W,
     folder: &Path,
     name: &Text,
+    naming: Naming,
 ) -> Result<Option<EnvFile>, ReadFault>
     requires part { IsTrue (is_part name.now) }
-    requires short { length folder.now ≤ 8196 }
-    ensures reads { IfSome (W.tree world.old) (λ files. Reads result (file_at files folder.now name.now)) }
+    requires short { length folder.now ≤ 16384 }
+    ensures reads { IfSome (W.tree world.old) (λ files. Reads result (file_at naming files folder.now name.now)) }
+    ensures blames { IfErr result (BlamesOnly (joined folder.now name.now)) }
     ensures tree { W.tree world.new ≡ W.tree world.old }
     ensures files { CountsFiles result (W.file_faults world.old) (W.file_faults world.new) }
     ensures children { W.child_faults world.new ≡ W.child_faults world.old }
     ensures runs { W.runs world.new ≡ W.runs world.old }
     ensures misused { W.misused world.new ≡ W.misused world.old }
 {
-    if has_equals(name.as_str().as_bytes()) {
+    if is_ignored(naming, name.as_str()) {
         return Ok(None);
     }
     let path = folder.below(alloc, name.as_str())?;

@@ -1,18 +1,18 @@
 // The environment files of a folder.
-ghost use Rattle.std.specs.Prelude.{◌≡◌, ◌≤◌, IfSome, OnOk, length};
+ghost use Rattle.std.specs.Prelude.{◌≡◌, ◌≤◌, IfErr, IfSome, OnOk, length};
 ghost use Rattle.std.specs.Option.{option_map};
 ghost use Rattle.cnb_world.specs.Calls.{AreNames, MayMisuse};
-ghost use Rattle.cnb_world.specs.Listing.{names_in};
 ghost use Rattle.cnb_world.specs.Tree.{can_list};
 ghost use Rattle.doc_files.specs.Counts.{CountsFiles};
-ghost use Rattle.doc_files.specs.Reading.{Reads};
+ghost use Rattle.doc_files.specs.Reading.{BlamesOne, Reads};
 ghost use Rattle.cnb_env.specs.Contents.{with_found};
-ghost use Rattle.cnb_env.specs.Files.{files_of};
+ghost use Rattle.cnb_env.specs.Files.{IsOfFolder, files_of, folder_files_in, is_absent, is_fit_folder, listed_files};
 
 use crate::file::read_file;
 use crate::files::EnvFile;
-use cnb_world::{List, Memory, Path, Text, World};
-use doc_files::{ReadFault, list_names};
+use crate::names::Naming;
+use cnb_world::{Kind, List, Memory, Path, Text, World};
+use doc_files::{ReadFault, blamed, list_names};
 use std::alloc::Global;
 
 fn push_found(files: &mut List<EnvFile>, found: Option<EnvFile>) -> Result<(), Memory>
@@ -30,10 +30,12 @@ fn read_files<W: World>(
     world: &mut W,
     folder: &Path,
     names: &[Text],
+    naming: Naming,
 ) -> Result<List<EnvFile>, ReadFault>
     requires names { AreNames names.now }
-    requires short { length folder.now ≤ 8196 }
-    ensures reads { IfSome (W.tree world.old) (λ files. Reads result (files_of files folder.now names.now)) }
+    requires short { length folder.now ≤ 16384 }
+    ensures reads { IfSome (W.tree world.old) (λ files. Reads result (files_of naming files folder.now names.now)) }
+    ensures blames { IfErr result (BlamesOne (IsOfFolder folder.now)) }
     ensures tree { W.tree world.new ≡ W.tree world.old }
     ensures files { CountsFiles result (W.file_faults world.old) (W.file_faults world.new) }
     ensures children { W.child_faults world.new ≡ W.child_faults world.old }
@@ -42,27 +44,60 @@ fn read_files<W: World>(
 {
     let mut files = List::new(alloc);
     for name in names {
-        let found = read_file(alloc, world, folder, name)?;
+        let found = read_file(alloc, world, folder, name, naming)?;
         push_found(&mut files, found)?;
     }
     Ok(files)
 }
 
-/// The files of a folder, ascending by name.
-pub(crate) fn read_folder<W: World>(
+// The files of a folder that stands there, ascending by name.
+fn read_folder<W: World>(
     alloc: Global,
     world: &mut W,
     folder: &Path,
+    naming: Naming,
 ) -> Result<List<EnvFile>, ReadFault>
-    requires { length folder.now ≤ 8196 }
-    ensures reads { IfSome (W.tree world.old) (λ files. Reads result (files_of files folder.now (names_in files folder.now))) }
+    requires { length folder.now ≤ 16384 }
+    ensures reads { IfSome (W.tree world.old) (λ files. Reads result (listed_files naming files folder.now)) }
+    ensures blames { IfErr result (BlamesOne (IsOfFolder folder.now)) }
     ensures tree { W.tree world.new ≡ W.tree world.old }
     ensures files { CountsFiles result (W.file_faults world.old) (W.file_faults world.new) }
     ensures children { W.child_faults world.new ≡ W.child_faults world.old }
     ensures runs { W.runs world.new ≡ W.runs world.old }
-    ensures misused { MayMisuse (option_map (λ files. can_list files folder.now) (W.tree world.old)) (W.misused world.old) (W.misused world.new) }
+    ensures misused { MayMisuse (option_map (λ files. can_list files folder.now) (W.tree world.old))
+        (W.misused world.old) (W.misused world.new) }
 {
     let names = list_names(alloc, world, folder)?;
-    let files = read_files(alloc, world, folder, names.as_slice())?;
+    let files = read_files(alloc, world, folder, names.as_slice(), naming)?;
     Ok(files)
+}
+
+fn is_absent(kind: Kind) -> bool
+    ensures { result ≡ is_absent kind }
+{
+    matches!(kind, Kind::Absent)
+}
+
+/// The files of a folder, ascending by name. A link is passed over, and a file that is ignored isn't read.
+pub(crate) fn folder_files<W: World>(
+    alloc: Global,
+    world: &mut W,
+    folder: &Path,
+    naming: Naming,
+) -> Result<List<EnvFile>, ReadFault>
+    requires { length folder.now ≤ 16384 }
+    ensures reads { IfSome (W.tree world.old) (λ files. Reads result (folder_files_in naming folder.now files)) }
+    ensures blames { IfErr result (BlamesOne (IsOfFolder folder.now)) }
+    ensures tree { W.tree world.new ≡ W.tree world.old }
+    ensures files { CountsFiles result (W.file_faults world.old) (W.file_faults world.new) }
+    ensures children { W.child_faults world.new ≡ W.child_faults world.old }
+    ensures runs { W.runs world.new ≡ W.runs world.old }
+    ensures misused { MayMisuse (option_map (is_fit_folder folder.now) (W.tree world.old))
+        (W.misused world.old) (W.misused world.new) }
+{
+    match world.kind(folder) {
+        Ok(kind) if is_absent(kind) => Ok(List::new(alloc)),
+        Ok(_) => Ok(read_folder(alloc, world, folder, naming)?),
+        Err(fault) => Err(blamed(alloc, folder, fault)),
+    }
 }

@@ -4,6 +4,7 @@
 mod file;
 mod files;
 mod folder;
+mod names;
 #[cfg(test)]
 mod tests;
 mod variables;

@@ -1,8 +1,8 @@
-// Environment files in an environment.
-ghost use Rattle.std.specs.Prelude.{◌≡◌, ◌++◌, ◌∷◌, IfOk, OnOk};
+// The platform's environment files in an environment.
+ghost use Rattle.std.specs.Prelude.{◌≡◌, ◌++◌, ◌∷◌, IfOk, OnErr, OnOk};
 ghost use Rattle.std.specs.Option.{option_copied};
 ghost use Rattle.cnb_world.specs.Env.{with_value};
-ghost use Rattle.cnb_env.specs.Platform.{in_front_of_value, is_path_variable, with_file, with_files};
+ghost use Rattle.cnb_env.specs.Platform.{HasFirstFiles, in_front_of_value, is_path_variable, with_file, with_files};
 
 use crate::files::EnvFile;
 use cnb_world::{Env, List, Memory, Text};
@@ -48,8 +48,9 @@ fn value_of_file(alloc: Global, env: &Env, file: &EnvFile) -> Result<Text, Memor
     }
 }
 
-fn apply_file(alloc: Global, env: &mut Env, file: &EnvFile) -> Result<(), Memory>
-    ensures { OnOk result (env.new ≡ with_file file.now env.old) }
+fn apply_platform_file(alloc: Global, env: &mut Env, file: &EnvFile) -> Result<(), Memory>
+    ensures applied { OnOk result (env.new ≡ with_file file.now env.old) }
+    ensures refused { OnErr result (env.new ≡ env.old) }
 {
     let value = value_of_file(alloc, env, file)?;
     let name = file.name.copy(alloc)?;
@@ -58,11 +59,13 @@ fn apply_file(alloc: Global, env: &mut Env, file: &EnvFile) -> Result<(), Memory
 }
 
 /// Applies files in order: a path variable's file goes in front of the old value, any other replaces it.
+#[tactic(auto, using(crate::proofs::Applied::one_more_file))]
 pub fn platform(alloc: Global, env: &mut Env, files: &List<EnvFile>) -> Result<(), Memory>
-    ensures { OnOk result (env.new ≡ with_files files.now env.old) }
+    ensures applied { OnOk result (env.new ≡ with_files files.now env.old) }
+    ensures refused { OnErr result (HasFirstFiles files.now env.old env.new) }
 {
     for file in files.as_slice() {
-        apply_file(alloc, env, file)?;
+        apply_platform_file(alloc, env, file)?;
     }
     Ok(())
 }

@@ -1,3 +1,4 @@
+pub mod Blame
+pub mod Counts
 pub mod Listing
 pub mod NamesRead
-pub mod Steps

@@ -1,6 +1,8 @@
--- Reading documents from files.
-use Rattle.std.specs.Prelude.{ℕ, ◌≡◌, List, Option, Some, None, Result, Ok, Err}
-use Rattle.cnb_world.specs.Tree.{Tree, item_at}
+-- Reading documents and folders from files.
+use Rattle.std.specs.Prelude.{ℕ, ◌≡◌, Bool, true, false, if◌then◌else◌, List, Option, Some, None, Result, Ok, Err}
+use Rattle.cnb_world.specs.Listing.{names_in}
+use Rattle.cnb_world.specs.Steps.{Answers}
+use Rattle.cnb_world.specs.Tree.{Tree, can_list, is_file_or_absent, item_at}
 use Rattle.cnb_world.specs.Whole.{whole_of}
 use Rattle.cnb_world.specs.declared.limits.LimitKind.TheVariants.{Document as DocumentLimit}
 use Rattle.cnb_world.specs.declared.whole.Whole.{Whole}
@@ -12,13 +14,16 @@ use Rattle.cnb_toml.specs.declared.fault.DocFault.TheVariants as doc_fault
 use Rattle.doc_files.specs.declared.fault.ReadFault.{ReadFault}
 use Rattle.doc_files.specs.declared.fault.ReadFault.TheVariants.{File, Document, Limit, Memory}
 
+-- a fault that may come at any call: the outside failed, or memory ran out
+abbrev pub is_free : ReadFault → Bool
+is_free (File path) = true
+is_free Memory = true
+is_free (Document path fault) = false
+is_free (Limit kind) = false
+
 -- an answer is this one, unless the outside failed or memory ran out
 abbrev pub Reads : {T : Type 0} → Result T ReadFault → Result T ReadFault → Type 0
-Reads (Err (File path)) want = Unit {0}
-Reads (Err Memory) want = Unit {0}
-Reads (Err (Document path fault)) want = want ≡ Err (Document path fault)
-Reads (Err (Limit kind)) want = want ≡ Err (Limit kind)
-Reads (Ok value) want = want ≡ Ok value
+Reads result want = Answers is_free result want
 
 -- a call on a path that failed is a refusal of that path, or memory ran out
 abbrev pub Blames : List ℕ → FileFault → ReadFault → Type 0
@@ -26,18 +31,23 @@ Blames path fault Memory = Unit {0}
 Blames path file_fault.Failed (File blamed) = blamed ≡ path
 Blames path fault refusal = ⊥
 
+-- a call on this path failed, or memory ran out
+abbrev pub FailsAt : List ℕ → ReadFault → Type 0
+FailsAt path (File blamed) = blamed ≡ path
+FailsAt path Memory = Unit {0}
+FailsAt path (Document blamed fault) = ⊥
+FailsAt path (Limit kind) = ⊥
+
+-- a fault that names a path names one of these
+abbrev pub BlamesOne : (List ℕ → Type 0) → ReadFault → Type 0
+BlamesOne Among (File blamed) = Among blamed
+BlamesOne Among (Document blamed fault) = Among blamed
+BlamesOne Among (Limit kind) = Unit {0}
+BlamesOne Among Memory = Unit {0}
+
 -- a fault that names a path names this one
 abbrev pub BlamesOnly : List ℕ → ReadFault → Type 0
-BlamesOnly path (File blamed) = blamed ≡ path
-BlamesOnly path (Document blamed fault) = blamed ≡ path
-BlamesOnly path (Limit kind) = Unit {0}
-BlamesOnly path Memory = Unit {0}
-
--- one step after another: the first fault ends them
-infixl 10 ◌>>=◌
-abbrev pub ◌>>=◌ : {A B : Type 0} → Result A ReadFault → (A → Result B ReadFault) → Result B ReadFault
-Ok value >>= next = next value
-Err fault >>= next = Err fault
+BlamesOnly path fault = BlamesOne (λ blamed. blamed ≡ path) fault
 
 -- the bytes of a document, where one is there
 abbrev pub document_of : Whole → Result (Option (List ℕ)) ReadFault
@@ -45,8 +55,13 @@ document_of whole.Absent = Ok None
 document_of (whole.Large len) = Err (Limit DocumentLimit)
 document_of (whole.Bytes bytes) = Ok (Some bytes)
 
+-- the document at a path; what is neither a file nor absent can't be read
 abbrev pub document_at : Tree → List ℕ → Result (Option (List ℕ)) ReadFault
-document_at files path = document_of (whole_of 1048576 (item_at files path))
+document_at files path = if is_file_or_absent (item_at files path) then document_of (whole_of 1048576 (item_at files path)) else Err (File path)
+
+-- the names in a folder, ascending; what is no folder can't be listed
+abbrev pub names_at : Tree → List ℕ → Result (List (List ℕ)) ReadFault
+names_at files folder = if can_list files folder then Ok (names_in files folder) else Err (File folder)
 
 -- what the reader of a document answers, for the document at a path
 abbrev pub read_at : {T : Type 0} → List ℕ → Result T DocFault → Result T ReadFault

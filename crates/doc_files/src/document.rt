@@ -13,7 +13,7 @@ use std::alloc::Global;
 /// The longest document, in bytes.
 const LONGEST_DOCUMENT: u64 = 1048576;
 
-/// The bytes of the document at a path, where one is there.
+/// The bytes of the document at a path, where one is there. What is neither a file nor absent can't be read: `File`.
 pub fn read_document<W: World>(
     alloc: Global,
     world: &mut W,
@@ -25,7 +25,8 @@ pub fn read_document<W: World>(
     ensures files { CountsFiles result (W.file_faults world.old) (W.file_faults world.new) }
     ensures children { W.child_faults world.new ≡ W.child_faults world.old }
     ensures runs { W.runs world.new ≡ W.runs world.old }
-    ensures misused { MayMisuse (option_map (λ files. is_file_or_absent (item_at files path.now)) (W.tree world.old)) (W.misused world.old) (W.misused world.new) }
+    ensures misused { MayMisuse (option_map (λ files. is_file_or_absent (item_at files path.now)) (W.tree world.old))
+        (W.misused world.old) (W.misused world.new) }
 {
     match read_whole(world, path, LONGEST_DOCUMENT) {
         Ok(Whole::Absent) => Ok(None),

@@ -1,13 +1,14 @@
 // Why files were not read.
-ghost use Rattle.std.specs.Prelude.{◌≡◌, ℕ, Err};
+ghost use Rattle.std.specs.Prelude.{◌≡◌, ℕ, Err, IfErr};
 ghost use Rattle.doc_files.specs.Counts.{CountsFiles};
-ghost use Rattle.doc_files.specs.Reading.{Blames, Reads, read_at};
+ghost use Rattle.doc_files.specs.Reading.{Blames, BlamesOnly, Reads, read_at};
 
 use cnb_toml::DocFault;
 use cnb_world::{FileFault, LimitKind, Memory, Path};
 use std::alloc::{AllocError, Global};
 
-/// Why a document, or a folder of documents, was not read: a call on a path failed, a document is refused, or it is too long.
+/// Why a document, or a folder of documents, was not read: a call on a path failed, a document is refused, or it is
+/// too long. `File` has the path whose call failed.
 #[derive(Drop)]
 pub enum ReadFault {
     File(Path),
@@ -58,6 +59,7 @@ pub fn read_at<T: Drop>(
     answer: Result<T, DocFault>,
 ) -> Result<T, ReadFault>
     ensures reads { Reads result (read_at path.now answer) }
+    ensures blames { IfErr result (BlamesOnly path.now) }
     ensures files { (n : ℕ) → CountsFiles result n n }
 {
     match answer {

@@ -1,6 +1,6 @@
 // A row for each path, and what each call answers for it, as words.
 use crate::{ReadFault, blamed, is_folder, list_names, read_at, read_document};
-use cnb_world::{Bytes, FileFault, Item, List, MemWorld, Path, Placed};
+use cnb_world::{Bytes, FileFault, Item, List, MemWorld, Path, Placed, Text};
 use std::alloc::Global;
 use std::test::Fail;
 
@@ -30,9 +30,16 @@ fn told_kind(alloc: Global, world: &mut MemWorld, path: &Path) -> &'static str {
     }
 }
 
+fn is_a_and_l(names: &[Text]) -> bool {
+    match names {
+        [first, second] => first.as_str() == "a" && second.as_str() == "l",
+        _ => false,
+    }
+}
+
 fn told_names(alloc: Global, world: &mut MemWorld, path: &Path) -> &'static str {
     match &list_names(alloc, world, path) {
-        Ok(names) if names.as_slice().len() == 1 && names.as_slice()[0].as_str() == "a" => "a",
+        Ok(names) if is_a_and_l(names.as_slice()) => "a, l",
         Ok(_) => "other names",
         Err(fault) => told_fault(fault),
     }
@@ -48,11 +55,18 @@ fn each_call_answers_what_stands_there(rt: HostRuntime) -> Result<(), Fail> {
         path,
         item: Item::File { exec: false, bytes },
     })?;
+    let path = Path::parse(alloc, "/d/l")?;
+    let target = Text::of(alloc, "a")?;
+    items.push(Placed {
+        path,
+        item: Item::Link { target },
+    })?;
     let mut world = MemWorld::new(alloc, items, List::new(alloc), List::new(alloc))?;
     for (at, document, kind, names) in [
-        ("/d", "failed", "folder", "a"),
+        ("/d", "failed", "folder", "a, l"),
         ("/d/a", "1", "no folder", "failed"),
         ("/d/b", "absent", "no folder", "failed"),
+        ("/d/l", "failed", "no folder", "failed"),
     ] {
         let path = Path::parse(alloc, at)?;
         assert_eq!(rt; told_document(alloc, &mut world, &path), document, "{at}");

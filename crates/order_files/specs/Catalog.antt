@@ -1,11 +1,13 @@
 -- The buildpacks of a folder (platform.md, "Buildpacks Directory Layout").
-use Rattle.std.specs.Prelude.{ℕ, Bool, not, ◌&&◌, ◌||◌, List, [], ◌∷◌, ◌++◌, if◌then◌else◌, Option, Some, None, Result, Ok, Err}
+use Rattle.std.specs.Prelude.{ℕ, ◌≡◌, ◌⊎◌, IsTrue, Bool, not, ◌&&◌, ◌||◌, List, [], ◌∷◌, ◌++◌, if◌then◌else◌, Option, Some, None, Result, Ok, Err}
 use Rattle.std.specs.List.{list_all}
 use Rattle.cnb_world.specs.Listing.{names_in}
-use Rattle.cnb_world.specs.Path.{joined}
+use Rattle.cnb_world.specs.Path.{is_part, joined}
+use Rattle.cnb_world.specs.Steps.{◌>>=◌}
 use Rattle.cnb_world.specs.Tree.{Tree, is_folder, item_at}
 use Rattle.bp_docs.specs.declared.descriptor.Descriptor.{Descriptor}
-use Rattle.order_files.specs.Descriptor.{descriptor_at, is_fit_descriptor}
+use Rattle.order_files.specs.Descriptor.{descriptor_at, descriptor_path, is_fit_descriptor}
+use Rattle.doc_files.specs.Reading.{names_at}
 use Rattle.doc_files.specs.declared.fault.ReadFault.{ReadFault}
 
 -- descriptors in front of others; the first fault decides
@@ -41,7 +43,19 @@ buildpacks_in files buildpacks (id_folder ∷ id_folders) = followed_by (buildpa
 
 -- all buildpacks of a folder: ids ascending by their folders, and of each its versions ascending
 unfoldable pub catalog_in : List ℕ → Tree → Result (List Descriptor) ReadFault
-catalog_in buildpacks files = buildpacks_in files buildpacks (names_in files buildpacks)
+catalog_in buildpacks files = names_at files buildpacks >>= buildpacks_in files buildpacks
+
+-- what is read of a version: its folder, and the document of its descriptor
+abbrev pub IsOfVersion : List ℕ → List ℕ → Type 0
+IsOfVersion folder path = (path ≡ folder) ⊎ (path ≡ descriptor_path folder)
+
+-- what is read of an id: its folder, and its versions
+abbrev pub IsOfId : List ℕ → List ℕ → Type 0
+IsOfId folder path = (path ≡ folder) ⊎ ((version : List ℕ) × IsTrue (is_part version) × IsOfVersion (joined folder version) path)
+
+-- what is read of a folder of buildpacks: itself, and its ids
+abbrev pub IsOfCatalog : List ℕ → List ℕ → Type 0
+IsOfCatalog buildpacks path = (path ≡ buildpacks) ⊎ ((id_folder : List ℕ) × IsTrue (is_part id_folder) × IsOfId (joined buildpacks id_folder) path)
 
 -- a name in the folder of an id is no folder, or one that can be read
 unfoldable pub is_fit_version : Tree → List ℕ → List ℕ → Bool

@@ -2,12 +2,13 @@
 use Rattle.std.specs.Prelude.{ℕ, Bool, not, List, codes, if◌then◌else◌, Option, Some, None, Result, Ok, Err}
 use Rattle.std.specs.Str.{bytes_eq}
 use Rattle.cnb_world.specs.Path.{joined}
+use Rattle.cnb_world.specs.Steps.{◌>>=◌}
 use Rattle.cnb_world.specs.Tree.{Tree, is_file_or_absent, item_at}
 use Rattle.cnb_toml.specs.Names.{folder_of}
 use Rattle.cnb_toml.specs.declared.fault.DocFault.TheVariants.{Wrong}
 use Rattle.bp_docs.specs.Descriptor.{descriptor_in}
 use Rattle.bp_docs.specs.declared.descriptor.Descriptor.{Descriptor}
-use Rattle.doc_files.specs.Reading.{◌>>=◌, document_at, read_at}
+use Rattle.doc_files.specs.Reading.{document_at, read_at}
 use Rattle.doc_files.specs.declared.fault.ReadFault.{ReadFault}
 use Rattle.doc_files.specs.declared.fault.ReadFault.TheVariants.{Document}
 

@@ -1,10 +1,11 @@
 -- The order of an order file (platform.md, "order.toml (TOML)").
 use Rattle.std.specs.Prelude.{ℕ, Bool, List, Option, Some, None, Result, Err}
+use Rattle.cnb_world.specs.Steps.{◌>>=◌}
 use Rattle.cnb_world.specs.Tree.{Tree, is_file_or_absent, item_at}
 use Rattle.cnb_toml.specs.declared.fault.DocFault.TheVariants.{Absent}
 use Rattle.bp_docs.specs.Order.{order_in}
 use Rattle.bp_docs.specs.declared.descriptor.Entry.{Entry}
-use Rattle.doc_files.specs.Reading.{◌>>=◌, document_at, read_at}
+use Rattle.doc_files.specs.Reading.{document_at, read_at}
 use Rattle.doc_files.specs.declared.fault.ReadFault.{ReadFault}
 use Rattle.doc_files.specs.declared.fault.ReadFault.TheVariants.{Document}
 

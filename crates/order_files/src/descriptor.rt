@@ -1,11 +1,11 @@
 // The descriptor of a version of a buildpack.
-ghost use Rattle.std.specs.Prelude.{◌≡◌, ◌≤◌, ℕ, IfOk, IfSome, length};
+ghost use Rattle.std.specs.Prelude.{◌≡◌, ◌≤◌, ℕ, IfErr, IfOk, IfSome, length};
 ghost use Rattle.std.specs.Option.{option_map};
 ghost use Rattle.cnb_world.specs.Calls.{MayMisuse};
 ghost use Rattle.doc_files.specs.Counts.{CountsFiles};
-ghost use Rattle.order_files.specs.Descriptor.{described, descriptor_at, is_fit_descriptor, with_folder_names};
+ghost use Rattle.order_files.specs.Descriptor.{described, descriptor_at, descriptor_path, is_fit_descriptor, with_folder_names};
 ghost use Rattle.order_files.specs.Places.{BelongsTo, IsPlaced};
-ghost use Rattle.doc_files.specs.Reading.{Reads};
+ghost use Rattle.doc_files.specs.Reading.{BlamesOnly, Reads};
 
 use bp_docs::{Descriptor, read_buildpack};
 use cnb_toml::DocFault;
@@ -22,6 +22,7 @@ fn with_folder_names(
     descriptor: Descriptor,
 ) -> Result<Descriptor, ReadFault>
     ensures reads { Reads result (with_folder_names path.now id_folder.now version.now descriptor) }
+    ensures blames { IfErr result (BlamesOnly path.now) }
     ensures placed { IfOk result (BelongsTo id_folder.now version.now) }
     ensures files { (n : ℕ) → CountsFiles result n n }
 {
@@ -46,6 +47,7 @@ fn described(
     found: Option<Bytes>,
 ) -> Result<Option<Descriptor>, ReadFault>
     ensures reads { Reads result (described path.now id_folder.now version.now found) }
+    ensures blames { IfErr result (BlamesOnly path.now) }
     ensures placed { IfOk result (IsPlaced id_folder.now version.now) }
     ensures files { (n : ℕ) → CountsFiles result n n }
 {
@@ -60,7 +62,7 @@ fn described(
 }
 
 /// The descriptor in the folder of a version, where it has one. `id_folder` is the name of the folder above.
-#[tactic(auto, using(crate::proofs::Lengths::document_fits, doc_files::proofs::Steps::counts_after))]
+#[tactic(auto, using(crate::proofs::Lengths::document_fits, doc_files::proofs::Counts::counts_after))]
 pub(crate) fn read_descriptor<W: World>(
     alloc: Global,
     world: &mut W,
@@ -69,13 +71,16 @@ pub(crate) fn read_descriptor<W: World>(
     version: &Text,
 ) -> Result<Option<Descriptor>, ReadFault>
     requires { length folder.now ≤ 4608 }
-    ensures reads { IfSome (W.tree world.old) (λ files. Reads result (descriptor_at files folder.now id_folder.now version.now)) }
+    ensures reads { IfSome (W.tree world.old) (λ files.
+        Reads result (descriptor_at files folder.now id_folder.now version.now)) }
+    ensures blames { IfErr result (BlamesOnly (descriptor_path folder.now)) }
     ensures placed { IfOk result (IsPlaced id_folder.now version.now) }
     ensures tree { W.tree world.new ≡ W.tree world.old }
     ensures files { CountsFiles result (W.file_faults world.old) (W.file_faults world.new) }
     ensures children { W.child_faults world.new ≡ W.child_faults world.old }
     ensures runs { W.runs world.new ≡ W.runs world.old }
-    ensures misused { MayMisuse (option_map (λ files. is_fit_descriptor files folder.now) (W.tree world.old)) (W.misused world.old) (W.misused world.new) }
+    ensures misused { MayMisuse (option_map (λ files. is_fit_descriptor files folder.now) (W.tree world.old))
+        (W.misused world.old) (W.misused world.new) }
 {
     let path = folder.below(alloc, "buildpack.toml")?;
     let found = read_document(alloc, world, &path)?;

@@ -11,5 +11,5 @@ invariant-loop-name g l = record {
   children : g.W.World.child_faults l.world ≡ g.W.World.child_faults l.initial.world;
   runs : g.W.World.runs l.world ≡ g.W.World.runs l.initial.world;
   misused : g.W.World.misused l.world ≡ g.W.World.misused l.initial.world;
-  leaves : Leaves (g.W.World.tree l.initial.world) l.folder l.files (drop l.name-index l.names) l.names;
+  leaves : Leaves l.naming (g.W.World.tree l.initial.world) l.folder l.files (drop l.name-index l.names) l.names;
 }

@@ -5,10 +5,11 @@ use Rattle.std.proofs.lemmas.Result.{err_from_is_err_and}
 use Rattle.cnb_world.specs.Listing.{names_in}
 use Rattle.cnb_world.specs.Tree.{Tree, can_list}
 use Rattle.order_files.specs.Catalog.{buildpacks_in, catalog_in, is_fit_buildpack, is_fit_catalog}
-use Rattle.doc_files.proofs.NamesRead.{told}
+use Rattle.doc_files.proofs.NamesRead.{names_told, told}
 use Rattle.order_files.proofs.FolderSteps.{names_fit}
 use Rattle.order_files.proofs.Misuse.{both, no_misuse}
-use Rattle.doc_files.proofs.Steps.{next_refused, stepped}
+use Rattle.doc_files.specs.Reading.{is_free, names_at}
+use Rattle.cnb_world.proofs.Steps.{next_refused, stepped}
 use Rattle.order_files.proofs.catalog.read_catalog.Goals as goal
 
 pub returns-in_err-id_folders-clause-misused : goal.returns-in_err-id_folders-clause-misused
@@ -22,33 +23,33 @@ pub returns-in_err-catalog-clause-reads : goal.returns-in_err-catalog-clause-rea
 unfolding catalog_in
 returns-in_err-catalog-clause-reads g c =
     let buildpacks = c.args.buildpacks.now in
-    let N : List (List ℕ) → Type 0 = λ names. IfSome (g.W.World.tree c.args.world.now) (λ files. told (names_in files buildpacks) ≡ told names) in
+    let N : List (List ℕ) → Type 0 = λ names. IfSome (g.W.World.tree c.args.world.now) (λ files. names_at files buildpacks ≡ told names) in
     let names = subst N (sym c.as_slice.ensures) c.in_ok-id_folders.ensures.reads in
     let exit = err_from_is_err_and c.from_residual-in_err-catalog.result c.from_residual-in_err-catalog.ensures.1 in
-    rw (exit.1, exit.2) (next_refused (λ (files : Tree). told (names_in files buildpacks)) (λ (files : Tree) (names : List (List ℕ)). buildpacks_in files buildpacks names) _ _ c.as_slice.result.now _ c.in_ok-id_folders.ensures.tree names c.in_err-catalog.ensures.reads)
+    rw (exit.1, exit.2) (next_refused is_free (λ (files : Tree). names_at files buildpacks) (λ (files : Tree) (names : List (List ℕ)). buildpacks_in files buildpacks names) _ _ c.as_slice.result.now _ c.in_ok-id_folders.ensures.tree names c.in_err-catalog.ensures.reads)
 
 pub returns-in_err-catalog-clause-misused : goal.returns-in_err-catalog-clause-misused
 unfolding is_fit_catalog
 returns-in_err-catalog-clause-misused g c =
     let buildpacks = c.args.buildpacks.now in
-    let N : List (List ℕ) → Type 0 = λ names. IfSome (g.W.World.tree c.args.world.now) (λ files. told (names_in files buildpacks) ≡ told names) in
+    let N : List (List ℕ) → Type 0 = λ names. IfSome (g.W.World.tree c.args.world.now) (λ files. names_at files buildpacks ≡ told names) in
     let names = subst N (sym c.as_slice.ensures) c.in_ok-id_folders.ensures.reads in
     both (λ (files : Tree). can_list files buildpacks) (λ (files : Tree). list_all (is_fit_buildpack files buildpacks) (names_in files buildpacks)) _ _ _ _ _ refl c.in_ok-id_folders.ensures.misused
-    (names_fit (λ (files : Tree) (names : List (List ℕ)). list_all (is_fit_buildpack files buildpacks) names) buildpacks c.as_slice.result.now _ _ _ _ c.in_ok-id_folders.ensures.tree names c.in_err-catalog.ensures.misused)
+    (names_fit (λ (files : Tree) (names : List (List ℕ)). list_all (is_fit_buildpack files buildpacks) names) buildpacks c.as_slice.result.now _ _ _ _ c.in_ok-id_folders.ensures.tree (names_told buildpacks c.as_slice.result.now _ names) c.in_err-catalog.ensures.misused)
 
 pub returns-clause-reads : goal.returns-clause-reads
 unfolding catalog_in
 returns-clause-reads g c =
     let buildpacks = c.args.buildpacks.now in
-    let N : List (List ℕ) → Type 0 = λ names. IfSome (g.W.World.tree c.args.world.now) (λ files. told (names_in files buildpacks) ≡ told names) in
+    let N : List (List ℕ) → Type 0 = λ names. IfSome (g.W.World.tree c.args.world.now) (λ files. names_at files buildpacks ≡ told names) in
     let names = subst N (sym c.as_slice.ensures) c.in_ok-id_folders.ensures.reads in
-    stepped (λ (files : Tree). told (names_in files buildpacks)) (λ (files : Tree) (names : List (List ℕ)). buildpacks_in files buildpacks names) _ _ c.as_slice.result.now (Ok c.in_ok-catalog.catalog) c.in_ok-id_folders.ensures.tree names c.in_ok-catalog.ensures.reads
+    stepped is_free (λ (files : Tree). names_at files buildpacks) (λ (files : Tree) (names : List (List ℕ)). buildpacks_in files buildpacks names) _ _ c.as_slice.result.now (Ok c.in_ok-catalog.catalog) c.in_ok-id_folders.ensures.tree names c.in_ok-catalog.ensures.reads
 
 pub returns-clause-misused : goal.returns-clause-misused
 unfolding is_fit_catalog
 returns-clause-misused g c =
     let buildpacks = c.args.buildpacks.now in
-    let N : List (List ℕ) → Type 0 = λ names. IfSome (g.W.World.tree c.args.world.now) (λ files. told (names_in files buildpacks) ≡ told names) in
+    let N : List (List ℕ) → Type 0 = λ names. IfSome (g.W.World.tree c.args.world.now) (λ files. names_at files buildpacks ≡ told names) in
     let names = subst N (sym c.as_slice.ensures) c.in_ok-id_folders.ensures.reads in
     both (λ (files : Tree). can_list files buildpacks) (λ (files : Tree). list_all (is_fit_buildpack files buildpacks) (names_in files buildpacks)) _ _ _ _ _ refl c.in_ok-id_folders.ensures.misused
-    (names_fit (λ (files : Tree) (names : List (List ℕ)). list_all (is_fit_buildpack files buildpacks) names) buildpacks c.as_slice.result.now _ _ _ _ c.in_ok-id_folders.ensures.tree names c.in_ok-catalog.ensures.misused)
+    (names_fit (λ (files : Tree) (names : List (List ℕ)). list_all (is_fit_buildpack files buildpacks) names) buildpacks c.as_slice.result.now _ _ _ _ c.in_ok-id_folders.ensures.tree (names_told buildpacks c.as_slice.result.now _ names) c.in_ok-catalog.ensures.misused)

@@ -5,11 +5,12 @@ use Rattle.cnb_world.specs.Listing.{names_in}
 use Rattle.cnb_world.specs.Path.{joined}
 use Rattle.cnb_world.specs.Tree.{Tree}
 use Rattle.order_files.specs.Catalog.{are_fit_versions, followed_by, is_fit_buildpack, versions_in}
-use Rattle.doc_files.proofs.NamesRead.{told}
+use Rattle.doc_files.proofs.NamesRead.{names_told, told}
 use Rattle.order_files.proofs.Behind.{IsFolder, folder_read, folder_refused, passed_over}
 use Rattle.order_files.proofs.FolderSteps.{buildpack_fits, buildpack_from, buildpack_refused_from, listable, names_fit}
 use Rattle.order_files.proofs.Misuse.{folder_fits, no_misuse}
-use Rattle.doc_files.proofs.Steps.{next_refused, stepped}
+use Rattle.doc_files.specs.Reading.{is_free}
+use Rattle.cnb_world.proofs.Steps.{next_refused, stepped}
 use Rattle.order_files.proofs.catalog.with_buildpack.Goals as goal
 
 pub returns-then-not-branch-clause-reads : goal.returns-then-not-branch-clause-reads
@@ -33,11 +34,11 @@ returns-in_err-catalog-clause-reads g c =
     let same = c.in_ok-folder.ensures.0 ∙ ap (joined c.args.buildpacks.now) c.as_str.ensures in
     let there = subst (IsFolder (g.W.World.tree c.args.world.now) place) c.if-not-branch.false c.in_ok-is_folder.ensures.reads in
     let N : List (List ℕ) → Type 0 = λ names. IfSome (g.W.World.tree c.is_folder.new.world) (λ files. told (names_in files place) ≡ told names) in
-    let names = subst N (sym c.as_slice.ensures) c.in_ok-versions.ensures.reads in
+    let names = subst N (sym c.as_slice.ensures) (names_told place c.in_ok-versions.versions _ c.in_ok-versions.ensures.reads) in
     let exit = err_from_is_err_and c.from_residual-in_err-catalog.result c.from_residual-in_err-catalog.ensures.1 in
     rw (exit.1, exit.2) (buildpack_refused_from c.args.buildpacks.now c.args.id_folder.now place same c.args.catalog _ _
     (folder_refused place (λ (files : Tree). versions_in files place c.args.id_folder.now (names_in files place)) c.args.catalog _ _ _ c.in_ok-is_folder.ensures.tree there
-    (next_refused (λ (files : Tree). told (names_in files place)) (λ (files : Tree) (names : List (List ℕ)). followed_by (Ok c.args.catalog) (versions_in files place c.args.id_folder.now names)) _ _ c.as_slice.result.now _ c.in_ok-versions.ensures.tree names c.in_err-catalog.ensures.reads)))
+    (next_refused is_free (λ (files : Tree). told (names_in files place)) (λ (files : Tree) (names : List (List ℕ)). followed_by (Ok c.args.catalog) (versions_in files place c.args.id_folder.now names)) _ _ c.as_slice.result.now _ c.in_ok-versions.ensures.tree names c.in_err-catalog.ensures.reads)))
 
 pub returns-in_err-catalog-clause-misused : goal.returns-in_err-catalog-clause-misused
 returns-in_err-catalog-clause-misused g c =
@@ -45,7 +46,7 @@ returns-in_err-catalog-clause-misused g c =
     let same = c.in_ok-folder.ensures.0 ∙ ap (joined c.args.buildpacks.now) c.as_str.ensures in
     let there = subst (IsFolder (g.W.World.tree c.args.world.now) place) c.if-not-branch.false c.in_ok-is_folder.ensures.reads in
     let N : List (List ℕ) → Type 0 = λ names. IfSome (g.W.World.tree c.is_folder.new.world) (λ files. told (names_in files place) ≡ told names) in
-    let names = subst N (sym c.as_slice.ensures) c.in_ok-versions.ensures.reads in
+    let names = subst N (sym c.as_slice.ensures) (names_told place c.in_ok-versions.versions _ c.in_ok-versions.ensures.reads) in
     buildpack_fits c.args.buildpacks.now c.args.id_folder.now place same _ _ _
     (folder_fits place (λ (files : Tree). are_fit_versions files place (names_in files place)) _ _ _ _ _ c.in_ok-is_folder.ensures.tree
     (listable place _ _ _ _ c.in_ok-is_folder.ensures.tree there c.in_ok-versions.ensures.misused ∙ c.in_ok-is_folder.ensures.misused) there
@@ -57,10 +58,10 @@ returns-clause-reads g c =
     let same = c.in_ok-folder.ensures.0 ∙ ap (joined c.args.buildpacks.now) c.as_str.ensures in
     let there = subst (IsFolder (g.W.World.tree c.args.world.now) place) c.if-not-branch.false c.in_ok-is_folder.ensures.reads in
     let N : List (List ℕ) → Type 0 = λ names. IfSome (g.W.World.tree c.is_folder.new.world) (λ files. told (names_in files place) ≡ told names) in
-    let names = subst N (sym c.as_slice.ensures) c.in_ok-versions.ensures.reads in
+    let names = subst N (sym c.as_slice.ensures) (names_told place c.in_ok-versions.versions _ c.in_ok-versions.ensures.reads) in
     buildpack_from c.args.buildpacks.now c.args.id_folder.now place same c.args.catalog (g.W.World.tree c.args.world.now) (Ok c.in_ok-catalog.catalog)
     (folder_read place (λ (files : Tree). versions_in files place c.args.id_folder.now (names_in files place)) c.args.catalog _ _ (Ok c.in_ok-catalog.catalog) c.in_ok-is_folder.ensures.tree there
-    (stepped (λ (files : Tree). told (names_in files place)) (λ (files : Tree) (names : List (List ℕ)). followed_by (Ok c.args.catalog) (versions_in files place c.args.id_folder.now names)) _ _ c.as_slice.result.now (Ok c.in_ok-catalog.catalog) c.in_ok-versions.ensures.tree names c.in_ok-catalog.ensures.reads))
+    (stepped is_free (λ (files : Tree). told (names_in files place)) (λ (files : Tree) (names : List (List ℕ)). followed_by (Ok c.args.catalog) (versions_in files place c.args.id_folder.now names)) _ _ c.as_slice.result.now (Ok c.in_ok-catalog.catalog) c.in_ok-versions.ensures.tree names c.in_ok-catalog.ensures.reads))
 
 pub returns-clause-misused : goal.returns-clause-misused
 returns-clause-misused g c =
@@ -68,7 +69,7 @@ returns-clause-misused g c =
     let same = c.in_ok-folder.ensures.0 ∙ ap (joined c.args.buildpacks.now) c.as_str.ensures in
     let there = subst (IsFolder (g.W.World.tree c.args.world.now) place) c.if-not-branch.false c.in_ok-is_folder.ensures.reads in
     let N : List (List ℕ) → Type 0 = λ names. IfSome (g.W.World.tree c.is_folder.new.world) (λ files. told (names_in files place) ≡ told names) in
-    let names = subst N (sym c.as_slice.ensures) c.in_ok-versions.ensures.reads in
+    let names = subst N (sym c.as_slice.ensures) (names_told place c.in_ok-versions.versions _ c.in_ok-versions.ensures.reads) in
     buildpack_fits c.args.buildpacks.now c.args.id_folder.now place same _ _ _
     (folder_fits place (λ (files : Tree). are_fit_versions files place (names_in files place)) _ _ _ _ _ c.in_ok-is_folder.ensures.tree
     (listable place _ _ _ _ c.in_ok-is_folder.ensures.tree there c.in_ok-versions.ensures.misused ∙ c.in_ok-is_folder.ensures.misused) there

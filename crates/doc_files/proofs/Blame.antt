@@ -1,0 +1,42 @@
+-- Which path a fault names, after one step and another.
+use Rattle.std.proofs.Common.{◌≡◌, subst, ℕ, List, Result, Err}
+use Rattle.cnb_world.specs.declared.world.FileFault.{FileFault}
+use Rattle.cnb_world.specs.declared.world.FileFault.TheVariants as file_fault
+use Rattle.doc_files.specs.Reading.{Blames, BlamesOne, BlamesOnly, FailsAt, Reads}
+use Rattle.doc_files.specs.declared.fault.ReadFault.{ReadFault}
+use Rattle.doc_files.specs.declared.fault.ReadFault.TheVariants.{File, Document, Limit, Memory}
+
+-- one of some is one of more
+pub blames_more : (Some More : List ℕ → Type 0) → ((path : List ℕ) → Some path → More path) → (fault : ReadFault) → BlamesOne Some fault → BlamesOne More fault
+blames_more Some More grow (File path) h = grow path h
+blames_more Some More grow (Document path fault) h = grow path h
+blames_more Some More grow (Limit kind) h = tt
+blames_more Some More grow Memory h = tt
+
+-- a call that failed names its path
+pub fails_among : (path : List ℕ) (Among : List ℕ → Type 0) → ((blamed : List ℕ) → blamed ≡ path → Among blamed) → (fault : ReadFault) → FailsAt path fault → BlamesOne Among fault
+fails_among path Among is (File blamed) h = is blamed h
+fails_among path Among is Memory h = tt
+fails_among path Among is (Document blamed fault) h = absurd h
+fails_among path Among is (Limit kind) h = absurd h
+
+-- and may come in place of any answer
+pub fails_free : {T : Type 0} (path : List ℕ) (fault : ReadFault) (want : Result T ReadFault) → FailsAt path fault → Reads {T = T} (Err fault) want
+fails_free path (File blamed) want h = tt
+fails_free path Memory want h = tt
+fails_free path (Document blamed fault) want h = absurd h
+fails_free path (Limit kind) want h = absurd h
+
+-- a failed call on one of some is a refusal of one of them
+pub blames_among : (path : List ℕ) (Among : List ℕ → Type 0) → ((blamed : List ℕ) → blamed ≡ path → Among blamed) → (fault : FileFault) (refusal : ReadFault) → Blames path fault refusal → BlamesOne Among refusal
+blames_among path Among is fault Memory h = tt
+blames_among path Among is file_fault.Failed (File blamed) h = is blamed h
+blames_among path Among is file_fault.Memory (File blamed) h = absurd h
+blames_among path Among is file_fault.Failed (Document blamed fault) h = absurd h
+blames_among path Among is file_fault.Memory (Document blamed fault) h = absurd h
+blames_among path Among is file_fault.Failed (Limit kind) h = absurd h
+blames_among path Among is file_fault.Memory (Limit kind) h = absurd h
+
+-- two spellings of one path
+pub blames_same : (path other : List ℕ) → path ≡ other → (fault : ReadFault) → BlamesOnly path fault → BlamesOnly other fault
+blames_same path other same fault h = subst (λ p. BlamesOnly p fault) same h
