@@ -35,7 +35,11 @@ impl MemWorld {
         script: List<Play>,
         faulty: List<u64>,
     ) -> Result<MemWorld, Memory>
-        ensures { IfOk result (λ world. ⟦<MemWorld as World>⟧.tree world ≡ Some (all_placed items empty)) }
+        ensures tree { IfOk result (λ world. ⟦<MemWorld as World>⟧.tree world ≡ Some (all_placed items empty)) }
+        ensures runs { IfOk result (λ world. ⟦<MemWorld as World>⟧.runs world ≡ []) }
+        ensures files { IfOk result (λ world. ⟦<MemWorld as World>⟧.file_faults world ≡ 0) }
+        ensures children { IfOk result (λ world. ⟦<MemWorld as World>⟧.child_faults world ≡ 0) }
+        ensures misused { IfOk result (λ world. ⟦<MemWorld as World>⟧.misused world ≡ 0) }
     {
         let mut changes = Changes::new(alloc);
         changes.place_all(items.into_vec())?;
@@ -49,6 +53,13 @@ impl MemWorld {
             child_faults: 0,
             misused: 0,
         })
+    }
+
+    /// The children that ran, in order.
+    pub fn runs(&self) -> &[ChildRun]
+        ensures { ⟦<MemWorld as World>⟧.runs self.now ≡ all_ran_over result.now }
+    {
+        self.ran.as_slice()
     }
 
     // Counts a fault of the outside.
