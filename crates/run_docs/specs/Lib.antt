@@ -1,4 +1,14 @@
+pub mod Build
+pub mod BuildLaws
+pub mod BuildpackPlan
+pub mod BuildpackPlanLaws
 pub mod Group
 pub mod GroupLaws
+pub mod Launch
+pub mod LaunchLaws
+pub mod Layer
+pub mod LayerLaws
 pub mod Plan
 pub mod PlanLaws
+pub mod Store
+pub mod StoreLaws

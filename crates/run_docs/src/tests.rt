@@ -4,6 +4,8 @@ use cnb_toml::DocFault;
 use std::alloc::{AllocError, Global};
 use std::test::Fail;
 
+mod buildpack;
+
 fn told_fault(alloc: Global, fault: &DocFault) -> Result<String, AllocError> {
     match fault {
         DocFault::Absent => String::from_str(alloc, "Absent"),
