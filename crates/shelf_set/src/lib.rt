@@ -6,6 +6,8 @@
 mod ask;
 mod finding;
 mod searching;
+#[cfg(test)]
+mod tests;
 mod turns;
 
 pub use finding::{Found, Search, find};
