@@ -1,0 +1,4 @@
+pub mod LawLemmas
+pub mod NumberLemmas
+pub mod PlaceLemmas
+pub mod RuleLemmas
