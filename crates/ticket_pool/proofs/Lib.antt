@@ -1,4 +1,11 @@
+pub mod CountLemmas
+pub mod JoinLemmas
 pub mod LawLemmas
+pub mod ListLemmas
 pub mod NumberLemmas
 pub mod PlaceLemmas
+pub mod PlacingLemmas
+pub mod PoolLemmas
+pub mod ReplayLemmas
 pub mod RuleLemmas
+pub mod WorkLemmas

@@ -1,7 +1,13 @@
 pub mod Core
+pub mod Counts
+pub mod Deal
 pub mod Law
 pub mod Numbers
 pub mod Passes
 pub mod Places
+pub mod Placing
+pub mod Replay
 pub mod Round
+pub mod Said
 pub mod TicketRule
+pub mod Work

@@ -1,0 +1,14 @@
+use Rattle.std.proofs.Common.{length, ◌+◌, ◌*◌}
+use Rattle.ticket_pool.proofs.halves.+halves.Given as goal
+
+abbrev pub decreases-run_halves : goal.decreases-run_halves
+decreases-run_halves g l = 4 * length l.spawners.now + 3
+
+abbrev pub decreases-run_both : goal.decreases-run_both
+decreases-run_both g l = 4 * (length l.low.now + length l.high.now) + 2
+
+abbrev pub decreases-run_both-left : goal.decreases-run_both-left
+decreases-run_both-left g l = 4 * length l.low.now + 4
+
+abbrev pub decreases-run_both-right : goal.decreases-run_both-right
+decreases-run_both-right g l = 4 * length l.high.now + 4
