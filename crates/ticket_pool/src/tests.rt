@@ -1,4 +1,7 @@
-// Rounds of few jobs.
+// Rounds of few jobs, and their tickets.
+mod pool;
+mod spawners;
+
 use crate::{Core, Event, Tickets};
 use cnb_world::{Bytes, Probed};
 use std::alloc::Global;
