@@ -1,7 +1,7 @@
 // Files.
 ghost use Rattle.std.specs.Prelude.{◌≡◌, ◌≤◌, List as Seq, ℕ, length, take, drop, Option, IfOk, IfSome, OnOk, OnErr, not, false, is_some, ◌++◌, ◌∷◌, []};
 ghost use Rattle.std.specs.Option.{option_map};
-ghost use Rattle.cnb_world.specs.Tree.{Tree, item_at, kind_of, bytes_of, can_list, can_read, can_create, can_make_folder, can_make_link, can_read_link, can_rename, created, appended, folder_made, is_root, linked, renamed, target_of, without, Lists};
+ghost use Rattle.cnb_world.specs.Tree.{Tree, IsTree, item_at, kind_of, bytes_of, can_list, can_read, can_create, can_make_folder, can_make_link, can_read_link, can_rename, created, appended, folder_made, is_root, linked, renamed, target_of, without, Lists};
 ghost use Rattle.cnb_world.specs.Calls.{CountsChild, CountsFailed, CountsMisuse, AreNames, AppendsSome, RemovesSome};
 ghost use Rattle.cnb_world.specs.Runs.{Run};
 
@@ -81,6 +81,8 @@ pub trait World {
 
     /// The children that ran, in order.
     ghost runs: { Self → Seq Run };
+
+    ghost standing: { (w : Self) → IfSome (tree w) IsTree };
 
     /// What stands at the path. A link isn't followed.
     fn kind(&mut self, path: &Path) -> Result<Kind, FileFault>

@@ -1,7 +1,7 @@
 // A tree in memory, as the changes that made it.
 ghost use Rattle.std.specs.Prelude.{◌≡◌, ◌+◌, ◌≤◌, ◌<◌, ◌^◌, ◌++◌, ◌∷◌, [], IfOk, OnOk, OnErr, IsTrue, length, take, drop, is_some, Some, not, ◌||◌, false, slice_index};
 ghost use Rattle.std.specs.FinMap.{get, insert};
-ghost use Rattle.cnb_world.specs.Tree.{item_at, kind_of, bytes_of, is_folder, is_file, is_file_or_absent, can_make_folder, folders_from, folders_above, with_folders, folder_made, appended, is_link, renamed, target_of, without, Lists};
+ghost use Rattle.cnb_world.specs.Tree.{IsTree, item_at, kind_of, bytes_of, is_folder, is_file, is_file_or_absent, can_make_folder, folders_from, folders_above, with_folders, folder_made, appended, is_link, renamed, target_of, without, Lists};
 ghost use Rattle.cnb_world.specs.Calls.{AreNames};
 ghost use Rattle.cnb_world.specs.Names.{AddsStanding};
 ghost use Rattle.cnb_world.specs.Memory.{tree_of, changed, bytes_written, length_of_change, length_of_item, placed, all_placed, all_without, laid, Extends};
@@ -43,8 +43,10 @@ impl Changes {
     }
 
     /// The changes with those that a child makes behind them.
+    #[tactic(auto, using(crate::proofs::Standing::all_without_keeps))]
     pub fn after(&self, removes: &[Path], leaves: Vec<Placed>) -> Result<Changes, Memory>
-        ensures { IfOk result (λ after. tree_of after.list.items ≡ all_placed leaves.items (all_without removes.now (tree_of self.now.list.items))) }
+        ensures tree { IfOk result (λ after. tree_of after.list.items ≡ all_placed leaves.items (all_without removes.now (tree_of self.now.list.items))) }
+        ensures standing { IfOk result (λ after. IsTree (tree_of self.now.list.items) → IsTree (tree_of after.list.items)) }
     {
         let mut after = Changes {
             alloc: self.alloc,
@@ -256,7 +258,8 @@ impl Changes {
 
     /// Places items in order.
     pub fn place_all(&mut self, items: Vec<Placed>) -> Result<(), Memory>
-        ensures { OnOk result (tree_of self.new.list.items ≡ all_placed items.items (tree_of self.old.list.items)) }
+        ensures tree { OnOk result (tree_of self.new.list.items ≡ all_placed items.items (tree_of self.old.list.items)) }
+        ensures standing { OnOk result (IsTree (tree_of self.old.list.items) → IsTree (tree_of self.new.list.items)) }
     {
         for next in items {
             self.place(next)?;
@@ -265,7 +268,17 @@ impl Changes {
     }
 
     /// Lays an item at its path, with folders at the paths above it.
+    #[tactic(auto, using(crate::proofs::Standing::placed_keeps))]
     pub fn place(&mut self, next: Placed) -> Result<(), Memory>
+        ensures tree { OnOk result (tree_of self.new.list.items ≡ placed next (tree_of self.old.list.items)) }
+        ensures standing { OnOk result (IsTree (tree_of self.old.list.items) → IsTree (tree_of self.new.list.items)) }
+    {
+        let _path = next.path.as_str();
+        self.lay_with_folders(next)?;
+        Ok(())
+    }
+
+    fn lay_with_folders(&mut self, next: Placed) -> Result<(), Memory>
         ensures { OnOk result (tree_of self.new.list.items ≡ placed next (tree_of self.old.list.items)) }
     {
         let Placed { path, item } = next;

@@ -1,7 +1,7 @@
 // A world in memory, with the calls that fail.
 ghost use Rattle.std.specs.Prelude.{◌≡◌, ◌&&◌, ◌++◌, ◌∷◌, Some, [], IfOk, OnOk, OnErr};
 ghost use Rattle.std.specs.FinMap.{empty};
-ghost use Rattle.cnb_world.specs.Tree.{can_create, can_make_link, can_rename};
+ghost use Rattle.cnb_world.specs.Tree.{IsTree, can_create, can_make_link, can_rename};
 ghost use Rattle.cnb_world.specs.Calls.{Rose};
 ghost use Rattle.cnb_world.specs.Memory.{tree_of, all_placed, all_ran_over};
 
@@ -25,6 +25,7 @@ pub struct MemWorld {
     file_faults: u64,
     child_faults: u64,
     misused: u64,
+    ghost standing: { IsTree (tree_of changes.list.items) },
 }
 
 impl MemWorld {
@@ -146,6 +147,8 @@ impl World for MemWorld {
 
     ghost runs = { λ w. all_ran_over w.ran.items };
 
+    ghost standing = { λ w. w.standing };
+
     fn kind(&mut self, path: &Path) -> Result<Kind, FileFault> {
         if self.numbers.is_next_faulty() {
             return Err(self.fault());
@@ -175,6 +178,7 @@ impl World for MemWorld {
         Ok(self.changes.read(path.as_str(), at, max)?)
     }
 
+    #[tactic(auto, using(crate::proofs::Standing::keeps))]
     fn create(&mut self, path: &Path, exec: bool) -> Result<(), FileFault> {
         let is_faulty = self.numbers.is_next_faulty();
         if !self.can_create(path.as_str()) {
@@ -188,6 +192,7 @@ impl World for MemWorld {
         Ok(())
     }
 
+    #[tactic(auto, using(crate::proofs::Standing::keeps))]
     fn append(&mut self, path: &Path, bytes: &[u8]) -> Result<(), FileFault> {
         let is_faulty = self.numbers.is_next_faulty();
         if !self.changes.is_file(path.as_str()) {
@@ -200,6 +205,7 @@ impl World for MemWorld {
         Ok(())
     }
 
+    #[tactic(auto, using(crate::proofs::Standing::keeps))]
     fn make_folder(&mut self, path: &Path) -> Result<(), FileFault> {
         let is_faulty = self.numbers.is_next_faulty();
         if !self.changes.can_make_folder(path.as_str()) {
@@ -212,6 +218,7 @@ impl World for MemWorld {
         Ok(())
     }
 
+    #[tactic(auto, using(crate::proofs::Standing::keeps))]
     fn rename(&mut self, old: &Path, new: &Path) -> Result<(), FileFault> {
         let is_faulty = self.numbers.is_next_faulty();
         if !self.can_rename(old.as_str(), new.as_str()) {
@@ -224,6 +231,7 @@ impl World for MemWorld {
         Ok(())
     }
 
+    #[tactic(auto, using(crate::proofs::Standing::keeps))]
     fn make_link(&mut self, path: &Path, target: &str) -> Result<(), FileFault> {
         let is_faulty = self.numbers.is_next_faulty();
         if !self.can_make_link(path.as_str()) {
@@ -248,6 +256,7 @@ impl World for MemWorld {
         Ok(self.changes.link_target(path.as_str())?)
     }
 
+    #[tactic(auto, using(crate::proofs::Standing::keeps))]
     fn remove(&mut self, path: &Path) -> Result<(), FileFault> {
         let is_faulty = self.numbers.is_next_faulty();
         if path.as_str() == "/" {
