@@ -15,8 +15,8 @@ abbrev pub spawners_of : Tickets → ℕ
 spawners_of tickets = tickets.table.shared.key.spawners
 
 -- the pass is of this round
-abbrev pub IsOf : Tickets → Pass → Type 0
-IsOf tickets pass = pass.seat.table_id ≡ tickets.table.shared.table_id
+abbrev pub IsPassOf : Tickets → Pass → Type 0
+IsPassOf tickets pass = pass.seat.table_id ≡ tickets.table.shared.table_id
 
 -- One draw, and what it answers: the number, or nothing exactly where the number is no job's.
 abbrev pub DrawsNext : ℕ → Option ℕ → View → View → Type 0

@@ -6,6 +6,7 @@ mod fault;
 mod halves;
 mod placing;
 mod pool;
+mod room;
 mod round;
 mod rule;
 #[cfg(test)]

@@ -1,20 +1,19 @@
 // All jobs, by workers side by side.
-ghost use Rattle.std.specs.Prelude.{◌≡◌, ◌+◌, ◌<◌, ◌≤◌, ◌^◌, [], All, IfOk, OnErr, drop, length, map, min, take, vec_capacity};
+ghost use Rattle.std.specs.Prelude.{◌≡◌, ◌+◌, ◌<◌, ◌≤◌, ◌^◌, [], IfOk, OnErr, drop, length, map, min, take};
 ghost use Rattle.std.specs.List.{AllZip};
 ghost use Rattle.ticket_pool.specs.Counts.{CountsPool};
 ghost use Rattle.ticket_pool.specs.Deal.{RanAll, RanSome};
 ghost use Rattle.ticket_pool.specs.Numbers.{upto};
-ghost use Rattle.ticket_pool.specs.Passes.{IsOf, jobs_of, spawners_of, view_of};
+ghost use Rattle.ticket_pool.specs.Passes.{IsPassOf, jobs_of, spawners_of, view_of};
 ghost use Rattle.ticket_pool.specs.Said.{RanAsSaid};
 ghost use Rattle.ticket_pool.specs.TicketRule.{view};
-ghost use Rattle.ticket_pool.specs.Work.{HasRoom};
 
-use crate::answer::Answer;
 use crate::fault::PoolFault;
 use crate::halves::run_halves;
 use crate::placing::place_all;
+use crate::room::{blank_answers, reserved_lists};
 use crate::tickets::{Pass, Tickets};
-use cnb_world::{Bytes, DetectJob, Memory, Probed, Spawner};
+use cnb_world::{DetectJob, Probed, Spawner};
 use std::alloc::Global;
 use std::thread::Threads;
 
@@ -32,10 +31,11 @@ pub fn run_all<S: Spawner + Send, R: Threads + Sync>(
     requires spawners { 0 < length spawners.old.items }
     requires workers { 0 < workers }
     requires small { length jobs.now + min workers (length spawners.old.items) < 2 ^ 32 }
-    requires round { IsOf round.now pass.old }
+    requires round { IsPassOf round.now pass.old }
     requires round_jobs { jobs_of round.now ≡ length jobs.now }
     requires round_spawners { spawners_of round.now ≡ min workers (length spawners.old.items) }
-    requires pass { view_of pass.old ≡ view [] (spawners_of round.now) 0 }
+    requires fresh { (view_of pass.old).drawn ≡ [] }
+    requires whole { (view_of pass.old).spawners ≡ spawners_of round.now }
 
     // Each job was run once, and has the answer of its run; the runs are a round.
     ensures all { let used = min workers (length spawners.old.items) in IfOk result (λ answers.
@@ -44,7 +44,8 @@ pub fn run_all<S: Spawner + Send, R: Threads + Sync>(
     // After a failure some of the jobs were run, each at most once.
     ensures some { let used = min workers (length spawners.old.items) in
         OnErr result (RanSome S.runs jobs.now (take used spawners.old.items) (take used spawners.new.items)) }
-    ensures others { let used = min workers (length spawners.old.items) in drop used spawners.new.items ≡ drop used spawners.old.items }
+    ensures others { let used = min workers (length spawners.old.items) in
+        drop used spawners.new.items ≡ drop used spawners.old.items }
 
     // No spawner says anything new, and each child answered as its spawner says.
     ensures same_says { map S.says spawners.new.items ≡ map S.says spawners.old.items }
@@ -52,7 +53,7 @@ pub fn run_all<S: Spawner + Send, R: Threads + Sync>(
     ensures counts { CountsPool result (map S.faults spawners.old.items) (map S.faults spawners.new.items) }
 
     // The pass has all spawners of the round again, and has drawn a number for each job and one more for each spawner used.
-    ensures round { IsOf round.now pass.new }
+    ensures round { IsPassOf round.now pass.new }
     ensures whole { (view_of pass.new).spawners ≡ spawners_of round.now }
     ensures drawn { IfOk result (λ answers.
         (view_of pass.new).drawn ≡ upto (length jobs.now + min workers (length spawners.old.items))) }
@@ -73,7 +74,7 @@ fn run_used<S: Spawner + Send, R: Threads + Sync>(
 ) -> Result<Vec<Probed>, PoolFault>
     requires some { 1 ≤ length spawners.old }
     requires small { length jobs.now + length spawners.old < 2 ^ 32 }
-    requires round { IsOf round.now pass.old }
+    requires round { IsPassOf round.now pass.old }
     requires round_jobs { jobs_of round.now ≡ length jobs.now }
     requires round_spawners { spawners_of round.now ≡ length spawners.old }
     requires pass { view_of pass.old ≡ view [] (length spawners.old) 0 }
@@ -83,40 +84,14 @@ fn run_used<S: Spawner + Send, R: Threads + Sync>(
     ensures same_says { map S.says spawners.new ≡ map S.says spawners.old }
     ensures said { AllZip (RanAsSaid S.runs S.says) spawners.old spawners.new }
     ensures counts { CountsPool result (map S.faults spawners.old) (map S.faults spawners.new) }
-    ensures round { IsOf round.now pass.new }
+    ensures round { IsPassOf round.now pass.new }
     ensures whole { (view_of pass.new).spawners ≡ spawners_of round.now }
-    ensures drawn { IfOk result (λ answers. (view_of pass.new).drawn ≡ upto (length jobs.now + length spawners.old)) }
+    ensures drawn { IfOk result (λ answers.
+        (view_of pass.new).drawn ≡ upto (length jobs.now + length spawners.old)) }
 {
     let mut lists = reserved_lists(alloc, spawners.len(), jobs.len())?;
     let mut answers = blank_answers(alloc, jobs.len())?;
     run_halves(rt, jobs, round, pass, lists.as_mut_slice(), spawners)?;
     place_all(answers.as_mut_slice(), lists);
-    Ok(answers)
-}
-
-// A list for each worker, with room for all jobs.
-fn reserved_lists(alloc: Global, workers: usize, jobs: usize) -> Result<Vec<Vec<Answer>>, Memory>
-    ensures count { IfOk result (λ lists. length lists.items ≡ workers) }
-    ensures room { IfOk result (λ lists. All (λ list. HasRoom jobs list.items (vec_capacity list)) lists.items) }
-{
-    let mut lists = Vec::with_capacity(alloc, workers)?;
-    'lists: for _ in 0..workers {
-        let list = Vec::with_capacity(alloc, jobs)?;
-        lists.push_reserved(list);
-    }
-    Ok(lists)
-}
-
-// A place for each answer.
-fn blank_answers(alloc: Global, jobs: usize) -> Result<Vec<Probed>, Memory>
-    ensures { IfOk result (λ answers. length answers.items ≡ jobs) }
-{
-    let mut answers = Vec::with_capacity(alloc, jobs)?;
-    'answers: for _ in 0..jobs {
-        answers.push_reserved(Probed {
-            code: None,
-            plan: Bytes::from_vec(Vec::new(alloc)),
-        });
-    }
     Ok(answers)
 }

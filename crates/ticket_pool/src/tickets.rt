@@ -29,7 +29,7 @@ pub struct Pass {
 }
 
 impl Tickets {
-    ghost use Rattle.ticket_pool.specs.Passes.{DrawsNext, IsOf, jobs_of, spawners_of, view_of};
+    ghost use Rattle.ticket_pool.specs.Passes.{DrawsNext, IsPassOf, jobs_of, spawners_of, view_of};
 
     /// The tickets of a round, with a pass of all its spawners that has drawn nothing.
     pub fn new(alloc: Global, jobs: u32, spawners: u32) -> Result<(Tickets, Pass), Memory>
@@ -37,7 +37,7 @@ impl Tickets {
         requires small { jobs + spawners < 2 ^ 32 }
         ensures jobs { IfOk result (λ made. jobs_of made.0 ≡ jobs) }
         ensures spawners { IfOk result (λ made. spawners_of made.0 ≡ spawners) }
-        ensures round { IfOk result (λ made. IsOf made.0 made.1) }
+        ensures round { IfOk result (λ made. IsPassOf made.0 made.1) }
         ensures pass { IfOk result (λ made. view_of made.1 ≡ view [] spawners 0) }
     {
         let size = RoundSize { jobs, spawners };
@@ -47,9 +47,9 @@ impl Tickets {
 
     /// Draws the next number: the pass has it besides, and the answer is that number, or `None` where it is no job's.
     pub fn draw(&self, pass: &mut Pass) -> Option<u32>
-        requires round { IsOf self.now pass.old }
+        requires round { IsPassOf self.now pass.old }
         requires room { (view_of pass.old).late < (view_of pass.old).spawners }
-        ensures round { IsOf self.now pass.new }
+        ensures round { IsPassOf self.now pass.new }
         ensures drew { DrawsNext (jobs_of self.now) result (view_of pass.old) (view_of pass.new) }
         ensures ascending { IsAscending (view_of pass.new).drawn }
         ensures whole { IsWhole (spawners_of self.now) (view_of pass.new) }
@@ -66,9 +66,9 @@ impl Tickets {
     fn draw_by<N: RoundNumbers>(&self, pass: &mut Pass) -> u64
         requires jobs { N.jobs ≡ jobs_of self.now }
         requires spawners { N.spawners ≡ spawners_of self.now }
-        requires round { IsOf self.now pass.old }
+        requires round { IsPassOf self.now pass.old }
         requires room { (view_of pass.old).late < (view_of pass.old).spawners }
-        ensures round { IsOf self.now pass.new }
+        ensures round { IsPassOf self.now pass.new }
         ensures drew { view_of pass.new ≡ drew N.jobs (view_of pass.old) result }
         ensures greater { AllBelow result (view_of pass.old).drawn }
         ensures ascending { IsAscending (view_of pass.new).drawn }
@@ -81,13 +81,13 @@ impl Tickets {
 
     /// A pass of some of the spawners of a pass that has drawn nothing.
     pub fn split(&self, pass: &mut Pass, spawners: u32) -> Pass
-        requires round { IsOf self.now pass.old }
+        requires round { IsPassOf self.now pass.old }
         requires fresh { (view_of pass.old).drawn ≡ [] }
         requires some { 1 ≤ spawners }
         requires left { spawners < (view_of pass.old).spawners }
-        ensures round { IsOf self.now pass.new }
+        ensures round { IsPassOf self.now pass.new }
         ensures kept { view_of pass.new ≡ kept_part spawners (view_of pass.old) }
-        ensures given_round { IsOf self.now result }
+        ensures given_round { IsPassOf self.now result }
         ensures given { view_of result ≡ given_part spawners (view_of pass.old) }
     {
         self.split_by::<Brand>(pass, spawners)
@@ -95,13 +95,13 @@ impl Tickets {
 
     fn split_by<P: Portion>(&self, pass: &mut Pass, spawners: u32) -> Pass
         requires named { P.given ≡ spawners }
-        requires round { IsOf self.now pass.old }
+        requires round { IsPassOf self.now pass.old }
         requires fresh { (view_of pass.old).drawn ≡ [] }
         requires some { 1 ≤ P.given }
         requires left { P.given < (view_of pass.old).spawners }
-        ensures round { IsOf self.now pass.new }
+        ensures round { IsPassOf self.now pass.new }
         ensures kept { view_of pass.new ≡ kept_part P.given (view_of pass.old) }
-        ensures given_round { IsOf self.now result }
+        ensures given_round { IsPassOf self.now result }
         ensures given { view_of result ≡ given_part P.given (view_of pass.old) }
     {
         let seat = self.table.shared.split_seat::<Splits<P>>(&mut pass.seat);
@@ -110,9 +110,9 @@ impl Tickets {
 
     /// One pass of two, which share no number.
     pub fn join(&self, pass: &mut Pass, other: Pass)
-        requires round { IsOf self.now pass.old }
-        requires other_round { IsOf self.now other }
-        ensures round { IsOf self.now pass.new }
+        requires round { IsPassOf self.now pass.old }
+        requires other_round { IsPassOf self.now other }
+        ensures round { IsPassOf self.now pass.new }
         ensures both { view_of pass.new ≡ joined (view_of pass.old) (view_of other) }
         ensures apart { Apart (view_of pass.old).drawn (view_of other).drawn }
         ensures ascending { IsAscending (view_of pass.new).drawn }
@@ -126,8 +126,8 @@ impl Tickets {
     // A look tells what the rule says of the pass now.
     fn look_by<N: RoundNumbers>(&self, pass: &mut Pass)
         requires spawners { N.spawners ≡ spawners_of self.now }
-        requires round { IsOf self.now pass.old }
-        ensures round { IsOf self.now pass.new }
+        requires round { IsPassOf self.now pass.old }
+        ensures round { IsPassOf self.now pass.new }
         ensures same { view_of pass.new ≡ view_of pass.old }
         ensures ascending { IsAscending (view_of pass.old).drawn }
         ensures whole { IsWhole N.spawners (view_of pass.old) }
@@ -137,7 +137,7 @@ impl Tickets {
 
     /// The word, where a pass has all spawners of the round; it has drawn exactly the numbers below the word.
     pub fn close(self, pass: Pass) -> u32
-        requires round { IsOf self pass }
+        requires round { IsPassOf self pass }
         requires all { (view_of pass).spawners ≡ spawners_of self }
         ensures { (view_of pass).drawn ≡ upto result }
     {

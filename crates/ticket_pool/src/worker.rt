@@ -1,6 +1,6 @@
 // One worker.
 ghost use Rattle.std.specs.Prelude.{◌≡◌, ◌≤◌, [], ◌∷◌, length, vec_capacity};
-ghost use Rattle.ticket_pool.specs.Passes.{IsOf, jobs_of, spawners_of, view_of};
+ghost use Rattle.ticket_pool.specs.Passes.{IsPassOf, jobs_of, spawners_of, view_of};
 ghost use Rattle.ticket_pool.specs.TicketRule.{view};
 ghost use Rattle.ticket_pool.specs.Work.{HasRoom, Worked};
 
@@ -17,11 +17,11 @@ pub fn work<S: Spawner>(
     list: &mut Vec<Answer>,
     spawner: &mut S,
 ) -> Result<(), PoolFault>
-    requires round { IsOf round.now pass.old }
+    requires round { IsPassOf round.now pass.old }
     requires jobs { jobs_of round.now ≡ length jobs.now }
     requires pass { view_of pass.old ≡ view [] 1 0 }
     requires list { HasRoom (length jobs.now) list.old.items (vec_capacity list.old) }
-    ensures round { IsOf round.now pass.new }
+    ensures round { IsPassOf round.now pass.new }
     ensures worked { Worked S.runs S.says S.faults jobs.now (spawners_of round.now)
         (spawner.old ∷ []) (spawner.new ∷ []) (list.new.items ∷ []) (view_of pass.new) result }
 {

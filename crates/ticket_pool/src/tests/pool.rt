@@ -51,7 +51,7 @@ fn replies(alloc: Global) -> Result<List<Reply>, Fail> {
     Ok(replies)
 }
 
-// What comes of at most 64 jobs by one spawner to 64: the codes, or why not every job has one; and the word of the round.
+// What comes of at most 64 jobs by one spawner to 64: the codes, or why not every job has one; and the round's word.
 fn run<S: Spawner + Send, R: Threads + Sync>(
     rt: &R,
     alloc: Global,

@@ -1,6 +1,6 @@
 use Rattle.std.proofs.Common.{◌≡◌, ◌≤◌, All, vec_capacity, vec_len}
 use Rattle.ticket_pool.specs.Work.{HasRoom}
-use Rattle.ticket_pool.proofs.pool.reserved_lists.Given as goal
+use Rattle.ticket_pool.proofs.room.reserved_lists.Given as goal
 
 abbrev pub invariant-lists : goal.invariant-lists
 invariant-lists l = record {
