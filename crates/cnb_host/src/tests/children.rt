@@ -1,8 +1,10 @@
 // Detect children as programs of the system.
 
 use super::{enter_folder, leave_folder, path_to};
-use crate::HostSpawner;
-use cnb_world::{DetectFault, DetectJob, Env, Probed, Spawner, Text};
+use crate::{HostSpawner, HostWorld};
+use cnb_world::{
+    ChildFault, ChildJob, DetectFault, DetectJob, Env, List, Probed, Spawner, Text, World,
+};
 use std::fs;
 use std::fs::Permissions;
 use std::os::unix::fs::{PermissionsExt, symlink};
@@ -126,5 +128,47 @@ fn is_sent_to_threads(rt: HostRuntime) -> Result<(), Fail> {
     fs::create_dir(&rt, "app")?;
     let job = job_of(&rt, "exit 3")?;
     assert_eq!(rt; sent(HostSpawner::new(rt)).detect(&job)?.code, Some(3));
+    leave_folder(&rt)
+}
+
+// A job for the world: a script of these lines, with two arguments.
+fn child_of(rt: &HostRuntime, lines: &str) -> Result<ChildJob, Fail> {
+    let alloc = rt.alloc();
+    let mut args = List::new(alloc);
+    args.push(Text::of(alloc, "a b")?)?;
+    args.push(Text::of(alloc, "")?)?;
+    Ok(ChildJob {
+        program: Text::of(alloc, job_of(rt, lines)?.program.as_str())?,
+        args,
+        env: two_variables(rt)?,
+        dir: path_to(rt, "app")?,
+        side: false,
+    })
+}
+
+#[test]
+fn the_world_runs_children(rt: HostRuntime) -> Result<(), Fail> {
+    enter_folder(&rt)?;
+    fs::create_dir(&rt, "app")?;
+    let mut world = HostWorld::new(rt);
+    for (lines, code) in [
+        (
+            "cat /proc/$$/environ > told; echo \"$#$1$2\" >> told; exit 7",
+            Some(7),
+        ),
+        ("exit 0", Some(0)),
+        ("kill -9 $$", None),
+    ] {
+        let end = world.run(&child_of(&rt, lines)?)?;
+        assert_eq!(rt; end.code, code, "{lines}");
+        assert_eq!(rt; end.side.as_slice().len(), 0, "{lines}");
+    }
+    assert_eq!(rt;
+        fs::read_to_string(&rt, "app/told")?.as_str(),
+        "ONE=1 =\0TWO=\02a b\n"
+    );
+    let mut job = child_of(&rt, "exit 0")?;
+    job.program = Text::of(rt.alloc(), path_to(&rt, "no_program")?.as_str())?;
+    assert_eq!(rt; world.run(&job).err(), Some(ChildFault::Failed));
     leave_folder(&rt)
 }

@@ -2,7 +2,7 @@
 
 use super::{enter_folder, leave_folder, path_to};
 use crate::HostWorld;
-use cnb_world::{FileFault, Kind, World};
+use cnb_world::{FileFault, Kind, Path, World};
 use std::fs;
 use std::os::unix::fs::symlink;
 use std::process::Command;
@@ -147,5 +147,43 @@ fn lists_no_name_that_is_not_text(rt: HostRuntime) -> Result<(), Fail> {
         .arg(script)?
         .status(&rt)?;
     assert_eq!(rt; world.list(&folder).err(), Some(FileFault::Failed));
+    leave_folder(&rt)
+}
+
+#[test]
+fn links_and_removes(rt: HostRuntime) -> Result<(), Fail> {
+    enter_folder(&rt)?;
+    lay_out(&rt)?;
+    let mut world = HostWorld::new(rt);
+    world.make_link(&path_to(&rt, "folder/l")?, "../file")?;
+    assert_eq!(rt;
+        world.read_link(&path_to(&rt, "folder/l")?)?.as_str(),
+        "../file"
+    );
+    for name in ["file", "folder", "link", "absent/l"] {
+        let path = path_to(&rt, name)?;
+        assert_eq!(rt;
+            world.make_link(&path, "x").err(),
+            Some(FileFault::Failed),
+            "link {name}"
+        );
+    }
+    for name in ["absent", "file", "folder", "pipe"] {
+        assert_eq!(rt;
+            world.read_link(&path_to(&rt, name)?).err(),
+            Some(FileFault::Failed),
+            "target {name}"
+        );
+    }
+    for name in ["link", "folder", "pipe", "absent", "absent/below"] {
+        world.remove(&path_to(&rt, name)?)?;
+        assert_eq!(rt; world.kind(&path_to(&rt, name)?)?, Kind::Absent, "{name}");
+    }
+    assert_eq!(rt;
+        world.read(&path_to(&rt, "file")?, 0, 9)?.as_slice(),
+        b"abc".as_slice()
+    );
+    let root = Path::parse(rt.alloc(), "/")?;
+    assert_eq!(rt; world.remove(&root).err(), Some(FileFault::Failed));
     leave_folder(&rt)
 }
