@@ -2,7 +2,7 @@
 use Rattle.std.proofs.Common.{◌≡◌, ℕ, zero, suc, ◌+◌, ◌*◌, ◌/◌, ◌%◌, ◌<◌, ◌==◌, Bool, true, false, ◌&&◌, ◌||◌, inl, inr, List, [], ◌∷◌, length, slice_index, Option, Some, None, unwrap_or, Ok, refl, sym, ap, subst, ◌∙◌, arith}
 use Rattle.std.specs.Prelude.{nat_lt, not}
 use Rattle.std.specs.List.{list_all}
-use Rattle.std.proofs.lemmas.Bool.{and_parts, cases_lt, eqb-true, ltb-true}
+use Rattle.std.proofs.lemmas.Bool.{and_parts, and_from, cases_lt, eqb-true, ltb-true}
 use Rattle.hex.specs.Hex.{decode_pairs, decode_sized, digit_or_error, hex_digit_value, encode_lower, encode_with, lower_digits, pair_value, value_at}
 use Rattle.hex.proofs.Pairs.{cons_byte, decode_pairs-ok_pair, decode_sized-pairs}
 use Rattle.tree_canon.specs.Digest.{is_lower_digit, is_digest_text}
@@ -78,3 +78,34 @@ digest_read text h =
     let size : length text ≡ 64 = eqb-true (length text) 64 parts.0 in
     let r = lower_read 0 text (omega arith) parts.1 in
     (r.0, decode_sized-pairs text 32 (omega arith) (omega arith) ∙ r.1, sym r.2)
+
+-- ---- the text of bytes
+
+abbrev all_digits : ℕ → Bool
+all_digits zero = true
+all_digits (suc n) = is_lower_digit (slice_index lower_digits n) && all_digits n
+
+at_value : (n k : ℕ) → all_digits n ≡ true → k < n → is_lower_digit (slice_index lower_digits k) ≡ true
+at_value zero k h lt = absurd (omega arith)
+at_value (suc n) k h lt =
+    let parts = and_parts (is_lower_digit (slice_index lower_digits n)) (all_digits n) h in
+    elim (cases_lt k n) [
+      | inl below ↦ at_value n k parts.1 below
+      | inr top ↦ let e : n ≡ k = omega arith in subst (λ x. is_lower_digit (slice_index lower_digits x) ≡ true) e parts.0
+    ]
+
+pub lower_digits_all : (bytes : List ℕ) → ((i : ℕ) → slice_index bytes i < 256) → list_all is_lower_digit (encode_lower bytes) ≡ true
+unfolding encode_with
+lower_digits_all [] fit = refl
+lower_digits_all (b ∷ bs) fit =
+    let few : b < 256 = fit 0 in
+    and_from _ _ (at_value 16 (b / 16) refl (omega arith)) (and_from _ _ (at_value 16 (b % 16) refl (omega arith)) (lower_digits_all bs (λ i. fit (suc i))))
+
+lower_length : (bytes : List ℕ) → length (encode_lower bytes) ≡ 2 * length bytes
+unfolding encode_with
+lower_length [] = refl
+lower_length (b ∷ bs) = let rest : length (encode_lower bs) ≡ 2 * length bs = lower_length bs in omega arith
+
+-- 32 bytes are written with 64 digits
+pub lower_text : (bytes : List ℕ) → length bytes ≡ 32 → ((i : ℕ) → slice_index bytes i < 256) → is_digest_text (encode_lower bytes) ≡ true
+lower_text bytes size fit = and_from _ _ (ap (λ n. n == 64) (let e : length (encode_lower bytes) ≡ 64 = omega (arith, lower_length bytes) in e)) (lower_digits_all bytes fit)

@@ -55,7 +55,7 @@ impl Digest {
     pub fn text(&self, alloc: Global) -> Result<Text, Memory>
         ensures { IfOk result (λ text. text ≡ encode_lower self.now) }
     {
-        Ok(Text::from_string(hex::encode(alloc, self.bytes)?))
+        lower_text(alloc, &self.bytes)
     }
 
     /// Whether two digests are the same.
@@ -71,6 +71,14 @@ impl Digest {
     {
         &self.bytes
     }
+}
+
+fn lower_text(alloc: Global, bytes: &[u8]) -> Result<Text, Memory>
+    requires { length bytes.now ≡ 32 }
+    ensures text { IfOk result (λ text. text ≡ encode_lower bytes.now) }
+    ensures digits { is_digest_text (encode_lower bytes.now) ≡ true }
+{
+    Ok(Text::from_string(hex::encode(alloc, bytes)?))
 }
 
 fn is_digest_text(text: &[u8]) -> bool
