@@ -82,6 +82,7 @@ pub trait World {
     /// The children that ran, in order.
     ghost runs: { Self → Seq Run };
 
+    /// All that stands has a path other than `/`, and stands in a folder.
     ghost standing: { (w : Self) → IfSome (tree w) IsTree };
 
     /// What stands at the path. A link isn't followed.
