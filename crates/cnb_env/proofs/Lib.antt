@@ -1,4 +1,7 @@
 pub mod Applied
+pub mod BuildLemmas
+pub mod EachLemmas
 pub mod FileLemmas
 pub mod FolderLemmas
+pub mod PathLemmas
 pub mod Texts

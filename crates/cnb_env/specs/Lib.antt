@@ -1,4 +1,6 @@
+pub mod Apply
 pub mod Contents
 pub mod Files
+pub mod Layers
 pub mod Names
 pub mod Platform

@@ -1,4 +1,6 @@
 // Rows of environment files, read from a folder and put into an environment.
+mod layers;
+
 use crate::{EnvFault, EnvFile, platform, platform_files};
 use cnb_toml::DocFault;
 use cnb_world::{Bytes, Env, Item, LimitKind, List, MemWorld, Path, Placed, Text};
@@ -64,6 +66,10 @@ fn file(alloc: Global, at: &str, bytes: &[u8]) -> Result<Placed, Fail> {
             bytes: Bytes::of(alloc, bytes)?,
         },
     )
+}
+
+fn folder(alloc: Global, at: &str) -> Result<Placed, Fail> {
+    placed(alloc, at, Item::Folder)
 }
 
 fn words_of(alloc: Global, files: &[EnvFile]) -> Result<String, Fail> {

@@ -7,7 +7,7 @@ use Rattle.cnb_world.specs.Tree.{Tree}
 use Rattle.doc_files.proofs.NamesRead.{next_name}
 use Rattle.order_files.specs.Catalog.{buildpack_in, buildpacks_in, is_fit_buildpack}
 use Rattle.order_files.proofs.Behind.{Leaves, all_done, moves, nothing_done, stops}
-use Rattle.order_files.proofs.Misuse.{no_misuse, one_fits, rest_fits}
+use Rattle.cnb_world.proofs.Misuse.{no_misuse, one_fits, rest_fits}
 use Rattle.order_files.proofs.PlaceLemmas.{AreVacantIds, later_vacant_ids, none_yet}
 use Rattle.order_files.proofs.catalog.read_buildpacks.Goals as goal
 

@@ -7,7 +7,7 @@ use Rattle.cnb_world.specs.Tree.{Tree, can_list}
 use Rattle.order_files.specs.Catalog.{buildpacks_in, catalog_in, is_fit_buildpack, is_fit_catalog}
 use Rattle.doc_files.proofs.NamesRead.{names_told, told}
 use Rattle.order_files.proofs.FolderSteps.{names_fit}
-use Rattle.order_files.proofs.Misuse.{both, no_misuse}
+use Rattle.cnb_world.proofs.Misuse.{both, no_misuse}
 use Rattle.doc_files.specs.Reading.{is_free, names_at}
 use Rattle.cnb_world.proofs.Steps.{next_refused, stepped}
 use Rattle.order_files.proofs.catalog.read_catalog.Goals as goal

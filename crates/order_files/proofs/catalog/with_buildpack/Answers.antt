@@ -8,7 +8,8 @@ use Rattle.order_files.specs.Catalog.{are_fit_versions, followed_by, is_fit_buil
 use Rattle.doc_files.proofs.NamesRead.{names_told, told}
 use Rattle.order_files.proofs.Behind.{IsFolder, folder_read, folder_refused, passed_over}
 use Rattle.order_files.proofs.FolderSteps.{buildpack_fits, buildpack_from, buildpack_refused_from, listable, names_fit}
-use Rattle.order_files.proofs.Misuse.{folder_fits, no_misuse}
+use Rattle.cnb_world.proofs.Misuse.{no_misuse}
+use Rattle.order_files.proofs.Misuse.{folder_fits}
 use Rattle.doc_files.specs.Reading.{is_free}
 use Rattle.cnb_world.proofs.Steps.{next_refused, stepped}
 use Rattle.order_files.proofs.catalog.with_buildpack.Goals as goal

@@ -6,7 +6,7 @@ use Rattle.cnb_world.specs.Tree.{Tree}
 use Rattle.doc_files.proofs.NamesRead.{next_name}
 use Rattle.order_files.specs.Catalog.{are_fit_versions, followed_by, is_fit_version, version_in, versions_in}
 use Rattle.order_files.proofs.Behind.{Leaves, all_done, moves, stops}
-use Rattle.order_files.proofs.Misuse.{no_misuse, one_fits, rest_fits}
+use Rattle.cnb_world.proofs.Misuse.{no_misuse, one_fits, rest_fits}
 use Rattle.order_files.proofs.PlaceLemmas.{AreVacant, keeps_ids, later_vacant}
 use Rattle.order_files.proofs.version.with_versions.Goals as goal
 

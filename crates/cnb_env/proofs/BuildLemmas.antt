@@ -1,0 +1,40 @@
+-- The environment of a build, by what the layers gave.
+use Rattle.std.proofs.Common.{◌≡◌, ◌∙◌, sym, ap, subst, ℕ, List, Option, Some, None, Ok, Err}
+use Rattle.std.specs.Prelude.{IfSome}
+use Rattle.cnb_world.proofs.Steps.{refused_at}
+use Rattle.cnb_world.specs.Steps.{◌>>=◌}
+use Rattle.cnb_world.specs.Tree.{Tree}
+use Rattle.cnb_world.specs.declared.env.Variable.{Variable}
+use Rattle.doc_files.specs.Reading.{Reads, is_free}
+use Rattle.doc_files.specs.declared.fault.ReadFault.{ReadFault}
+use Rattle.cnb_env.specs.Layers.{build_env, each, set_applied, with_platform}
+use Rattle.cnb_env.specs.declared.files.EnvFile.{EnvFile}
+use Rattle.cnb_env.specs.declared.paths.When.TheVariants.{Build}
+use Rattle.cnb_env.proofs.EachLemmas.{Applied}
+
+-- what is read of the same layers
+pub same_layers : (o : Option Tree) (result : Applied) (want : List (List ℕ) → Tree → Applied) (layers other : List (List ℕ)) → layers ≡ other → IfSome o (λ files. Reads result (want layers files)) → IfSome o (λ files. Reads result (want other files))
+same_layers o result want layers other same h = let P : List (List ℕ) → Type 0 = λ ls. IfSome o (λ files. Reads result (want ls files)) in subst P same h
+
+pub same_layers_refused : (o : Option Tree) (fault : ReadFault) (want : List (List ℕ) → Tree → Applied) (layers other : List (List ℕ)) → layers ≡ other → IfSome o (λ files. Reads {T = List Variable} (Err fault) (want layers files))
+    → IfSome o (λ files. Reads {T = List Variable} (Err fault) (want other files))
+same_layers_refused o fault want layers other same h = same_layers o (Err fault) want layers other same h
+
+module _ (base env : List Variable) (sets done : List (List (List ℕ))) (platform : Option (List EnvFile)) (same_env : env ≡ base) (same_sets : sets ≡ done) where
+  abbrev layers_give : Tree → Applied
+  layers_give files = each (set_applied Build files) done base
+
+  same_give : (files : Tree) → each (set_applied Build files) sets env ≡ layers_give files
+  same_give files = ap (λ s. each (set_applied Build files) s env) same_sets ∙ ap (each (set_applied Build files) done) same_env
+
+  pub build_refused : (o : Option Tree) (fault : ReadFault) → IfSome o (λ files. Reads {T = List Variable} (Err fault) (each (set_applied Build files) sets env)) → IfSome o (λ files. Reads {T = List Variable} (Err fault) (build_env done platform base files))
+  unfolding build_env
+  build_refused None fault h = tt
+  build_refused (Some files) fault h =
+      let Q : Applied → Type 0 = λ x. Reads {T = List Variable} (Err fault) x in
+      refused_at is_free (layers_give files) (λ made. Ok (with_platform platform made)) fault (subst Q (same_give files) h)
+
+  pub build_made : (o : Option Tree) (made new : List Variable) → IfSome o (λ files. each (set_applied Build files) sets env ≡ Ok made) → new ≡ with_platform platform made → IfSome o (λ files. build_env done platform base files ≡ Ok new)
+  unfolding build_env
+  build_made None made new h put = tt
+  build_made (Some files) made new h put = ap (λ x. x >>= λ e. Ok (with_platform platform e)) (sym (same_give files) ∙ h) ∙ ap Ok (sym put)

@@ -1,0 +1,68 @@
+-- One step after another over an environment: how far a loop has come.
+use Rattle.std.proofs.Common.{◌≡◌, ◌∙◌, refl, sym, ap, subst, ℕ, ◌+◌, ◌<◌, Bool, List, [], ◌∷◌, length, drop, get_or, Option, Some, None, Result, Ok, Err}
+use Rattle.std.proofs.lemmas.List.{drop_more}
+use Rattle.std.specs.Prelude.{IfSome, IsTrue}
+use Rattle.cnb_world.proofs.Steps.{refused_at}
+use Rattle.cnb_world.specs.Steps.{◌>>=◌, Unless}
+use Rattle.cnb_world.specs.Tree.{Tree}
+use Rattle.cnb_world.specs.declared.env.Variable.{Variable}
+use Rattle.doc_files.specs.Reading.{Reads, is_free}
+use Rattle.doc_files.specs.declared.fault.ReadFault.{ReadFault}
+use Rattle.cnb_env.specs.Layers.{each}
+
+abbrev pub Applied : Type 0
+Applied = Result (List Variable) ReadFault
+
+-- with this environment so far, what is left gives the whole
+abbrev pub Leaves : {X : Type 0} → Option Tree → (Tree → X → List Variable → Applied) → List X → List Variable → (Tree → Applied) → Type 0
+Leaves o step rest env all = IfSome o (λ files. each (step files) rest env ≡ all files)
+
+module _ {X : Type 0} (step : Tree → X → List Variable → Applied) (one : X) (later whole : List X) (next : whole ≡ one ∷ later) (all : Tree → Applied) (env : List Variable) where
+  left_as : (files : Tree) → each (step files) whole env ≡ all files → (step files one env >>= each (step files) later) ≡ all files
+  left_as files left = ap (λ xs. each (step files) xs env) (sym next) ∙ left
+
+  pub moves : (o o1 : Option Tree) (new : List Variable) → o1 ≡ o → IfSome o1 (λ files. step files one env ≡ Ok new) → Leaves o step whole env all → Leaves o step later new all
+  moves None o1 new e read left = tt
+  moves (Some files) o1 new e read left =
+      let P : Option Tree → Type 0 = λ x. IfSome x (λ t. step t one env ≡ Ok new) in
+      ap (λ x. x >>= each (step files) later) (sym (subst P e read)) ∙ left_as files left
+
+  pub stops : (o o1 : Option Tree) (fault : ReadFault) → o1 ≡ o → IfSome o1 (λ files. Reads {T = List Variable} (Err fault) (step files one env)) → Leaves o step whole env all
+      → IfSome o (λ files. Reads {T = List Variable} (Err fault) (all files))
+  stops None o1 fault e read left = tt
+  stops (Some files) o1 fault e read left =
+      let P : Option Tree → Type 0 = λ x. IfSome x (λ t. Reads {T = List Variable} (Err fault) (step t one env)) in
+      let Q : Applied → Type 0 = λ x. Reads {T = List Variable} (Err fault) x in
+      subst Q (left_as files left) (refused_at is_free (step files one env) (each (step files) later) fault (subst P e read))
+
+-- what a loop over all has done is the whole
+pub all_done : {X : Type 0} (o : Option Tree) (step : Tree → X → List Variable → Applied) (rest : List X) (env : List Variable) (all : Tree → Applied) → rest ≡ [] → Leaves o step rest env all → IfSome o (λ files. all files ≡ Ok env)
+all_done None step rest env all none left = tt
+all_done (Some files) step rest env all none left = sym left ∙ ap (λ xs. each (step files) xs env) none
+
+-- before anything is done, all is left
+pub nothing_done : {X : Type 0} (o : Option Tree) (step : Tree → X → List Variable → Applied) (whole : List X) (env : List Variable) → Leaves o step whole env (λ files. each (step files) whole env)
+nothing_done None step whole env = tt
+nothing_done (Some files) step whole env = refl
+
+-- those from a place on
+pub next_item : {X : Type 0} (xs : List X) (i : ℕ) (x : X) → i < length xs → x ≡ get_or xs i x → drop i xs ≡ x ∷ drop (i + 1) xs
+next_item xs i x h e = drop_more xs i x h ∙ ap (λ y. y ∷ drop (i + 1) xs) (sym e)
+
+-- a fault that may come in place of any answer
+pub free_reads : (o : Option Tree) (want : Tree → Applied) (fault : ReadFault) → IsTrue (is_free fault) → IfSome o (λ files. Reads {T = List Variable} (Err fault) (want files))
+free_reads None want fault h = tt
+free_reads (Some files) want fault h = let P : Bool → Type 0 = λ v. Unless v (want files ≡ Err fault) in subst P (sym h) tt
+
+-- an environment that was told, and then what is read with it
+pub told_then : (o o1 : Option Tree) (made : Tree → List Variable) (next : Tree → List Variable → Applied) (new : List Variable) (result : Applied) → o1 ≡ o → IfSome o (λ files. new ≡ made files) → IfSome o1 (λ files. Reads result (next files new))
+    → IfSome o (λ files. Reads result (next files (made files)))
+told_then None o1 made next new result e told read = tt
+told_then (Some files) o1 made next new result e told read =
+    let P : Option Tree → Type 0 = λ x. IfSome x (λ t. Reads result (next t new)) in
+    let Q : List Variable → Type 0 = λ env. Reads result (next files env) in
+    subst Q told (subst P e read)
+
+pub told_then_refused : (o o1 : Option Tree) (made : Tree → List Variable) (next : Tree → List Variable → Applied) (new : List Variable) (fault : ReadFault) → o1 ≡ o → IfSome o (λ files. new ≡ made files) → IfSome o1 (λ files. Reads {T = List Variable} (Err fault) (next files new))
+    → IfSome o (λ files. Reads {T = List Variable} (Err fault) (next files (made files)))
+told_then_refused o o1 made next new fault e told read = told_then o o1 made next new (Err fault) e told read

@@ -1,0 +1,121 @@
+-- The environment that layers give (buildpack.md, "Layer Paths"; "Provided by the Buildpacks").
+use Rattle.std.specs.Prelude.{ℕ, ◌≡◌, ◌≤◌, ◌⊎◌, IfSome, Bool, not, List, [], ◌∷◌, ◌++◌, codes, filter, map, length, if◌then◌else◌, Option, Some, None, Result, Ok, Err, ◌==◌}
+use Rattle.std.specs.List.{All, join_by, list_all}
+use Rattle.cnb_world.specs.Env.{with_value}
+use Rattle.cnb_world.specs.Path.{joined}
+use Rattle.cnb_world.specs.Steps.{◌>>=◌}
+use Rattle.cnb_world.specs.Tree.{Tree, is_folder, item_at}
+use Rattle.cnb_world.specs.declared.env.Variable.{Variable}
+use Rattle.doc_files.specs.declared.fault.ReadFault.{ReadFault}
+use Rattle.doc_files.specs.declared.fault.ReadFault.TheVariants.{Memory}
+use Rattle.cnb_env.specs.Apply.{HasFirst, all_applied, applied_among, in_front, text_of}
+use Rattle.cnb_env.specs.Files.{folder_files_in, is_fit_folder}
+use Rattle.cnb_env.specs.Platform.{with_files}
+use Rattle.cnb_env.specs.declared.files.EnvFile.{EnvFile}
+use Rattle.cnb_env.specs.declared.names.Naming.TheVariants.{BeforeDot}
+use Rattle.cnb_env.specs.declared.paths.When.{When}
+use Rattle.cnb_env.specs.declared.paths.When.TheVariants.{Build, Launch}
+
+-- ---- path folders
+
+-- a path of a layer that leaves room for what stands in the layer
+abbrev pub IsShort : List ℕ → Type 0
+IsShort layer = length layer ≤ 8192
+
+-- the folders of a name in the layers
+abbrev pub standing_at : Tree → List (List ℕ) → List ℕ → List (List ℕ)
+standing_at files layers name = filter (λ path. is_folder (item_at files path)) (map (λ layer. joined layer name) layers)
+
+-- the same, joined by `:`
+abbrev pub folders_at : Tree → List (List ℕ) → List ℕ → List ℕ
+folders_at files layers name = join_by (λ path. path) (codes ":") (standing_at files layers name)
+
+-- a text with one path more, behind a `:` where it isn't the first
+abbrev pub separated : Bool → List ℕ → List ℕ → List ℕ
+separated is_first text path = (if is_first then text else text ++ codes ":") ++ path
+
+-- folders in front of a path variable, where there are any
+abbrev pub with_front : List ℕ → List ℕ → List Variable → List Variable
+with_front name [] env = env
+with_front name (byte ∷ bytes) env = with_value name (in_front (text_of env name) (codes ":") (byte ∷ bytes)) env
+
+-- the path folders of one buildpack's layers, in front of their variables
+abbrev pub with_launch_paths : Tree → List (List ℕ) → List Variable → List Variable
+with_launch_paths files layers env =
+    with_front (codes "LD_LIBRARY_PATH") (folders_at files layers (codes "lib")) (with_front (codes "PATH") (folders_at files layers (codes "bin")) env)
+
+abbrev pub with_build_paths : Tree → List (List ℕ) → List Variable → List Variable
+with_build_paths files layers env =
+    with_front (codes "PKG_CONFIG_PATH") (folders_at files layers (codes "pkgconfig"))
+    (with_front (codes "CPATH") (folders_at files layers (codes "include"))
+    (with_front (codes "LIBRARY_PATH") (folders_at files layers (codes "lib"))
+    (with_launch_paths files layers env)))
+
+abbrev pub with_paths : When → Tree → List (List ℕ) → List Variable → List Variable
+with_paths Launch files layers env = with_launch_paths files layers env
+with_paths Build files layers env = with_build_paths files layers env
+
+-- ---- environment files
+
+-- a call that was done gives this environment
+abbrev pub giving : {T : Type 0} → List Variable → Result T ReadFault → Result (List Variable) ReadFault
+giving env (Ok done) = Ok env
+giving env (Err fault) = Err fault
+
+-- the environment with the files of a folder applied
+abbrev pub folder_applied : Tree → List ℕ → List Variable → Result (List Variable) ReadFault
+folder_applied files folder env = folder_files_in BeforeDot folder files >>= λ all. Ok (all_applied all env)
+
+-- What is left after a refusal: the environment as before. For want of memory a first part of the folder's files is
+-- applied, all of which were read.
+abbrev pub LeavesFirst : {T : Type 0} → Result T ReadFault → Option Tree → List ℕ → List Variable → List Variable → Type 0
+LeavesFirst (Ok done) told folder old new = Unit {0}
+LeavesFirst (Err Memory) told folder old new =
+    (new ≡ old) ⊎ ((all : List EnvFile) × IfSome told (λ files. folder_files_in BeforeDot folder files ≡ Ok all) × HasFirst (applied_among all) all old new)
+LeavesFirst (Err fault) told folder old new = new ≡ old
+
+-- ---- layers
+
+-- one step after another
+abbrev pub each : {X : Type 0} → (X → List Variable → Result (List Variable) ReadFault) → List X → List Variable → Result (List Variable) ReadFault
+each step [] env = Ok env
+each step (x ∷ xs) env = step x env >>= each step xs
+
+abbrev pub phase_folder : When → List ℕ
+phase_folder Build = codes "env.build"
+phase_folder Launch = codes "env.launch"
+
+-- the folders of environment files in a layer, in the order in which they are applied
+abbrev pub env_folders : When → List ℕ → List (List ℕ)
+env_folders when layer = joined layer (codes "env") ∷ joined layer (phase_folder when) ∷ []
+
+abbrev pub layer_applied : When → Tree → List ℕ → List Variable → Result (List Variable) ReadFault
+layer_applied when files layer env = each (folder_applied files) (env_folders when layer) env
+
+-- one buildpack's layers: their path folders, and then the environment files of each layer
+abbrev pub set_applied : When → Tree → List (List ℕ) → List Variable → Result (List Variable) ReadFault
+set_applied when files layers env = each (layer_applied when files) layers (with_paths when files layers env)
+
+abbrev pub with_platform : Option (List EnvFile) → List Variable → List Variable
+with_platform None env = env
+with_platform (Some files) env = with_files files env
+
+-- the environment of a build: what the layers of each earlier buildpack give, and then the platform's files, if any
+unfoldable pub build_env : List (List (List ℕ)) → Option (List EnvFile) → List Variable → Tree → Result (List Variable) ReadFault
+build_env sets platform base files = each (set_applied Build files) sets base >>= λ env. Ok (with_platform platform env)
+
+-- ---- what is read
+
+-- the paths of a buildpack's layers leave room
+abbrev pub AreShort : List (List ℕ) → Type 0
+AreShort layers = All IsShort layers
+
+-- each folder of environment files is one, or isn't there
+abbrev pub is_fit_layer : When → Tree → List ℕ → Bool
+is_fit_layer when files layer = list_all (λ folder. is_fit_folder folder files) (env_folders when layer)
+
+abbrev pub is_fit_set : When → Tree → List (List ℕ) → Bool
+is_fit_set when files layers = list_all (is_fit_layer when files) layers
+
+abbrev pub are_fit_sets : When → Tree → List (List (List ℕ)) → Bool
+are_fit_sets when files sets = list_all (is_fit_set when files) sets

@@ -1,0 +1,50 @@
+// The environment of a build.
+ghost use Rattle.std.specs.Prelude.{◌≡◌, IfSome, OnOk};
+ghost use Rattle.std.specs.List.{All};
+ghost use Rattle.std.specs.Option.{option_copied, option_map};
+ghost use Rattle.cnb_world.specs.Calls.{MayMisuse};
+ghost use Rattle.doc_files.specs.Counts.{CountsFiles};
+ghost use Rattle.doc_files.specs.Reading.{Reads};
+ghost use Rattle.cnb_env.specs.Layers.{AreShort, are_fit_sets, build_env, with_platform};
+
+use crate::files::EnvFile;
+use crate::layers::{LayerSet, apply_sets};
+use crate::paths::When;
+use crate::variables::platform;
+use cnb_world::{Env, List, Memory, World};
+use doc_files::ReadFault;
+use std::alloc::Global;
+
+fn apply_platform(alloc: Global, env: &mut Env, files: Option<&List<EnvFile>>) -> Result<(), Memory>
+    ensures { OnOk result (env.new ≡ with_platform (option_copied files.entry) env.old) }
+{
+    if let Some(files) = files {
+        platform(alloc, env, files)?;
+    }
+    Ok(())
+}
+
+/// The environment of a build (buildpack.md, "Environment"): the base, then what the layers of each earlier buildpack
+/// give, and then the platform's files where there are any.
+pub fn build_env<W: World>(
+    alloc: Global,
+    world: &mut W,
+    base: &Env,
+    done: &List<LayerSet>,
+    files: Option<&List<EnvFile>>,
+) -> Result<Env, ReadFault>
+    requires { All AreShort done.now }
+    ensures reads { IfSome (W.tree world.old) (λ tree.
+        Reads result (build_env done.now (option_copied files.entry) base.now tree)) }
+    ensures tree { W.tree world.new ≡ W.tree world.old }
+    ensures files { CountsFiles result (W.file_faults world.old) (W.file_faults world.new) }
+    ensures children { W.child_faults world.new ≡ W.child_faults world.old }
+    ensures runs { W.runs world.new ≡ W.runs world.old }
+    ensures misused { MayMisuse (option_map (λ tree. are_fit_sets When.Build tree done.now) (W.tree world.old))
+        (W.misused world.old) (W.misused world.new) }
+{
+    let mut env = base.copy()?;
+    apply_sets(alloc, world, &mut env, done.as_slice(), When::Build)?;
+    apply_platform(alloc, &mut env, files)?;
+    Ok(env)
+}
