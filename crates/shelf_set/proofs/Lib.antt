@@ -2,3 +2,4 @@ pub mod Lists
 pub mod TurnLemmas
 pub mod SearchLemmas
 pub mod FindLemmas
+pub mod StoreLemmas

@@ -3,3 +3,5 @@ pub mod Dropping
 pub mod Turns
 pub mod Finding
 pub mod Searching
+pub mod Storing
+pub mod StoringEach

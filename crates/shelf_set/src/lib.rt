@@ -6,6 +6,7 @@
 mod ask;
 mod finding;
 mod searching;
+mod storing;
 #[cfg(test)]
 mod tests;
 mod turns;

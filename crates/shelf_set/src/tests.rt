@@ -3,6 +3,7 @@ ghost use Rattle.std.specs.Prelude.{◌≡◌, IfOk, None};
 ghost use Rattle.cnb_world.specs.Calls.{CountsShelf};
 
 use super::*;
+use crate::storing::{TreeBytes, put_all};
 use cnb_world::{Bytes, List, Memory, Shelf, ShelfFault};
 use std::alloc::Global;
 use std::cell::Cell;
@@ -184,5 +185,25 @@ fn failed_shelf_is_dropped(rt: HostRuntime) -> Result<(), Fail> {
     shelves.truncate(places.as_slice().len());
     assert_eq!(rt; second.ends.get(), 1);
     assert!(rt; first.ends.get() == 0 && third.ends.get() == 0);
+    Ok(())
+}
+
+#[test]
+fn trees_on_each_shelf(rt: HostRuntime) -> Result<(), Fail> {
+    let alloc = rt.alloc();
+    let (first, second) = (no_marks(alloc)?, no_marks(alloc)?);
+    let mut shelves: Shelves = Vec::new(alloc);
+    shelves.push(Box::new(alloc, shelf(alloc, b"", b"", false, &first)?)?)?;
+    shelves.push(Box::new(alloc, shelf(alloc, b"", b"", true, &second)?)?)?;
+    let mut places = List::from_vec(vec![in alloc; 0, 1]?);
+    let tree = TreeBytes {
+        digest: Digest::of(LINK),
+        bytes: Bytes::of(alloc, LINK)?,
+    };
+    let trees = vec![in alloc; tree]?;
+    let gone = put_all(alloc, &mut shelves, &mut places, &trees, b"")?;
+    assert_eq!(rt; gone.as_slice(), [1].as_slice());
+    assert_eq!(rt; places.as_slice(), [0].as_slice());
+    assert!(rt; first.calls.get() == 2 && second.calls.get() == 1);
     Ok(())
 }
