@@ -1,0 +1,74 @@
+-- Steps that go on, and steps that end.
+use Rattle.std.proofs.Common.{◌≡◌, ◌∙◌, refl, sym, ap, subst, arith, ℕ, List, Bool, true, false, Option, Some, None, Result, Ok, Err, inl, inr, ◌⊎◌}
+use Rattle.std.specs.Prelude.{IfErr, IfSome}
+use Rattle.std.specs.Option.{option_map}
+use Rattle.cnb_world.specs.Calls.{MayMisuse}
+use Rattle.cnb_world.specs.Tree.{Tree}
+use Rattle.cnb_world.specs.Whole.{LeavesPart}
+use Rattle.steps.specs.Causes.{Cause, OutOfMemory, WhereDecided, IsAnswer, IsGivenCause}
+use Rattle.steps.specs.Outside.{Outside, Seen, SpawnerSeen}
+use Rattle.steps.specs.Steps.{◌>>=◌, Same, Allows, LeavesUnwritten, gives, in_world, in_spawners, map_err, writes, yields}
+
+-- a step that went well, and what came of the next
+pub went : {S E A B : Type 0} (first : S → Result A E → S → Type 0) (next : A → S → Result B E → S → Type 0) (old mid new : S) (a : A) (result : Result B E) → first old (Ok a) mid → next a mid result new → (first >>= next) old result new
+unfolding ◌>>=◌
+went first next old mid new a (Ok value) h k = (a, mid, h, k)
+went first next old mid new a (Err fault) h k = inr (a, mid, h, k)
+
+-- a step that was refused
+pub ended : {S E A B : Type 0} (first : S → Result A E → S → Type 0) (next : A → S → Result B E → S → Type 0) (old new : S) (fault : E) → first old (Err fault) new → (first >>= next) old (Err fault) new
+unfolding ◌>>=◌
+ended first next old new fault h = inl h
+
+-- steps over the world leave the spawners, and the other way round
+pub within : {E A : Type 0} (step : Seen → Result A E → Seen → Type 0) (old new : Seen) (spawners : List SpawnerSeen) (result : Result A E) → step old result new → in_world step (record { world = old; spawners = spawners }) result (record { world = new; spawners = spawners })
+unfolding in_world
+within step old new spawners result h = (h, refl)
+
+pub within_spawners : {E A : Type 0} (step : List SpawnerSeen → Result A E → List SpawnerSeen → Type 0) (world : Seen) (old new : List SpawnerSeen) (result : Result A E) → step old result new → in_spawners step (record { world = world; spawners = old }) result (record { world = world; spawners = new })
+unfolding in_spawners
+within_spawners step world old new result h = (h, refl)
+
+-- a fault that is told as another
+pub mapped : {S E F A : Type 0} (of : E → F) (step : S → Result A E → S → Type 0) (old new : S) (value : A) → step old (Ok value) new → map_err of step old (Ok value) new
+unfolding map_err
+mapped of step old new value h = h
+
+pub mapped_fault : {S E F A : Type 0} (of : E → F) (step : S → Result A E → S → Type 0) (old new : S) (fault : E) → step old (Err fault) new → map_err of step old (Err (of fault)) new
+unfolding map_err
+mapped_fault of step old new fault h = (fault, refl, h)
+
+-- an answer that is known
+pub given : {S E A : Type 0} (cause_of : E → Cause) (want : Result A E) (old : S) (value : A) → want ≡ Ok value → gives cause_of want old (Ok value) old
+unfolding gives
+given cause_of want old value is = (refl, is, tt)
+
+pub given_fault : {S E A : Type 0} (cause_of : E → Cause) (want : Result A E) (old : S) (fault : E) → IsAnswer cause_of (Err fault) want → IsGivenCause (cause_of fault) → gives cause_of want old (Err fault) old
+unfolding gives
+given_fault cause_of want old fault is cause = (refl, is, cause)
+
+-- memory may run out at any such step
+pub no_memory : {S E A : Type 0} (cause_of : E → Cause) (want : Result A E) (old : S) (fault : E) → cause_of fault ≡ OutOfMemory → gives cause_of want old (Err fault) old
+unfolding gives
+no_memory cause_of want old fault is = (refl, subst (λ cause. WhereDecided cause (want ≡ Err fault)) (sym is) tt, subst IsGivenCause (sym is) tt)
+
+pub yielded : {S A : Type 0} (E : Type 0) (value : A) (old : S) → yields {S = S} {E = E} value old (Ok value) old
+unfolding yields
+yielded E value old = (refl, refl)
+
+-- where no call was made on a path of the wrong kind, the files need not allow it
+pub allowed_by : (fits : Tree → Bool) (o : Option Tree) (before now : ℕ) → now ≡ before → MayMisuse (option_map fits o) before now
+allowed_by fits None before now e = e
+allowed_by fits (Some t) before now e = by (fits t)
+  where
+    by : (v : Bool) → MayMisuse (Some v) before now
+    by true = e
+    by false = omega (arith, e)
+
+same_map : (o : Option Tree) → o ≡ option_map (λ t. t) o
+same_map None = refl
+same_map (Some t) = refl
+
+-- a write that wasn't begun
+pub unwritten : (o o1 : Option Tree) (path : List ℕ) → o1 ≡ o → LeavesPart o o1 path
+unwritten o o1 path e = (false, None, e ∙ same_map o)

@@ -1,0 +1,73 @@
+-- Why a call is refused, whatever its type of refusals is: each has a function that gives the cause.
+use Rattle.std.specs.Prelude.{ℕ, ◌≡◌, ◌≤◌, List, Result, Ok, Err}
+use Rattle.cnb_world.specs.Calls.{Rose}
+
+-- A call on the file at a path failed, a child gave no end, memory ran out, or what was read or answered decides.
+pub data Cause : Type 0 where
+  FileFailed : List ℕ → Cause
+  ChildFailed : Cause
+  OutOfMemory : Cause
+  Decided : Cause
+
+-- the fact, unless the outside failed or memory ran out
+abbrev pub WhereDecided : Cause → Type 0 → Type 0
+WhereDecided (FileFailed path) P = Unit {0}
+WhereDecided ChildFailed P = Unit {0}
+WhereDecided OutOfMemory P = Unit {0}
+WhereDecided Decided P = P
+
+-- the answer is this one, unless a counted failure came or memory ran out
+abbrev pub IsAnswer : {A E : Type 0} → (E → Cause) → Result A E → Result A E → Type 0
+IsAnswer cause_of (Ok value) want = want ≡ Ok value
+IsAnswer cause_of (Err fault) want = WhereDecided (cause_of fault) (want ≡ Err fault)
+
+abbrev pub FilesBy : Cause → ℕ → ℕ → Type 0
+FilesBy (FileFailed path) before now = Rose before now
+FilesBy OutOfMemory before now = before ≤ now
+FilesBy ChildFailed before now = now ≡ before
+FilesBy Decided before now = now ≡ before
+
+-- the count of failed calls on files: a refusal for one comes where the count rose, and the count stays at any other answer
+-- but want of memory
+abbrev pub CountsFiles : {A E : Type 0} → (E → Cause) → Result A E → ℕ → ℕ → Type 0
+CountsFiles cause_of (Ok value) before now = now ≡ before
+CountsFiles cause_of (Err fault) before now = FilesBy (cause_of fault) before now
+
+abbrev pub ChildrenBy : Cause → ℕ → ℕ → Type 0
+ChildrenBy ChildFailed before now = Rose before now
+ChildrenBy OutOfMemory before now = before ≤ now
+ChildrenBy (FileFailed path) before now = now ≡ before
+ChildrenBy Decided before now = now ≡ before
+
+-- the same of the children that gave no end
+abbrev pub CountsChildren : {A E : Type 0} → (E → Cause) → Result A E → ℕ → ℕ → Type 0
+CountsChildren cause_of (Ok value) before now = now ≡ before
+CountsChildren cause_of (Err fault) before now = ChildrenBy (cause_of fault) before now
+
+-- What each kind of step may be refused for: reading for a failed call, want of memory or what was read;
+abbrev pub IsReadCause : Cause → Type 0
+IsReadCause (FileFailed path) = Unit {0}
+IsReadCause ChildFailed = ⊥
+IsReadCause OutOfMemory = Unit {0}
+IsReadCause Decided = Unit {0}
+
+-- a value that is known for want of memory, or because it is a refusal;
+abbrev pub IsGivenCause : Cause → Type 0
+IsGivenCause (FileFailed path) = ⊥
+IsGivenCause ChildFailed = ⊥
+IsGivenCause OutOfMemory = Unit {0}
+IsGivenCause Decided = Unit {0}
+
+-- a write at a path for a failed call, which is told with that path, or want of memory;
+abbrev pub IsWriteCause : List ℕ → Cause → Type 0
+IsWriteCause path (FileFailed failed) = failed ≡ path
+IsWriteCause path ChildFailed = ⊥
+IsWriteCause path OutOfMemory = Unit {0}
+IsWriteCause path Decided = ⊥
+
+-- a child that runs for one that gave no end, or want of memory.
+abbrev pub IsRunCause : Cause → Type 0
+IsRunCause (FileFailed path) = ⊥
+IsRunCause ChildFailed = Unit {0}
+IsRunCause OutOfMemory = Unit {0}
+IsRunCause Decided = ⊥

@@ -1,0 +1,36 @@
+-- What is seen of the outside at one moment.
+use Rattle.std.specs.Prelude.{ℕ, List, map, Option}
+use Rattle.cnb_world.specs.Runs.{Ran, Run}
+use Rattle.cnb_world.specs.Tree.{Tree}
+use Rattle.cnb_world.specs.declared.child.Reply.{Reply}
+use Rattle.cnb_world.specs.declared.child.Spawner as spawner
+use Rattle.cnb_world.specs.declared.world.World as world
+
+-- of a world: its files, where they are told, the children that ran in it, and how many calls were made on a path of the
+-- wrong kind
+pub record Seen : Type 0 where
+  pub files : Option Tree
+  pub runs : List Run
+  pub misused : ℕ
+
+abbrev pub seen : {W : Type 0} → world.Ghosts W → W → Seen
+seen ghosts w = record { files = ghosts.tree w; runs = ghosts.runs w; misused = ghosts.misused w }
+
+-- of a spawner: the detect children that it ran, and what each buildpack's child says, where that is fixed
+pub record SpawnerSeen : Type 0 where
+  pub runs : List Ran
+  pub says : Option (List Reply)
+
+abbrev pub spawner_seen : {S : Type 0} → spawner.Ghosts S → S → SpawnerSeen
+spawner_seen ghosts s = record { runs = ghosts.runs s; says = ghosts.says s }
+
+abbrev pub spawners_seen : {S : Type 0} → spawner.Ghosts S → List S → List SpawnerSeen
+spawners_seen ghosts spawners = map (spawner_seen ghosts) spawners
+
+-- all of it; what caches hold gets a field here, when commands use them
+pub record Outside : Type 0 where
+  pub world : Seen
+  pub spawners : List SpawnerSeen
+
+abbrev pub outside : {W S : Type 0} → world.Ghosts W → spawner.Ghosts S → W → List S → Outside
+outside world_ghosts spawner_ghosts w spawners = record { world = seen world_ghosts w; spawners = spawners_seen spawner_ghosts spawners }
