@@ -1,2 +1,4 @@
-pub mod StepLemmas
 pub mod AskingLemmas
+pub mod FrameLaws
+pub mod ReadingLaws
+pub mod StepLemmas

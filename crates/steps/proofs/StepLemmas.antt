@@ -4,10 +4,11 @@ use Rattle.std.specs.Prelude.{IfErr, IfSome}
 use Rattle.std.specs.Option.{option_map}
 use Rattle.cnb_world.specs.Calls.{MayMisuse}
 use Rattle.cnb_world.specs.Tree.{Tree}
-use Rattle.cnb_world.specs.Whole.{LeavesPart}
-use Rattle.steps.specs.Causes.{Cause, OutOfMemory, WhereDecided, IsAnswer, IsGivenCause}
-use Rattle.steps.specs.Outside.{Outside, Seen, SpawnerSeen}
-use Rattle.steps.specs.Steps.{◌>>=◌, Same, Allows, LeavesUnwritten, gives, in_world, in_spawners, map_err, writes, yields}
+use Rattle.cnb_world.specs.Whole.{LeavesPart, can_write, written}
+use Rattle.steps.specs.Causes.{Cause, OutOfMemory, WhereDecided, IsAnswer, IsGivenCause, IsReadCause, IsWriteCause}
+use Rattle.cnb_world.specs.declared.world.World as world
+use Rattle.steps.specs.Outside.{Outside, Seen, SpawnerSeen, seen}
+use Rattle.steps.specs.Steps.{◌>>=◌, Same, Allows, LeavesUnwritten, Reads, Writes, gives, in_world, in_spawners, map_err, reads, writes, yields}
 
 -- a step that went well, and what came of the next
 pub went : {S E A B : Type 0} (first : S → Result A E → S → Type 0) (next : A → S → Result B E → S → Type 0) (old mid new : S) (a : A) (result : Result B E) → first old (Ok a) mid → next a mid result new → (first >>= next) old result new
@@ -72,3 +73,28 @@ same_map (Some t) = refl
 -- a write that wasn't begun
 pub unwritten : (o o1 : Option Tree) (path : List ℕ) → o1 ≡ o → LeavesPart o o1 path
 unwritten o o1 path e = (false, None, e ∙ same_map o)
+
+pub not_begun : {E : Type 0} (cause_of : E → Cause) (path : List ℕ) (Says : List ℕ → Type 0) (old : Seen) (fault : E) → cause_of fault ≡ OutOfMemory → writes cause_of path Says old (Err fault) old
+unfolding writes
+not_begun cause_of path Says old fault is =
+    (subst (IsWriteCause path) (sym is) tt, record { files = unwritten old.files old.files path refl; runs = refl; allows = allowed_by (can_write path) old.files old.misused old.misused refl })
+
+-- a document that was written, and one whose write was refused
+pub written_so : {W E : Type 0} (ghosts : world.Ghosts W) (cause_of : E → Cause) (path : List ℕ) (Says : List ℕ → Type 0) (bytes : List ℕ) (old new : W)
+    → Says bytes → ghosts.tree new ≡ option_map (written path bytes) (ghosts.tree old) → ghosts.runs new ≡ ghosts.runs old
+    → MayMisuse (option_map (can_write path) (ghosts.tree old)) (ghosts.misused old) (ghosts.misused new) → writes cause_of path Says (seen ghosts old) (Ok tt) (seen ghosts new)
+unfolding writes
+written_so ghosts cause_of path Says bytes old new says files runs allows = record { bytes = bytes; says = says; files = files; runs = runs; allows = allows }
+
+pub write_refused : {W E : Type 0} (ghosts : world.Ghosts W) (cause_of : E → Cause) (path : List ℕ) (Says : List ℕ → Type 0) (fault : E) (old new : W)
+    → IsWriteCause path (cause_of fault) → LeavesPart (ghosts.tree old) (ghosts.tree new) path → ghosts.runs new ≡ ghosts.runs old
+    → MayMisuse (option_map (can_write path) (ghosts.tree old)) (ghosts.misused old) (ghosts.misused new) → writes cause_of path Says (seen ghosts old) (Err fault) (seen ghosts new)
+unfolding writes
+write_refused ghosts cause_of path Says fault old new cause files runs allows = (cause, record { files = files; runs = runs; allows = allows })
+
+-- files that were read
+pub read_so : {W E A : Type 0} (ghosts : world.Ghosts W) (cause_of : E → Cause) (fits : Tree → Bool) (want : Tree → Result A E) (result : Result A E) (old new : W)
+    → IfSome (ghosts.tree old) (λ files. IsAnswer cause_of result (want files)) → IfErr result (λ fault. IsReadCause (cause_of fault)) → ghosts.tree new ≡ ghosts.tree old → ghosts.runs new ≡ ghosts.runs old
+    → MayMisuse (option_map fits (ghosts.tree old)) (ghosts.misused old) (ghosts.misused new) → reads cause_of fits want (seen ghosts old) result (seen ghosts new)
+unfolding reads
+read_so ghosts cause_of fits want result old new answer cause files runs allows = record { same = record { files = files; runs = runs }; answer = answer; cause = cause; allows = allows }

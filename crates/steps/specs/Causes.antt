@@ -16,6 +16,10 @@ WhereDecided ChildFailed P = Unit {0}
 WhereDecided OutOfMemory P = Unit {0}
 WhereDecided Decided P = P
 
+abbrev pub OnAnswer : {A E : Type 0} → (E → Cause) → Result A E → Type 0 → Type 0
+OnAnswer cause_of (Ok value) P = P
+OnAnswer cause_of (Err fault) P = WhereDecided (cause_of fault) P
+
 -- the answer is this one, unless a counted failure came or memory ran out
 abbrev pub IsAnswer : {A E : Type 0} → (E → Cause) → Result A E → Result A E → Type 0
 IsAnswer cause_of (Ok value) want = want ≡ Ok value

@@ -1,4 +1,6 @@
 pub mod Asking
 pub mod Causes
+pub mod Frames
 pub mod Outside
+pub mod Results
 pub mod Steps

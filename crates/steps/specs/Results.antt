@@ -1,0 +1,16 @@
+-- Answers, one after another.
+use Rattle.std.specs.Prelude.{Result, Ok, Err}
+
+-- the first refusal ends them
+abbrev pub and_then : {A B E : Type 0} → Result A E → (A → Result B E) → Result B E
+and_then (Ok value) next = next value
+and_then (Err fault) next = Err fault
+
+infixl 10 ◌>>=◌
+abbrev pub ◌>>=◌ : {A B E : Type 0} → Result A E → (A → Result B E) → Result B E
+first >>= next = and_then first next
+
+-- an answer whose fault is told as another
+abbrev pub with_fault : {A E F : Type 0} → (E → F) → Result A E → Result A F
+with_fault of (Ok value) = Ok value
+with_fault of (Err fault) = Err (of fault)
