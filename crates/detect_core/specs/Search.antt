@@ -12,19 +12,16 @@ use Rattle.detect_core.specs.declared.chosen.DetectEnd.TheVariants.{NoGroup, Man
 use Rattle.detect_core.specs.declared.chosen.DetectFrame.{DetectFrame}
 use Rattle.detect_core.specs.Detection.{Ending, TooManyTrials, FirstTrial, members_of}
 use Rattle.detect_core.specs.Job.{detect_job}
+use Rattle.steps.specs.Causes.{Cause, ChildFailed, OutOfMemory, Decided}
 
 -- the children that a spawner ran in the call
 abbrev pub since : List Ran → List Ran → List Ran
 since old new = drop (length old) new
 
--- what the first of some spawners has run, and its faults
+-- what the first of some spawners has run
 abbrev pub first_runs : {S : Type 0} → (S → List Ran) → List S → List Ran
 first_runs runs [] = []
 first_runs runs (spawner ∷ spawners) = runs spawner
-
-abbrev pub first_faults : {S : Type 0} → (S → ℕ) → List S → ℕ
-first_faults faults [] = 0
-first_faults faults (spawner ∷ spawners) = faults spawner
 
 -- the chosen group, each buildpack with the API that it is written for
 abbrev pub group_rows : List Key → List GroupRow
@@ -59,6 +56,13 @@ OnDetected (Err (NoGroup erred)) P = P
 OnDetected (Err ManyTrials) P = P
 OnDetected (Err Child) P = Unit {0}
 OnDetected (Err Memory) P = Unit {0}
+
+-- why no group was chosen
+abbrev pub end_cause : DetectEnd → Cause
+end_cause Child = ChildFailed
+end_cause Memory = OutOfMemory
+end_cause (NoGroup erred) = Decided
+end_cause ManyTrials = Decided
 
 -- a spawner's faults: `Child` comes where the count rose
 abbrev pub CountsDetection : {T : Type 0} → Result T DetectEnd → ℕ → ℕ → Type 0

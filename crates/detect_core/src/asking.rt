@@ -4,6 +4,8 @@ ghost use Rattle.cnb_world.specs.Calls.{CountsDetect};
 ghost use Rattle.detect_core.specs.Asking.{unmet, RunsAll, RunsFirst};
 ghost use Rattle.detect_core.specs.Kept.{keys_of};
 ghost use Rattle.detect_core.specs.Search.{is_short};
+ghost use Rattle.steps.specs.Asking.{Grows};
+ghost use Rattle.steps.specs.Outside.{spawner_seen};
 
 use crate::answers::answer;
 use crate::chosen::DetectFrame;
@@ -24,6 +26,7 @@ pub fn ask_group<S: Spawner>(
     requires { IsTrue (is_short frame.now) }
     ensures all { OnOk result (RunsAll frame.now (unmet (keys_of kept.old) group.now) (S.runs spawner.old) (S.runs spawner.new) kept.old kept.new) }
     ensures first { OnErr result (RunsFirst frame.now (unmet (keys_of kept.old) group.now) (S.runs spawner.old) (S.runs spawner.new)) }
+    ensures grows { Grows (spawner_seen S.Spawner spawner.old) (spawner_seen S.Spawner spawner.new) }
     ensures faults { CountsDetect result (S.faults spawner.old) (S.faults spawner.new) }
 {
     for member in group {
@@ -43,6 +46,7 @@ fn ask<S: Spawner>(
     requires { IsTrue (is_short frame.now) }
     ensures all { OnOk result (RunsAll frame.now (unmet (keys_of kept.old) (member.now ∷ [])) (S.runs spawner.old) (S.runs spawner.new) kept.old kept.new) }
     ensures first { OnErr result (RunsFirst frame.now (unmet (keys_of kept.old) (member.now ∷ [])) (S.runs spawner.old) (S.runs spawner.new)) }
+    ensures grows { Grows (spawner_seen S.Spawner spawner.old) (spawner_seen S.Spawner spawner.new) }
     ensures faults { CountsDetect result (S.faults spawner.old) (S.faults spawner.new) }
 {
     if kept.has(&member.key) {

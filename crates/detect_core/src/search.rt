@@ -7,7 +7,9 @@ ghost use Rattle.run_docs.specs.Plan.{is_plan_doc};
 ghost use Rattle.detect_core.specs.Answer.{says, build_plan};
 ghost use Rattle.detect_core.specs.Detection.{first_trial, asked_members, asked_keys, has_erred};
 ghost use Rattle.detect_core.specs.Job.{detect_job};
-ghost use Rattle.detect_core.specs.Search.{since, first_runs, first_faults, DetectsAs, OnDetected, CountsDetection, IsExtended, AsksSome, is_short};
+ghost use Rattle.steps.specs.Asking.{AskedBy, CountsSpawners, Grows};
+ghost use Rattle.steps.specs.Outside.{faults_of, spawner_seen, spawners_seen};
+ghost use Rattle.detect_core.specs.Search.{since, first_runs, DetectsAs, OnDetected, CountsDetection, IsExtended, AsksSome, end_cause, is_short};
 ghost use Rattle.detect_core.specs.Searching.{IsSearch};
 
 use crate::asking::ask_group;
@@ -49,7 +51,11 @@ pub fn detect<S: Spawner + Send, R: Threads + Sync>(
     ensures some { OnErr result (AsksSome frame.now (listed_groups catalog.now order.now) (since (first_runs S.runs spawners.old.items) (first_runs S.runs spawners.new.items))) }
     ensures grows { IsExtended (first_runs S.runs spawners.old.items) (first_runs S.runs spawners.new.items) }
     ensures others { drop 1 spawners.new.items ≡ drop 1 spawners.old.items }
-    ensures faults { CountsDetection result (first_faults S.faults spawners.old.items) (first_faults S.faults spawners.new.items) }
+    // The spawners ran these children between them, and answered as they say beforehand.
+    ensures asked_by { AskedBy (since (first_runs S.runs spawners.old.items) (first_runs S.runs spawners.new.items))
+        (spawners_seen S.Spawner spawners.old.items) (spawners_seen S.Spawner spawners.new.items) }
+    ensures faults { CountsSpawners end_cause result
+        (faults_of (spawners_seen S.Spawner spawners.old.items)) (faults_of (spawners_seen S.Spawner spawners.new.items)) }
 {
     search(alloc, order, catalog, &mut spawners[0], frame)
 }
@@ -65,6 +71,7 @@ fn search<S: Spawner>(
     requires order { IsOk (checked catalog.now order.now) }
     requires short { IsTrue (is_short frame.now) }
     ensures search { IsSearch frame.now (listed_groups catalog.now order.now) (S.runs spawner.old) (S.runs spawner.new) result }
+    ensures grows { Grows (spawner_seen S.Spawner spawner.old) (spawner_seen S.Spawner spawner.new) }
     ensures faults { CountsDetection result (S.faults spawner.old) (S.faults spawner.new) }
 {
     let mut walk = Walk::new(alloc, order, catalog)?;

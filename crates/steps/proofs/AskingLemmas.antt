@@ -26,6 +26,10 @@ rests : (others : List SpawnerSeen) → RunShares (none_each others) others othe
 rests [] = tt
 rests (other ∷ others) = (record { runs = sym (append-nil other.runs); says = refl; said = tt }, rests others)
 
+-- nobody was asked
+pub asked_none : (spawners : List SpawnerSeen) → AskedBy [] spawners spawners
+asked_none spawners = record { shares = none_each spawners; made = none_left spawners; ran = rests spawners }
+
 pub first_ran : (rans : List Ran) (old new : SpawnerSeen) (others : List SpawnerSeen) → RunsMore rans old new → RunShares (rans ∷ none_each others) (old ∷ others) (new ∷ others)
 first_ran rans old new others h = (h, rests others)
 

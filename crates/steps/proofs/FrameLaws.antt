@@ -118,7 +118,7 @@ unfolding map_err
 keeps_told path of step p old new (Ok value) h = p old new (Ok value) h
 keeps_told path of step p old new (Err refusal) (fault, is, h) = p old new (Err fault) h
 
-step_at : (o o1 : Option Tree) (step : Tree → Tree) (q : List ℕ) → ((t : Tree) → item_at (step t) q ≡ item_at t q) → o1 ≡ option_map step o → standing o1 q ≡ standing o q
+pub step_at : (o o1 : Option Tree) (step : Tree → Tree) (q : List ℕ) → ((t : Tree) → item_at (step t) q ≡ item_at t q) → o1 ≡ option_map step o → standing o1 q ≡ standing o q
 step_at None o1 step q same e = ap (λ o. standing o q) e
 step_at (Some t) o1 step q same e = ap (λ o. standing o q) e ∙ ap Some (same t)
 

@@ -6,6 +6,7 @@ use Rattle.detect_core.specs.declared.chosen.DetectEnd.TheVariants.{Memory}
 use Rattle.detect_core.specs.Searching.{IsSearch, end_of_fault}
 use Rattle.detect_core.proofs.LimitLemmas.{listed_within}
 use Rattle.detect_core.proofs.TurnLemmas.{err_result, stopped_by, search_start, search_starts, stopped_next, finished, stopped_asking, stopped_asked, short_rows, few_places, turn}
+use Rattle.steps.proofs.AskingLemmas.{ran_none, ran_then}
 use Rattle.detect_core.proofs.search.search.Goals as goal
 
 pub loop-kept-init : goal.loop-kept-init
@@ -13,6 +14,7 @@ loop-kept-init g c = (
   search_starts c.args.frame.now (listed_groups c.args.catalog.now c.args.order.now) c.in_ok-walk.walk (g.S.Spawner.runs c.args.spawner.now) c.new-kept.result
       c.in_ok-walk.ensures c.new-kept.ensures,
   refl,
+  ran_none _ _ refl refl,
 )
 
 pub returns-in_err-walk-clause-search : goal.returns-in_err-walk-clause-search
@@ -110,6 +112,7 @@ loop-kept-preserved g c =
           c.in-Some.group c.next.new.self next c.as_slice.result.now c.as_slice-in-Some.result.now r2 c.ask_group.new.kept c.in_ok-judged.judged (c.loop-kept.erred || c.in_ok-judged.judged.erred)
           (Ok None) c.as_slice.ensures c.as_slice-in-Some.ensures c.in_ok-ask_group.ensures.all c.in_ok-judged.ensures refl (rw c.in_default-2.is at c.in_ok-chosen.ensures),
       c.in_ok-ask_group.ensures.faults ∙ c.loop-kept.invariant.1,
+      ran_then _ _ _ c.loop-kept.invariant.2 c.ask_group.ensures.grows,
     )
 
 pub returns-clause-search : goal.returns-clause-search
@@ -119,3 +122,24 @@ returns-clause-search g c =
     let r1 = g.S.Spawner.runs c.loop-kept.spawner in
     finished c.args.frame.now listed c.loop-kept.walk c.loop-kept.place r0 r1 c.loop-kept.kept c.loop-kept.erred c.loop-kept.invariant.0
     (rw c.in_default.is at c.in_ok-group.ensures.ok)
+
+pub returns-in_err-walk-clause-grows : goal.returns-in_err-walk-clause-grows
+returns-in_err-walk-clause-grows g c = ran_none _ _ refl refl
+
+pub returns-in_err-group-clause-grows : goal.returns-in_err-group-clause-grows
+returns-in_err-group-clause-grows g c = c.loop-kept.invariant.2
+
+pub returns-in_err-ask_group-clause-grows : goal.returns-in_err-ask_group-clause-grows
+returns-in_err-ask_group-clause-grows g c = ran_then _ _ _ c.loop-kept.invariant.2 c.ask_group.ensures.grows
+
+pub returns-in_err-judged-clause-grows : goal.returns-in_err-judged-clause-grows
+returns-in_err-judged-clause-grows g c = ran_then _ _ _ c.loop-kept.invariant.2 c.ask_group.ensures.grows
+
+pub returns-in_err-chosen-clause-grows : goal.returns-in_err-chosen-clause-grows
+returns-in_err-chosen-clause-grows g c = ran_then _ _ _ c.loop-kept.invariant.2 c.ask_group.ensures.grows
+
+pub returns-in-Some-2-clause-grows : goal.returns-in-Some-2-clause-grows
+returns-in-Some-2-clause-grows g c = ran_then _ _ _ c.loop-kept.invariant.2 c.ask_group.ensures.grows
+
+pub returns-clause-grows : goal.returns-clause-grows
+returns-clause-grows g c = c.loop-kept.invariant.2
