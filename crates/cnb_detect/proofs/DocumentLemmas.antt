@@ -11,7 +11,8 @@ use Rattle.cnb_world.specs.Whole.{written, left_of, LeavesPart}
 use Rattle.cnb_world.proofs.Joins.{parent_of_file}
 use Rattle.cnb_world.proofs.Trees.{get-insert_bytes, get-remove_bytes, get-insert_same, get-insert_other, bytes_eq-other}
 use Rattle.cnb_world.proofs.Folders.{get-folder_made_longer, not_longer}
-use Rattle.cnb_lifecycle.specs.Documents.{standing, group_path, plan_path, IsOldOrNew}
+use Rattle.steps.specs.Frames.{standing, IsOldOrNew}
+use Rattle.cnb_detect.specs.Documents.{group_document, plan_document}
 
 -- two documents of one folder, neither of which is where the other is written before it gets its name
 pub record AreApart (work group plan : List ℕ) : Type 0 where
@@ -39,13 +40,13 @@ long_by work name h = omega (arith, length-append (cond (bytes_eq work (47 ∷ [
 pub no_root_below : (work name : List ℕ) → 1 < length name → is_root (joined work name) ≡ false
 no_root_below work name h = no_root (joined work name) (long_by work name h)
 
-pub apart : (work : List ℕ) → is_path work ≡ true → AreApart work (group_path work) (plan_path work)
+pub apart : (work : List ℕ) → is_path work ≡ true → AreApart work (group_document work) (plan_document work)
 apart work path = by (bytes_eq work (47 ∷ [])) refl
   where
     lengths : (root : Bool) → length (cond root work (work ++ 47 ∷ []) ++ codes "group.toml") ≡ length (cond root work (work ++ 47 ∷ []) ++ codes "plan.toml") + 1
     lengths root = omega (arith, length-append (cond root work (work ++ 47 ∷ [])) (codes "group.toml"), length-append (cond root work (work ++ 47 ∷ [])) (codes "plan.toml"))
 
-    by : (root : Bool) → bytes_eq work (47 ∷ []) ≡ root → AreApart work (group_path work) (plan_path work)
+    by : (root : Bool) → bytes_eq work (47 ∷ []) ≡ root → AreApart work (group_document work) (plan_document work)
     by root e = record {
       folder = parent_of_file work (codes "group.toml") path refl;
       plan_folder = parent_of_file work (codes "plan.toml") path refl;
@@ -100,36 +101,36 @@ constant None o1 p bytes x e = ap (option_map (λ t. x)) e
 constant (Some t) o1 p bytes x e = ap (option_map (λ t. x)) e
 
 module _ (work : List ℕ) (path : is_path work ≡ true) where
-  a : AreApart work (group_path work) (plan_path work)
+  a : AreApart work (group_document work) (plan_document work)
   a = apart work path
 
-  group_below : (folder : List ℕ) → folder ≡ work → length folder < length (group_path work)
+  group_below : (folder : List ℕ) → folder ≡ work → length folder < length (group_document work)
   group_below folder e = let same : length folder ≡ length work = ap length e in let less = a.below in omega arith
 
-  plan_below : (folder : List ℕ) → folder ≡ work → length folder < length (plan_path work)
+  plan_below : (folder : List ℕ) → folder ≡ work → length folder < length (plan_document work)
   plan_below folder e = let same : length folder ≡ length work = ap length e in let less = a.plan_below in omega arith
 
   -- the group's write was refused
-  pub first_refused_group : (o o1 : Option Tree) (Reads : List ℕ → Type 0) → LeavesPart o o1 (group_path work) → IsOldOrNew o o1 (group_path work) Reads
-  first_refused_group o o1 Reads h = inl (left_standing o o1 (group_path work) (group_path work) (λ e. omega (arith, e)) (group_below _ a.folder) h)
+  pub first_refused_group : (o o1 : Option Tree) (Reads : List ℕ → Type 0) → LeavesPart o o1 (group_document work) → IsOldOrNew o o1 (group_document work) Reads
+  first_refused_group o o1 Reads h = inl (left_standing o o1 (group_document work) (group_document work) (λ e. omega (arith, e)) (group_below _ a.folder) h)
 
-  pub first_refused_plan : (o o1 : Option Tree) (Reads : List ℕ → Type 0) → LeavesPart o o1 (group_path work) → IsOldOrNew o o1 (plan_path work) Reads
-  first_refused_plan o o1 Reads h = inl (left_standing o o1 (group_path work) (plan_path work) (λ e. let more = a.other in omega (arith, e, more)) (plan_below _ a.folder) h)
+  pub first_refused_plan : (o o1 : Option Tree) (Reads : List ℕ → Type 0) → LeavesPart o o1 (group_document work) → IsOldOrNew o o1 (plan_document work) Reads
+  first_refused_plan o o1 Reads h = inl (left_standing o o1 (group_document work) (plan_document work) (λ e. let more = a.other in omega (arith, e, more)) (plan_below _ a.folder) h)
 
   -- the plan's write was refused
-  pub second_refused_group : (o o1 o2 : Option Tree) (bytes : List ℕ) (Reads : List ℕ → Type 0) → Reads bytes → o1 ≡ option_map (written (group_path work) bytes) o → LeavesPart o1 o2 (plan_path work) → IsOldOrNew o o2 (group_path work) Reads
+  pub second_refused_group : (o o1 o2 : Option Tree) (bytes : List ℕ) (Reads : List ℕ → Type 0) → Reads bytes → o1 ≡ option_map (written (group_document work) bytes) o → LeavesPart o1 o2 (plan_document work) → IsOldOrNew o o2 (group_document work) Reads
   second_refused_group o o1 o2 bytes Reads reads e h =
-      inr (bytes, reads, left_standing o1 o2 (plan_path work) (group_path work) (λ x. let more = a.other in omega (arith, x, more)) (group_below _ a.plan_folder) h ∙ same_standing o o1 (group_path work) bytes a.long e)
+      inr (bytes, reads, left_standing o1 o2 (plan_document work) (group_document work) (λ x. let more = a.other in omega (arith, x, more)) (group_below _ a.plan_folder) h ∙ same_standing o o1 (group_document work) bytes a.long e)
 
-  pub second_refused_plan : (o o1 o2 : Option Tree) (bytes : List ℕ) (Reads : List ℕ → Type 0) → o1 ≡ option_map (written (group_path work) bytes) o → LeavesPart o1 o2 (plan_path work) → IsOldOrNew o o2 (plan_path work) Reads
+  pub second_refused_plan : (o o1 o2 : Option Tree) (bytes : List ℕ) (Reads : List ℕ → Type 0) → o1 ≡ option_map (written (group_document work) bytes) o → LeavesPart o1 o2 (plan_document work) → IsOldOrNew o o2 (plan_document work) Reads
   second_refused_plan o o1 o2 bytes Reads e h =
-      inl (left_standing o1 o2 (plan_path work) (plan_path work) (λ x. omega (arith, x)) (plan_below _ a.plan_folder) h
-      ∙ other_standing o o1 (group_path work) (plan_path work) bytes (λ x. let more = a.other in omega (arith, x, more)) (λ x. let more = a.other in omega (arith, x, more)) (plan_below _ a.folder) e)
+      inl (left_standing o1 o2 (plan_document work) (plan_document work) (λ x. omega (arith, x)) (plan_below _ a.plan_folder) h
+      ∙ other_standing o o1 (group_document work) (plan_document work) bytes (λ x. let more = a.other in omega (arith, x, more)) (λ x. let more = a.other in omega (arith, x, more)) (plan_below _ a.folder) e)
 
   -- both were written
-  pub both_group : (o o1 o2 : Option Tree) (bytes other : List ℕ) (Reads : List ℕ → Type 0) → Reads bytes → o1 ≡ option_map (written (group_path work) bytes) o → o2 ≡ option_map (written (plan_path work) other) o1 → IsOldOrNew o o2 (group_path work) Reads
+  pub both_group : (o o1 o2 : Option Tree) (bytes other : List ℕ) (Reads : List ℕ → Type 0) → Reads bytes → o1 ≡ option_map (written (group_document work) bytes) o → o2 ≡ option_map (written (plan_document work) other) o1 → IsOldOrNew o o2 (group_document work) Reads
   both_group o o1 o2 bytes other Reads reads e e2 =
-      inr (bytes, reads, other_standing o1 o2 (plan_path work) (group_path work) other (λ x. let more = a.other in omega (arith, x, more)) (λ x. let more = a.other in omega (arith, x, more)) (group_below _ a.plan_folder) e2 ∙ same_standing o o1 (group_path work) bytes a.long e)
+      inr (bytes, reads, other_standing o1 o2 (plan_document work) (group_document work) other (λ x. let more = a.other in omega (arith, x, more)) (λ x. let more = a.other in omega (arith, x, more)) (group_below _ a.plan_folder) e2 ∙ same_standing o o1 (group_document work) bytes a.long e)
 
-  pub both_plan : (o o1 o2 : Option Tree) (bytes other : List ℕ) (Reads : List ℕ → Type 0) → Reads other → o1 ≡ option_map (written (group_path work) bytes) o → o2 ≡ option_map (written (plan_path work) other) o1 → IsOldOrNew o o2 (plan_path work) Reads
-  both_plan o o1 o2 bytes other Reads reads e e2 = inr (other, reads, same_standing o1 o2 (plan_path work) other a.plan_long e2 ∙ constant o o1 (group_path work) bytes (Some (File false other)) e)
+  pub both_plan : (o o1 o2 : Option Tree) (bytes other : List ℕ) (Reads : List ℕ → Type 0) → Reads other → o1 ≡ option_map (written (group_document work) bytes) o → o2 ≡ option_map (written (plan_document work) other) o1 → IsOldOrNew o o2 (plan_document work) Reads
+  both_plan o o1 o2 bytes other Reads reads e e2 = inr (other, reads, same_standing o1 o2 (plan_document work) other a.plan_long e2 ∙ constant o o1 (group_document work) bytes (Some (File false other)) e)

@@ -14,8 +14,8 @@ use Rattle.cnb_world.specs.Tree.{Tree, item_at, is_root, is_folder, is_file_or_a
 use Rattle.cnb_world.specs.Whole.{written, can_write}
 use Rattle.cnb_world.proofs.Trees.{get-insert_other, get-remove_bytes}
 use Rattle.cnb_world.proofs.Folders.{get-with_folders}
-use Rattle.cnb_lifecycle.specs.Documents.{group_path, plan_path, can_write_choice}
-use Rattle.cnb_lifecycle.proofs.DocumentLemmas.{AreApart, apart, longer, unlike, written_other}
+use Rattle.cnb_detect.specs.Documents.{group_document, plan_document, can_write_choice}
+use Rattle.cnb_detect.proofs.DocumentLemmas.{AreApart, apart, longer, unlike, written_other}
 
 -- a folder or nothing
 abbrev fits : Option Item → Bool
@@ -49,19 +49,19 @@ make_folder_after t g bytes q h ok =
     list_all-append G (folders_above q) (q ∷ []) ∙ and_from _ _ (all_short F G (length q) step [] q (omega arith) parts.0)
     (let last = and_parts (F q) true parts.1 in and_from (G q) true (step q (omega arith) last.0) refl)
 
-allows_plan : (work bytes : List ℕ) (t : Tree) → is_path work ≡ true → can_write (plan_path work) t ≡ true → can_write (plan_path work) (written (group_path work) bytes t) ≡ true
+allows_plan : (work bytes : List ℕ) (t : Tree) → is_path work ≡ true → can_write (plan_document work) t ≡ true → can_write (plan_document work) (written (group_document work) bytes t) ≡ true
 allows_plan work bytes t path h =
-    let a : AreApart work (group_path work) (plan_path work) = apart work path in
-    let more : length (group_path work) ≡ length (plan_path work) + 1 = a.other in
-    let folder : length (parent_of (group_path work)) ≡ length work = ap length a.folder in
-    let plan_folder : length (parent_of (plan_path work)) ≡ length work = ap length a.plan_folder in
-    let below : length work < length (plan_path work) = a.plan_below in
-    let outer = and_parts (is_file_or_absent (item_at t (plan_path work)) && is_file_or_absent (item_at t (beside (plan_path work)))) (can_make_folder t (parent_of (plan_path work))) h in
-    let docs = and_parts (is_file_or_absent (item_at t (plan_path work))) (is_file_or_absent (item_at t (beside (plan_path work)))) outer.0 in
+    let a : AreApart work (group_document work) (plan_document work) = apart work path in
+    let more : length (group_document work) ≡ length (plan_document work) + 1 = a.other in
+    let folder : length (parent_of (group_document work)) ≡ length work = ap length a.folder in
+    let plan_folder : length (parent_of (plan_document work)) ≡ length work = ap length a.plan_folder in
+    let below : length work < length (plan_document work) = a.plan_below in
+    let outer = and_parts (is_file_or_absent (item_at t (plan_document work)) && is_file_or_absent (item_at t (beside (plan_document work)))) (can_make_folder t (parent_of (plan_document work))) h in
+    let docs = and_parts (is_file_or_absent (item_at t (plan_document work))) (is_file_or_absent (item_at t (beside (plan_document work)))) outer.0 in
     and_from _ _ (and_from _ _
-    (ap is_file_or_absent (written_other t (group_path work) (plan_path work) bytes (λ e. omega arith) (λ e. omega arith) (omega arith)) ∙ docs.0)
-    (ap is_file_or_absent (written_other t (group_path work) (beside (plan_path work)) bytes (λ e. omega (arith, longer (plan_path work))) (λ e. omega (arith, longer (plan_path work))) (omega (arith, longer (plan_path work)))) ∙ docs.1))
-    (make_folder_after t (group_path work) bytes (parent_of (plan_path work)) (omega arith) outer.1)
+    (ap is_file_or_absent (written_other t (group_document work) (plan_document work) bytes (λ e. omega arith) (λ e. omega arith) (omega arith)) ∙ docs.0)
+    (ap is_file_or_absent (written_other t (group_document work) (beside (plan_document work)) bytes (λ e. omega (arith, longer (plan_document work))) (λ e. omega (arith, longer (plan_document work))) (omega (arith, longer (plan_document work)))) ∙ docs.1))
+    (make_folder_after t (group_document work) bytes (parent_of (plan_document work)) (omega arith) outer.1)
 
 may_by : (x y z : Bool) (a b c : ℕ) → (y ≡ true → z ≡ true) → MayMisuse (Some x) a b → MayMisuse (Some z) b c → MayMisuse (Some (x && y)) a c
 may_by true true z a b c f first second = let P : Bool → Type 0 = λ v. MayMisuse (Some v) b c in let same : c ≡ b = subst P (f refl) second in same ∙ first
@@ -75,31 +75,5 @@ pub may_then : (F G : Tree → Bool) (step : Tree → Tree) → ((t : Tree) → 
 may_then F G step keeps None o1 a b c e first second = let same : c ≡ b = subst (λ v. MayMisuse (option_map G v) b c) e second in same ∙ first
 may_then F G step keeps (Some t) o1 a b c e first second = may_by (F t) (G t) (G (step t)) a b c (keeps t) first (subst (λ v. MayMisuse (option_map G v) b c) e second)
 
-first_alone : (x y : Bool) (a b : ℕ) → MayMisuse (Some x) a b → MayMisuse (Some (x && y)) a b
-first_alone true true a b h = h
-first_alone true false a b h = omega (arith, h)
-first_alone false y a b h = h
-
-pub may_first : (F G : Tree → Bool) (o : Option Tree) (a b : ℕ) → MayMisuse (option_map F o) a b → MayMisuse (option_map (λ t. F t && G t) o) a b
-may_first F G None a b h = h
-may_first F G (Some t) a b h = first_alone (F t) (G t) a b h
-
-same_map : (o : Option Tree) → o ≡ option_map (λ t. t) o
-same_map None = refl
-same_map (Some t) = refl
-
--- the same where the first call leaves the files
-pub may_same : (F G : Tree → Bool) (o o1 : Option Tree) (a b c : ℕ) → o1 ≡ o → MayMisuse (option_map F o) a b → MayMisuse (option_map G o1) b c → MayMisuse (option_map (λ t. F t && G t) o) a c
-may_same F G o o1 a b c e first second = may_then F G (λ t. t) (λ t h. h) o o1 a b c (e ∙ same_map o) first second
-
-pub may_write : (work bytes : List ℕ) (o o1 : Option Tree) (a b c : ℕ) → is_path work ≡ true → o1 ≡ option_map (written (group_path work) bytes) o → MayMisuse (option_map (can_write (group_path work)) o) a b → MayMisuse (option_map (can_write (plan_path work)) o1) b c → MayMisuse (option_map (can_write_choice work) o) a c
-may_write work bytes o o1 a b c path e first second = may_then (can_write (group_path work)) (can_write (plan_path work)) (written (group_path work) bytes) (λ t h. allows_plan work bytes t path h) o o1 a b c e first second
-
--- where no call is made
-pub still : (o : Option Tree) (F : Tree → Bool) (a : ℕ) → MayMisuse (option_map F o) a a
-still None F a = refl
-still (Some t) F a = by (F t)
-  where
-    by : (v : Bool) → MayMisuse (Some v) a a
-    by true = refl
-    by false = omega arith
+pub may_write : (work bytes : List ℕ) (o o1 : Option Tree) (a b c : ℕ) → is_path work ≡ true → o1 ≡ option_map (written (group_document work) bytes) o → MayMisuse (option_map (can_write (group_document work)) o) a b → MayMisuse (option_map (can_write (plan_document work)) o1) b c → MayMisuse (option_map (can_write_choice work) o) a c
+may_write work bytes o o1 a b c path e first second = may_then (can_write (group_document work)) (can_write (plan_document work)) (written (group_document work) bytes) (λ t h. allows_plan work bytes t path h) o o1 a b c e first second

@@ -3,48 +3,39 @@ use Rattle.std.specs.Prelude.{ℕ, Bool, ◌&&◌, List, Result, Ok, Err}
 use Rattle.cnb_world.specs.declared.env.Variable.{Variable}
 use Rattle.cnb_world.specs.Tree.{Tree}
 use Rattle.cnb_words.specs.declared.detect.DetectWords.{DetectWords}
-use Rattle.doc_files.specs.declared.fault.ReadFault.{ReadFault}
 use Rattle.order_files.specs.Catalog.{catalog_in, is_fit_catalog}
 use Rattle.order_files.specs.OrderFile.{order_file_in, is_fit_order_file}
 use Rattle.cnb_env.specs.declared.files.EnvFile.{EnvFile}
 use Rattle.cnb_env.specs.Files.{platform_files_in, is_fit_platform}
 use Rattle.order_expand.specs.Check.{checked}
-use Rattle.order_expand.specs.declared.order.OrderFault.{OrderFault}
 use Rattle.detect_core.specs.declared.chosen.DetectFrame.{DetectFrame}
-use Rattle.cnb_lifecycle.specs.declared.preparation.Prepared.{Prepared}
-use Rattle.cnb_lifecycle.specs.declared.refusal.Refusal.{Refusal}
-use Rattle.cnb_lifecycle.specs.Faults.{of_read_fault, of_order_fault}
-use Rattle.cnb_lifecycle.specs.Steps.{◌>>=◌}
-
-abbrev pub of_read : {A : Type 0} → Result A ReadFault → Result A Refusal
-of_read (Ok value) = Ok value
-of_read (Err fault) = Err (of_read_fault fault)
-
-abbrev pub of_check : Result ℕ OrderFault → Result ℕ Refusal
-of_check (Ok groups) = Ok groups
-of_check (Err fault) = Err (of_order_fault fault)
+use Rattle.steps.specs.Outside.{Seen}
+use Rattle.steps.specs.Steps.{◌>>=◌, gives, map_err, reads}
+use Rattle.cnb_detect.specs.declared.preparation.Prepared.{Prepared}
+use Rattle.cnb_detect.specs.declared.refusal.DetectRefusal.{DetectRefusal}
+use Rattle.cnb_detect.specs.Refusals.{cause_of, of_read_fault, of_order_fault, order_cause, read_cause}
 
 -- what all detect children have in common
 abbrev pub frame_of : DetectWords → List Variable → List EnvFile → DetectFrame
-frame_of words env files = record {
-  buildpacks = words.buildpacks;
-  app = words.app;
-  platform = words.platform;
-  work = words.work;
+frame_of options env files = record {
+  buildpacks = options.buildpacks;
+  app = options.app;
+  platform = options.platform;
+  work = options.work;
   env = env;
   files = files;
 }
 
--- the order, the buildpacks, the check of the order, the platform's files: the first refusal decides
-unfoldable pub prepared_in : DetectWords → List Variable → Tree → Result Prepared Refusal
-prepared_in words env files = do
-  order ← of_read (order_file_in words.order files)
-  catalog ← of_read (catalog_in words.buildpacks files)
-  groups ← of_check (checked catalog order)
-  variables ← of_read (platform_files_in words.platform files)
-  Ok (record { order = order; catalog = catalog; frame = frame_of words env variables })
+-- the order, the buildpacks, the check of the order, the platform's files
+unfoldable pub prepares : DetectWords → List Variable → Seen → Result Prepared DetectRefusal → Seen → Type 0
+prepares options env = do
+  order ← map_err of_read_fault (reads read_cause (is_fit_order_file options.order) (order_file_in options.order))
+  catalog ← map_err of_read_fault (reads read_cause (is_fit_catalog options.buildpacks) (catalog_in options.buildpacks))
+  groups ← map_err of_order_fault (gives order_cause (checked catalog order))
+  files ← map_err of_read_fault (reads read_cause (is_fit_platform options.platform) (platform_files_in options.platform))
+  gives cause_of (Ok (record { order = order; catalog = catalog; frame = frame_of options env files }))
 
--- what stands where the steps read is of the kind that they need
+-- what stands where these steps read is of the kind that they need
 abbrev pub is_fit_preparation : DetectWords → Tree → Bool
-is_fit_preparation words files =
-    is_fit_order_file words.order files && is_fit_catalog words.buildpacks files && is_fit_platform words.platform files
+is_fit_preparation options files =
+    is_fit_order_file options.order files && is_fit_catalog options.buildpacks files && is_fit_platform options.platform files

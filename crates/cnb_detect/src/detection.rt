@@ -1,49 +1,57 @@
 // The command `detect`.
-ghost use Rattle.std.specs.Prelude.{◌≡◌, ◌<◌, IfSome, IsTrue, drop, length, map};
-ghost use Rattle.std.specs.Option.{option_map};
-ghost use Rattle.cnb_world.specs.Calls.{MayMisuse};
+ghost use Rattle.std.specs.Prelude.{◌≡◌, ◌<◌, drop, length};
 ghost use Rattle.cnb_words.specs.Detect.{KeepsLimits};
-ghost use Rattle.detect_core.specs.Search.{first_faults, first_runs, IsExtended};
-ghost use Rattle.cnb_lifecycle.specs.Choice.{detect_choice, detect_jobs, new_runs, AsksIn};
-ghost use Rattle.cnb_lifecycle.specs.Detection.{is_fit_detect, text_of, IsGroupOldOrNew, IsPlanOldOrNew, KeepsFiles, WritesChoice};
-ghost use Rattle.cnb_lifecycle.specs.Steps.{Answers, StepChildren, StepFiles};
+ghost use Rattle.steps.specs.Asking.{CountsSpawners};
+ghost use Rattle.steps.specs.Causes.{CountsFiles};
+ghost use Rattle.steps.specs.Outside.{faults_of, outside, spawners_seen};
+ghost use Rattle.cnb_detect.specs.Detects.{detects};
+ghost use Rattle.cnb_detect.specs.Outcome.{ComesTo};
+ghost use Rattle.cnb_detect.specs.Refusals.{cause_of};
 
-use crate::choosing::choose_group;
+use crate::choosing::choose;
 use crate::documents::write_choice;
-use crate::refusal::Refusal;
+use crate::preparation::prepare;
+use crate::refusal::DetectRefusal;
 use crate::report::choice_text;
 use cnb_words::DetectWords;
 use cnb_world::{Env, Spawner, Text, World};
 use std::alloc::Global;
 use std::thread::Threads;
 
-/// Chooses the first group that passes, writes it with its plan, and gives the text to be printed (platform.md, "detector").
-pub(crate) fn detect_command<W: World, S: Spawner + Send, R: Threads + Sync>(
+/// Chooses the first group that passes, writes it with its plan, and gives the text to be printed (platform.md,
+/// "detector").
+pub fn detect<W: World, S: Spawner + Send, R: Threads + Sync>(
     rt: &R,
     alloc: Global,
-    words: &DetectWords,
+    options: &DetectWords,
     env: &Env,
     world: &mut W,
     spawners: &mut Vec<S>,
-) -> Result<Text, Refusal>
-    requires short { KeepsLimits words.now }
+) -> Result<Text, DetectRefusal>
+    requires limits { KeepsLimits options.now }
     requires spawners { 0 < length spawners.old.items }
-    ensures comes { IfSome (W.tree world.old) (λ files. Answers result (text_of (detect_choice words.now env.now (new_runs S.runs spawners.old.items spawners.new.items) files))) }
-    ensures writes { WritesChoice result words.now (W.tree world.old) (W.tree world.new) (detect_choice words.now env.now (new_runs S.runs spawners.old.items spawners.new.items)) }
-    ensures group { IsGroupOldOrNew words.now (W.tree world.old) (W.tree world.new) (detect_choice words.now env.now (new_runs S.runs spawners.old.items spawners.new.items)) }
-    ensures plan { IsPlanOldOrNew words.now (W.tree world.old) (W.tree world.new) (detect_choice words.now env.now (new_runs S.runs spawners.old.items spawners.new.items)) }
-    ensures kept { KeepsFiles result (W.tree world.old) (W.tree world.new) }
-    ensures asks { IfSome (W.tree world.old) (λ files. AsksIn result (map (λ ran. ran.job) (new_runs S.runs spawners.old.items spawners.new.items)) (detect_jobs words.now env.now (new_runs S.runs spawners.old.items spawners.new.items) files)) }
-    ensures grows { IsExtended (first_runs S.runs spawners.old.items) (first_runs S.runs spawners.new.items) }
+    // It does its steps in their order.
+    ensures steps { detects options.now env.now
+        (outside W.World S.Spawner world.old spawners.old.items)
+        result
+        (outside W.World S.Spawner world.new spawners.new.items) }
+    // So it comes to the first trial that passes, by the files and by what its children answered, or to its refusal.
+    ensures outcome { ComesTo options.now env.now
+        (outside W.World S.Spawner world.old spawners.old.items)
+        result
+        (outside W.World S.Spawner world.new spawners.new.items) }
+    // One worker runs all children.
     ensures others { drop 1 spawners.new.items ≡ drop 1 spawners.old.items }
-    ensures files { StepFiles result (W.file_faults world.old) (W.file_faults world.new) }
-    ensures children { StepChildren result (first_faults S.faults spawners.old.items) (first_faults S.faults spawners.new.items) }
-    ensures world_children { W.child_faults world.new ≡ W.child_faults world.old }
-    ensures runs { W.runs world.new ≡ W.runs world.old }
-    ensures misused { MayMisuse (option_map (is_fit_detect words.now) (W.tree world.old)) (W.misused world.old) (W.misused world.new) }
+    ensures files { CountsFiles cause_of result (W.file_faults world.old) (W.file_faults world.new) }
+    ensures children { W.child_faults world.new ≡ W.child_faults world.old }
+    ensures spawners { CountsSpawners cause_of result
+        (faults_of (spawners_seen S.Spawner spawners.old.items))
+        (faults_of (spawners_seen S.Spawner spawners.new.items)) }
 {
-    let chosen = choose_group(rt, alloc, words, env, world, spawners)?;
-    let text = choice_text(alloc, chosen.group.as_slice(), chosen.plan.as_slice().len())?;
-    write_choice(alloc, world, &words.work, &chosen.group, &chosen.plan)?;
+    let _work = options.work.as_str();
+    let prepared = prepare(alloc, options, env, world)?;
+    let chosen = choose(rt, alloc, &prepared, spawners, options.workers)?;
+    let text = choice_text(alloc, &chosen.group, &chosen.plan)?;
+    write_choice(alloc, world, &options.work, &chosen.group, &chosen.plan)?;
     Ok(text)
 }

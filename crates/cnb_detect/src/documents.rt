@@ -1,15 +1,18 @@
 // The documents of a choice.
-ghost use Rattle.std.specs.Prelude.{◌≡◌, ◌≤◌, ◌<◌, ℕ, IfErr, IsTrue, OnOk, OnErr, Ok, length};
+ghost use Rattle.std.specs.Prelude.{◌≡◌, ◌≤◌, ◌<◌, ℕ, List as Seq, IfErr, IsTrue, OnOk, OnErr, length};
 ghost use Rattle.std.specs.Option.{option_map};
 ghost use Rattle.cnb_world.specs.Calls.{MayMisuse};
 ghost use Rattle.cnb_world.specs.Path.{beside, is_part, joined};
 ghost use Rattle.cnb_world.specs.Whole.{can_write, written, LeavesPart};
-ghost use Rattle.run_docs.specs.Group.{group_in, is_group_doc};
-ghost use Rattle.run_docs.specs.Plan.{is_plan_doc, plan_in};
-ghost use Rattle.cnb_lifecycle.specs.Documents.{group_path, plan_path, can_write_choice, IsOldOrNew, IsWriteRefusal, WritesBoth};
-ghost use Rattle.cnb_lifecycle.specs.Steps.{StepChildren, StepFiles};
+ghost use Rattle.run_docs.specs.Group.{is_group_doc};
+ghost use Rattle.run_docs.specs.Plan.{is_plan_doc};
+ghost use Rattle.steps.specs.Asking.{CountsSpawners};
+ghost use Rattle.steps.specs.Causes.{CountsFiles, IsWriteCause};
+ghost use Rattle.steps.specs.Outside.{seen};
+ghost use Rattle.cnb_detect.specs.Documents.{writes_choice};
+ghost use Rattle.cnb_detect.specs.Refusals.{cause_of};
 
-use crate::refusal::Refusal;
+use crate::refusal::DetectRefusal;
 use cnb_world::{FileFault, Path, World, write_whole};
 use run_docs::{GroupDoc, PlanDoc, write_group, write_plan};
 use std::alloc::Global;
@@ -21,26 +24,28 @@ fn write_document<W: World>(
     folder: &Path,
     name: &str,
     bytes: &[u8],
-) -> Result<(), Refusal>
+) -> Result<(), DetectRefusal>
     requires part { IsTrue (is_part name.now) }
     requires beside { IsTrue (is_part (beside name.now)) }
     requires long { 1 < length name.now }
     requires short_name { length name.now ≤ 200 }
     requires short { length folder.now ≤ 4096 }
-    ensures ok { OnOk result (W.tree world.new ≡ option_map (written (joined folder.now name.now) bytes.now) (W.tree world.old)) }
+    ensures ok { OnOk result
+        (W.tree world.new ≡ option_map (written (joined folder.now name.now) bytes.now) (W.tree world.old)) }
     ensures err { OnErr result (LeavesPart (W.tree world.old) (W.tree world.new) (joined folder.now name.now)) }
-    ensures refusal { IfErr result IsWriteRefusal }
-    ensures files { StepFiles result (W.file_faults world.old) (W.file_faults world.new) }
+    ensures cause { IfErr result (λ refusal. IsWriteCause (joined folder.now name.now) (cause_of refusal)) }
+    ensures files { CountsFiles cause_of result (W.file_faults world.old) (W.file_faults world.new) }
     ensures children { W.child_faults world.new ≡ W.child_faults world.old }
     ensures runs { W.runs world.new ≡ W.runs world.old }
-    ensures misused { MayMisuse (option_map (can_write (joined folder.now name.now)) (W.tree world.old)) (W.misused world.old) (W.misused world.new) }
+    ensures misused { MayMisuse (option_map (can_write (joined folder.now name.now)) (W.tree world.old))
+        (W.misused world.old) (W.misused world.new) }
 {
     let _folder = folder.as_str();
     let path = folder.below(alloc, name)?;
     match write_whole(alloc, world, &path, bytes) {
         Ok(()) => Ok(()),
-        Err(FileFault::Failed) => Err(Refusal::File(path)),
-        Err(FileFault::Memory) => Err(Refusal::Memory),
+        Err(FileFault::Failed) => Err(DetectRefusal::File(path)),
+        Err(FileFault::Memory) => Err(DetectRefusal::Memory),
     }
 }
 
@@ -51,21 +56,16 @@ pub(crate) fn write_choice<W: World>(
     work: &Path,
     group: &GroupDoc,
     plan: &PlanDoc,
-) -> Result<(), Refusal>
+) -> Result<(), DetectRefusal>
     requires group { IsTrue (is_group_doc group.now) }
     requires plan { IsTrue (is_plan_doc plan.now) }
     requires short { length work.now ≤ 4096 }
-    ensures both { OnOk result (WritesBoth work.now group.now plan.now (W.tree world.old) (W.tree world.new)) }
-    ensures group { IsOldOrNew (W.tree world.old) (W.tree world.new) (group_path work.now) (λ bytes. group_in bytes ≡ Ok group.now) }
-    ensures plan { IsOldOrNew (W.tree world.old) (W.tree world.new) (plan_path work.now) (λ bytes. plan_in bytes ≡ Ok plan.now) }
-    ensures refusal { IfErr result IsWriteRefusal }
-    ensures files { StepFiles result (W.file_faults world.old) (W.file_faults world.new) }
-    ensures children { (n : ℕ) → StepChildren result n n }
-    ensures world_children { W.child_faults world.new ≡ W.child_faults world.old }
-    ensures runs { W.runs world.new ≡ W.runs world.old }
-    ensures misused { MayMisuse (option_map (can_write_choice work.now) (W.tree world.old)) (W.misused world.old) (W.misused world.new) }
+    ensures step { writes_choice work.now (record { group = group.now; plan = plan.now })
+        (seen W.World world.old) result (seen W.World world.new) }
+    ensures files { CountsFiles cause_of result (W.file_faults world.old) (W.file_faults world.new) }
+    ensures children { W.child_faults world.new ≡ W.child_faults world.old }
+    ensures spawners { (counts : Seq ℕ) → CountsSpawners cause_of result counts counts }
 {
-    let _work = work.as_str();
     let group_bytes = write_group(alloc, group)?;
     let plan_bytes = write_plan(alloc, plan)?;
     write_document(alloc, world, work, "group.toml", group_bytes.as_slice())?;

@@ -1,14 +1,15 @@
 // What a detection is made of.
-ghost use Rattle.std.specs.Prelude.{◌≡◌, ℕ, IfOk, IfSome, IsOk, IsTrue};
-ghost use Rattle.std.specs.Option.{option_map};
-ghost use Rattle.cnb_world.specs.Calls.{MayMisuse};
+ghost use Rattle.std.specs.Prelude.{◌≡◌, ℕ, List as Seq, IfOk, IsOk, IsTrue};
 ghost use Rattle.cnb_words.specs.Detect.{KeepsLimits};
 ghost use Rattle.order_expand.specs.Check.{checked};
 ghost use Rattle.detect_core.specs.Search.{is_short};
-ghost use Rattle.cnb_lifecycle.specs.Preparation.{frame_of, is_fit_preparation, prepared_in};
-ghost use Rattle.cnb_lifecycle.specs.Steps.{Answers, StepChildren, StepFiles};
+ghost use Rattle.steps.specs.Asking.{CountsSpawners};
+ghost use Rattle.steps.specs.Causes.{CountsFiles};
+ghost use Rattle.steps.specs.Outside.{seen};
+ghost use Rattle.cnb_detect.specs.Preparation.{frame_of, prepares};
+ghost use Rattle.cnb_detect.specs.Refusals.{cause_of};
 
-use crate::refusal::Refusal;
+use crate::refusal::DetectRefusal;
 use bp_docs::Order;
 use cnb_env::{EnvFile, platform_files};
 use cnb_words::DetectWords;
@@ -28,46 +29,42 @@ pub struct Prepared {
 
 fn frame(
     alloc: Global,
-    words: &DetectWords,
+    options: &DetectWords,
     env: &Env,
     files: List<EnvFile>,
 ) -> Result<DetectFrame, Memory>
-    ensures { IfOk result (λ frame. frame ≡ frame_of words.now env.now files) }
+    ensures { IfOk result (λ frame. frame ≡ frame_of options.now env.now files) }
 {
     Ok(DetectFrame {
-        buildpacks: words.buildpacks.copy(alloc)?,
-        app: words.app.copy(alloc)?,
-        platform: words.platform.copy(alloc)?,
-        work: words.work.copy(alloc)?,
+        buildpacks: options.buildpacks.copy(alloc)?,
+        app: options.app.copy(alloc)?,
+        platform: options.platform.copy(alloc)?,
+        work: options.work.copy(alloc)?,
         env: env.copy()?,
         files,
     })
 }
 
 /// Reads the order, the buildpacks and the platform's environment files, and refuses an order that can't be expanded.
-#[tactic(auto, unfolding(crate::specs::Preparation::prepared_in))]
 pub(crate) fn prepare<W: World>(
     alloc: Global,
-    words: &DetectWords,
+    options: &DetectWords,
     env: &Env,
     world: &mut W,
-) -> Result<Prepared, Refusal>
-    requires { KeepsLimits words.now }
-    ensures prepares { IfSome (W.tree world.old) (λ files. Answers result (prepared_in words.now env.now files)) }
+) -> Result<Prepared, DetectRefusal>
+    requires { KeepsLimits options.now }
+    ensures step { prepares options.now env.now (seen W.World world.old) result (seen W.World world.new) }
     ensures checked { IfOk result (λ prepared. IsOk (checked prepared.catalog prepared.order)) }
     ensures short { IfOk result (λ prepared. IsTrue (is_short prepared.frame)) }
-    ensures tree { W.tree world.new ≡ W.tree world.old }
-    ensures files { StepFiles result (W.file_faults world.old) (W.file_faults world.new) }
-    ensures children { (n : ℕ) → StepChildren result n n }
-    ensures world_children { W.child_faults world.new ≡ W.child_faults world.old }
-    ensures runs { W.runs world.new ≡ W.runs world.old }
-    ensures misused { MayMisuse (option_map (is_fit_preparation words.now) (W.tree world.old)) (W.misused world.old) (W.misused world.new) }
+    ensures files { CountsFiles cause_of result (W.file_faults world.old) (W.file_faults world.new) }
+    ensures children { W.child_faults world.new ≡ W.child_faults world.old }
+    ensures spawners { (counts : Seq ℕ) → CountsSpawners cause_of result counts counts }
 {
-    let order = read_order_file(alloc, world, &words.order)?;
-    let catalog = read_catalog(alloc, world, &words.buildpacks)?;
+    let order = read_order_file(alloc, world, &options.order)?;
+    let catalog = read_catalog(alloc, world, &options.buildpacks)?;
     check(alloc, &order, &catalog)?;
-    let files = platform_files(alloc, world, &words.platform)?;
-    let frame = frame(alloc, words, env, files)?;
+    let files = platform_files(alloc, world, &options.platform)?;
+    let frame = frame(alloc, options, env, files)?;
     Ok(Prepared {
         order,
         catalog,

@@ -1,5 +1,4 @@
-pub mod ChoiceLemmas
-pub mod DocumentLemmas
+pub mod CauseLemmas
+pub mod CommandLemmas
 pub mod EndLemmas
-pub mod FitLemmas
 pub mod SinkLemmas

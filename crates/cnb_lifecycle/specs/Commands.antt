@@ -9,14 +9,8 @@ use Rattle.cnb_words.specs.declared.words.Asked.TheVariants.{Detect}
 use Rattle.cnb_words.specs.declared.detect.DetectWords.{DetectWords}
 use Rattle.cnb_words.specs.declared.fault.WordsFault.{WordsFault}
 use Rattle.cnb_lifecycle.specs.declared.refusal.Refusal.{Refusal}
-use Rattle.cnb_lifecycle.specs.declared.refusal.Refusal.TheVariants.{Memory, PlatformApi}
+use Rattle.cnb_lifecycle.specs.declared.refusal.Refusal.TheVariants.{PlatformApi}
 use Rattle.cnb_lifecycle.specs.Faults.{of_words_fault}
-use Rattle.cnb_lifecycle.specs.Steps.{◌>>=◌}
-
--- the answer is this one, or memory ran out
-abbrev pub CommandsAs : {A : Type 0} → Result A Refusal → Result A Refusal → Type 0
-CommandsAs (Err Memory) want = Unit {0}
-CommandsAs result want = result ≡ want
 
 abbrev pub of_api : Option (List ℕ) → Result (Unit {0}) Refusal
 of_api None = Ok tt
@@ -30,19 +24,26 @@ abbrev pub of_words : Result Asked WordsFault → Result Asked Refusal
 of_words (Ok asked) = Ok asked
 of_words (Err fault) = Err (of_words_fault fault)
 
+abbrev pub where_served : Result Asked Refusal → Result (Unit {0}) Refusal → Result Asked Refusal
+where_served (Ok asked) (Ok served) = Ok asked
+where_served (Ok asked) (Err refusal) = Err refusal
+where_served (Err refusal) served = Err refusal
+
 -- the command that the words ask for, or why they are refused before anything outside is looked at
 unfoldable pub command_in : List (List ℕ) → List Variable → Result Asked Refusal
-command_in words env = do
-  asked ← of_words (asked_by words)
-  served ← platform_api env
-  Ok asked
+command_in words env = where_served (of_words (asked_by words)) (platform_api env)
 
--- what holds where `detect` is asked for
-abbrev pub OnDetect : Result Asked Refusal → (DetectWords → Type 0) → Type 0
-OnDetect (Ok (Detect words)) P = P words
-OnDetect (Err refusal) P = Unit {0}
+-- what holds of the value, where there is one
+abbrev pub On : {A : Type 0} → Option A → (A → Type 0) → Type 0
+On (Some value) P = P value
+On None P = Unit {0}
 
--- what holds where the words are refused
-abbrev pub OnRefused : Result Asked Refusal → (Refusal → Type 0) → Type 0
-OnRefused (Ok asked) P = Unit {0}
-OnRefused (Err refusal) P = P refusal
+-- the options of `detect`, where that is asked for
+abbrev pub detect_of : Result Asked Refusal → Option DetectWords
+detect_of (Ok (Detect options)) = Some options
+detect_of (Err refusal) = None
+
+-- why the words are refused, where they are
+abbrev pub refusal_of : Result Asked Refusal → Option Refusal
+refusal_of (Ok asked) = None
+refusal_of (Err refusal) = Some refusal

@@ -1,11 +1,6 @@
-pub mod Choice
 pub mod Commands
-pub mod Detection
-pub mod Documents
 pub mod Ends
 pub mod Faults
-pub mod Preparation
 pub mod Printing
 pub mod Refusal
 pub mod Report
-pub mod Steps

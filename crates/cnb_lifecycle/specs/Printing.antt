@@ -28,6 +28,7 @@ Finishes (Ok text) Done old new = Adds old new text
 Finishes (Ok text) Output old new = AddsPart old new text
 Finishes (Ok text) (Refused refusal) old new = ⊥
 Finishes (Err refusal) Done old new = ⊥
+Finishes (Err Memory) Output old new = ⊥
 Finishes (Err refusal) Output old new = AddsPart old new (error_line refusal)
 Finishes (Err refusal) (Refused Memory) old new = new ≡ old
 Finishes (Err refusal) (Refused told) old new = (told ≡ refusal) × Adds old new (error_line refusal)

@@ -1,24 +1,9 @@
--- The text that a command prints.
-use Rattle.std.specs.Prelude.{ℕ, List, [], ◌∷◌, ◌++◌, codes, flat_map}
+-- The line of a refusal.
+use Rattle.std.specs.Prelude.{ℕ, List, [], ◌∷◌, ◌++◌, codes}
 use Rattle.std.specs.Fmt.{decimal}
-use Rattle.run_docs.specs.declared.group.GroupRow.{GroupRow}
 use Rattle.cnb_lifecycle.specs.declared.refusal.Refusal.{Refusal}
 use Rattle.cnb_lifecycle.specs.Refusal.{code_of, name_of, detail_of, with_text}
 
-abbrev pub line_feed : List ℕ
-line_feed = 10 ∷ []
-
--- the line of a buildpack of the chosen group
-abbrev pub pass_line : GroupRow → List ℕ
-pass_line row = codes "pass " ++ row.key.id ++ codes "@" ++ row.key.version ++ line_feed
-
-abbrev pub pass_lines : List GroupRow → List ℕ
-pass_lines group = flat_map pass_line group
-
--- the chosen group, and how many entries its plan has
-abbrev pub choice_text : List GroupRow → ℕ → List ℕ
-choice_text group entries = pass_lines group ++ (codes "plan " ++ decimal entries ++ line_feed)
-
--- the line of a refusal
+-- its exit status, its name and what is told of it
 abbrev pub error_line : Refusal → List ℕ
-error_line refusal = codes "error " ++ decimal (code_of refusal) ++ codes " " ++ with_text (name_of refusal) (detail_of refusal) ++ line_feed
+error_line refusal = codes "error " ++ decimal (code_of refusal) ++ codes " " ++ with_text (name_of refusal) (detail_of refusal) ++ 10 ∷ []

@@ -1,10 +1,8 @@
 // The refusals that the faults of the steps come to.
 use crate::refusal::Refusal;
+use cnb_detect::DetectRefusal;
 use cnb_words::WordsFault;
-use cnb_world::{LimitKind, Memory};
-use detect_core::DetectEnd;
-use doc_files::ReadFault;
-use order_expand::OrderFault;
+use cnb_world::Memory;
 use std::alloc::AllocError;
 
 impl From<Memory> for Refusal {
@@ -44,59 +42,22 @@ impl From<WordsFault> for Refusal {
     }
 }
 
-impl From<ReadFault> for Refusal {
+impl From<DetectRefusal> for Refusal {
     ghost use Rattle.std.specs.Prelude.{◌≡◌};
-    ghost use Rattle.cnb_lifecycle.specs.Faults.{of_read_fault};
+    ghost use Rattle.cnb_lifecycle.specs.Faults.{of_detect};
 
-    ghost from_gives = { λ fault given. given ≡ of_read_fault fault };
+    ghost from_gives = { λ refusal given. given ≡ of_detect refusal };
 
-    fn from(fault: ReadFault) -> Self {
-        match fault {
-            ReadFault::File(path) => Refusal::File(path),
-            ReadFault::Document(path, fault) => Refusal::Document(path, fault),
-            ReadFault::Limit(kind) => Refusal::Limit(kind),
-            ReadFault::Memory => Refusal::Memory,
-        }
-    }
-}
-
-impl From<OrderFault> for Refusal {
-    ghost use Rattle.std.specs.Prelude.{◌≡◌};
-    ghost use Rattle.cnb_lifecycle.specs.Faults.{of_order_fault};
-
-    ghost from_gives = { λ fault given. given ≡ of_order_fault fault };
-
-    fn from(fault: OrderFault) -> Self {
-        match fault {
-            OrderFault::Absent(id) => Refusal::Order {
-                id,
-                ambiguous: false,
-            },
-            OrderFault::Ambiguous(id) => Refusal::Order {
-                id,
-                ambiguous: true,
-            },
-            OrderFault::Api(_, api) => Refusal::BuildpackApi(api),
-            OrderFault::Deep(_) => Refusal::Limit(LimitKind::Nesting),
-            OrderFault::ManyGroups => Refusal::Limit(LimitKind::Groups),
-            OrderFault::LongGroup => Refusal::Limit(LimitKind::Entries),
-            OrderFault::Memory => Refusal::Memory,
-        }
-    }
-}
-
-impl From<DetectEnd> for Refusal {
-    ghost use Rattle.std.specs.Prelude.{◌≡◌};
-    ghost use Rattle.cnb_lifecycle.specs.Faults.{of_detect_end};
-
-    ghost from_gives = { λ end given. given ≡ of_detect_end end };
-
-    fn from(end: DetectEnd) -> Self {
-        match end {
-            DetectEnd::NoGroup { erred } => Refusal::NoGroup { erred },
-            DetectEnd::ManyTrials => Refusal::Limit(LimitKind::Trials),
-            DetectEnd::Child => Refusal::Child,
-            DetectEnd::Memory => Refusal::Memory,
+    fn from(refusal: DetectRefusal) -> Self {
+        match refusal {
+            DetectRefusal::File(path) => Refusal::File(path),
+            DetectRefusal::Memory => Refusal::Memory,
+            DetectRefusal::Document(path, fault) => Refusal::Document(path, fault),
+            DetectRefusal::Child => Refusal::Child,
+            DetectRefusal::Limit(kind) => Refusal::Limit(kind),
+            DetectRefusal::BuildpackApi(api) => Refusal::BuildpackApi(api),
+            DetectRefusal::Order { id, ambiguous } => Refusal::Order { id, ambiguous },
+            DetectRefusal::NoGroup { erred } => Refusal::NoGroup { erred },
         }
     }
 }

@@ -1,15 +1,11 @@
 //! The lifecycle's commands: from the words to the exit status, over any files, detect children and output.
 //!
-//! `lifecycle` reads the words, does the steps of the command in their order and writes its text; the first refusal ends it.
+//! `lifecycle` reads the words, has the command's crate do its steps and writes the text of its end.
 //! Only `detect` is served so far (platform.md, "detector").
 #![tactic(auto)]
 
-mod choosing;
 mod commands;
-mod detection;
-mod documents;
 mod faults;
-mod preparation;
 mod printing;
 mod refusal;
 mod report;

@@ -1,24 +1,56 @@
 // The top call.
-ghost use Rattle.std.specs.Prelude.{◌≡◌, ◌<◌, ◌^◌, IfSome, drop, length, map, string_bytes};
-ghost use Rattle.std.specs.Option.{option_map};
-ghost use Rattle.cnb_world.specs.Calls.{MayMisuse};
-ghost use Rattle.detect_core.specs.Search.{first_faults, first_runs, IsExtended};
-ghost use Rattle.cnb_lifecycle.specs.Choice.{detect_choice, detect_jobs, new_runs, AsksIn};
-ghost use Rattle.cnb_lifecycle.specs.Commands.{command_in, OnDetect, OnRefused, CommandsAs};
-ghost use Rattle.cnb_lifecycle.specs.Detection.{is_fit_detect, text_of, IsGroupOldOrNew, IsPlanOldOrNew, KeepsFiles, WritesChoice};
-ghost use Rattle.cnb_lifecycle.specs.Ends.{AsksWith, CauseOfChild, CauseOfFile, EndsWith, IsCut, IsRefusedAs, KeepsUnless, OnCut, PrintsLine, PrintsText, WritesWhereDone};
+ghost use Rattle.std.specs.Prelude.{◌≡◌, ◌<◌, ◌^◌, Err, drop, length, map, string_bytes};
+ghost use Rattle.cnb_words.specs.Detect.{KeepsLimits};
+ghost use Rattle.steps.specs.Asking.{CountsSpawners};
+ghost use Rattle.steps.specs.Causes.{CountsFiles};
+ghost use Rattle.steps.specs.Outside.{faults_of, outside, spawners_seen};
+ghost use Rattle.steps.specs.Steps.{gives, map_err};
+ghost use Rattle.cnb_detect.specs.Detects.{detects};
+ghost use Rattle.cnb_detect.specs.Outcome.{ComesTo};
+ghost use Rattle.cnb_lifecycle.specs.Commands.{command_in, detect_of, refusal_of, On};
+ghost use Rattle.cnb_lifecycle.specs.Ends.{CauseOfChild, CauseOfFile, Ends};
+ghost use Rattle.cnb_lifecycle.specs.Faults.{cause_of, of_detect};
 ghost use Rattle.cnb_lifecycle.specs.Printing.{CountsOutput};
-ghost use Rattle.cnb_lifecycle.specs.Steps.{Answers, StepChildren, StepFiles};
 
 use crate::commands::command;
-use crate::detection::detect_command;
 use crate::printing::finish;
 use crate::refusal::Refusal;
 use crate::status::Status;
-use cnb_words::Asked;
+use cnb_detect::detect;
+use cnb_words::{Asked, DetectWords};
 use cnb_world::{Env, Shelf, Sink, Spawner, Text, World};
 use std::alloc::Global;
 use std::thread::Threads;
+
+// Does what the options of `detect` ask for.
+fn run_detect<W: World, S: Spawner + Send, R: Threads + Sync>(
+    rt: &R,
+    alloc: Global,
+    options: &DetectWords,
+    env: &Env,
+    world: &mut W,
+    spawners: &mut Vec<S>,
+) -> Result<Text, Refusal>
+    requires limits { KeepsLimits options.now }
+    requires spawners { 0 < length spawners.old.items }
+    ensures steps { map_err of_detect (detects options.now env.now)
+        (outside W.World S.Spawner world.old spawners.old.items)
+        result
+        (outside W.World S.Spawner world.new spawners.new.items) }
+    ensures outcome { map_err of_detect (ComesTo options.now env.now)
+        (outside W.World S.Spawner world.old spawners.old.items)
+        result
+        (outside W.World S.Spawner world.new spawners.new.items) }
+    ensures others { drop 1 spawners.new.items ≡ drop 1 spawners.old.items }
+    ensures files { CountsFiles cause_of result (W.file_faults world.old) (W.file_faults world.new) }
+    ensures children { W.child_faults world.new ≡ W.child_faults world.old }
+    ensures spawners { CountsSpawners cause_of result
+        (faults_of (spawners_seen S.Spawner spawners.old.items))
+        (faults_of (spawners_seen S.Spawner spawners.new.items)) }
+{
+    let text = detect(rt, alloc, options, env, world, spawners)?;
+    Ok(text)
+}
 
 // Does what the words ask for.
 fn run_words<W: World, S: Spawner + Send, R: Threads + Sync>(
@@ -30,24 +62,32 @@ fn run_words<W: World, S: Spawner + Send, R: Threads + Sync>(
     spawners: &mut Vec<S>,
 ) -> Result<Text, Refusal>
     requires { 0 < length spawners.old.items }
-    ensures refused { OnRefused (command_in (map string_bytes words.now) env.now) (λ refusal. CommandsAs result (Err refusal)) }
-    ensures idle { OnRefused (command_in (map string_bytes words.now) env.now) (λ refusal. (W.tree world.new ≡ W.tree world.old) × (first_runs S.runs spawners.new.items ≡ first_runs S.runs spawners.old.items)) }
-    ensures comes { OnDetect (command_in (map string_bytes words.now) env.now) (λ detect. IfSome (W.tree world.old) (λ files. Answers result (text_of (detect_choice detect env.now (new_runs S.runs spawners.old.items spawners.new.items) files)))) }
-    ensures writes { OnDetect (command_in (map string_bytes words.now) env.now) (λ detect. WritesChoice result detect (W.tree world.old) (W.tree world.new) (detect_choice detect env.now (new_runs S.runs spawners.old.items spawners.new.items))) }
-    ensures group { OnDetect (command_in (map string_bytes words.now) env.now) (λ detect. IsGroupOldOrNew detect (W.tree world.old) (W.tree world.new) (detect_choice detect env.now (new_runs S.runs spawners.old.items spawners.new.items))) }
-    ensures plan { OnDetect (command_in (map string_bytes words.now) env.now) (λ detect. IsPlanOldOrNew detect (W.tree world.old) (W.tree world.new) (detect_choice detect env.now (new_runs S.runs spawners.old.items spawners.new.items))) }
-    ensures kept { KeepsFiles result (W.tree world.old) (W.tree world.new) }
-    ensures asks { OnDetect (command_in (map string_bytes words.now) env.now) (λ detect. IfSome (W.tree world.old) (λ files. AsksIn result (map (λ ran. ran.job) (new_runs S.runs spawners.old.items spawners.new.items)) (detect_jobs detect env.now (new_runs S.runs spawners.old.items spawners.new.items) files))) }
-    ensures grows { IsExtended (first_runs S.runs spawners.old.items) (first_runs S.runs spawners.new.items) }
+    ensures refused { On (refusal_of (command_in (map string_bytes words.now) env.now))
+        (λ refusal. gives cause_of (Err refusal)
+            (outside W.World S.Spawner world.old spawners.old.items)
+            result
+            (outside W.World S.Spawner world.new spawners.new.items)) }
+    ensures idle { On (refusal_of (command_in (map string_bytes words.now) env.now))
+        (λ refusal. (world.new ≡ world.old) × (spawners.new.items ≡ spawners.old.items)) }
+    ensures detect { On (detect_of (command_in (map string_bytes words.now) env.now)) (λ options.
+        map_err of_detect (detects options env.now)
+            (outside W.World S.Spawner world.old spawners.old.items)
+            result
+            (outside W.World S.Spawner world.new spawners.new.items)) }
+    ensures outcome { On (detect_of (command_in (map string_bytes words.now) env.now)) (λ options.
+        map_err of_detect (ComesTo options env.now)
+            (outside W.World S.Spawner world.old spawners.old.items)
+            result
+            (outside W.World S.Spawner world.new spawners.new.items)) }
     ensures others { drop 1 spawners.new.items ≡ drop 1 spawners.old.items }
-    ensures files { StepFiles result (W.file_faults world.old) (W.file_faults world.new) }
-    ensures children { StepChildren result (first_faults S.faults spawners.old.items) (first_faults S.faults spawners.new.items) }
-    ensures world_children { W.child_faults world.new ≡ W.child_faults world.old }
-    ensures runs { W.runs world.new ≡ W.runs world.old }
-    ensures misused { OnDetect (command_in (map string_bytes words.now) env.now) (λ detect. MayMisuse (option_map (is_fit_detect detect) (W.tree world.old)) (W.misused world.old) (W.misused world.new)) }
+    ensures files { CountsFiles cause_of result (W.file_faults world.old) (W.file_faults world.new) }
+    ensures children { W.child_faults world.new ≡ W.child_faults world.old }
+    ensures spawners { CountsSpawners cause_of result
+        (faults_of (spawners_seen S.Spawner spawners.old.items))
+        (faults_of (spawners_seen S.Spawner spawners.new.items)) }
 {
     match command(alloc, words, env)? {
-        Asked::Detect(detect) => detect_command(rt, alloc, &detect, env, world, spawners),
+        Asked::Detect(options) => run_detect(rt, alloc, &options, env, world, spawners),
     }
 }
 
@@ -65,39 +105,38 @@ pub fn lifecycle<W: World, S: Spawner + Send, O: Sink, R: Threads + Sync>(
     requires spawners { 0 < length spawners.old.items }
     requires shelves { length shelves.old.items < 2 ^ 32 }
 
-    // Words that are no command, and a Platform API that isn't served, are refused before anything outside is looked at.
-    ensures refused { OnRefused (command_in (map string_bytes words.now) env.now) (λ refusal. IsRefusedAs result refusal) }
-    ensures idle { OnRefused (command_in (map string_bytes words.now) env.now) (λ refusal. (W.tree world.new ≡ W.tree world.old) × (first_runs S.runs spawners.new.items ≡ first_runs S.runs spawners.old.items)) }
-
-    // `detect` comes to the choice of the first trial that passes, by what its children answered, or to its refusal.
-    ensures chooses { OnDetect (command_in (map string_bytes words.now) env.now) (λ detect. IfSome (W.tree world.old) (λ files. EndsWith result (detect_choice detect env.now (new_runs S.runs spawners.old.items spawners.new.items) files))) }
-    // Where it did, both documents stand and read as the choice, and its lines were taken.
-    ensures writes { OnDetect (command_in (map string_bytes words.now) env.now) (λ detect. WritesWhereDone result detect (W.tree world.old) (W.tree world.new) (detect_choice detect env.now (new_runs S.runs spawners.old.items spawners.new.items))) }
-    ensures prints { OnDetect (command_in (map string_bytes words.now) env.now) (λ detect. IfSome (W.tree world.old) (λ files. PrintsText result (O.taken out.old) (O.taken out.new) (detect_choice detect env.now (new_runs S.runs spawners.old.items spawners.new.items) files))) }
-    // Where the text was cut, all else is as after the end that it tells.
-    ensures cut { OnDetect (command_in (map string_bytes words.now) env.now) (λ detect. IfSome (W.tree world.old) (λ files. OnCut result (IsCut detect (detect_choice detect env.now (new_runs S.runs spawners.old.items spawners.new.items)) files (W.tree world.old) (W.tree world.new) (map (λ ran. ran.job) (new_runs S.runs spawners.old.items spawners.new.items)) (detect_jobs detect env.now (new_runs S.runs spawners.old.items spawners.new.items) files) (O.taken out.old) (O.taken out.new)))) }
-    // A refusal is told in one line; want of memory in none.
-    ensures line { PrintsLine result (O.taken out.old) (O.taken out.new) }
-
-    // A refusal leaves all files, unless a call failed, memory ran out or the text was cut; then each document is the old
-    // one or the whole new one.
-    ensures kept { KeepsUnless result (W.tree world.old) (W.tree world.new) }
-    ensures group { OnDetect (command_in (map string_bytes words.now) env.now) (λ detect. IsGroupOldOrNew detect (W.tree world.old) (W.tree world.new) (detect_choice detect env.now (new_runs S.runs spawners.old.items spawners.new.items))) }
-    ensures plan { OnDetect (command_in (map string_bytes words.now) env.now) (λ detect. IsPlanOldOrNew detect (W.tree world.old) (W.tree world.new) (detect_choice detect env.now (new_runs S.runs spawners.old.items spawners.new.items))) }
-
-    // Exactly the children were run that had to be asked, each once and in order.
-    ensures asks { OnDetect (command_in (map string_bytes words.now) env.now) (λ detect. IfSome (W.tree world.old) (λ files. AsksWith result (map (λ ran. ran.job) (new_runs S.runs spawners.old.items spawners.new.items)) (detect_jobs detect env.now (new_runs S.runs spawners.old.items spawners.new.items) files))) }
-    ensures grows { IsExtended (first_runs S.runs spawners.old.items) (first_runs S.runs spawners.new.items) }
-    ensures others { drop 1 spawners.new.items ≡ drop 1 spawners.old.items }
+    // Words that are no command, and a Platform API that isn't served, are refused, and nothing outside is looked at.
+    ensures refused { On (refusal_of (command_in (map string_bytes words.now) env.now)) (λ refusal.
+        Ends (gives cause_of (Err refusal))
+            (outside W.World S.Spawner world.old spawners.old.items)
+            (outside W.World S.Spawner world.new spawners.new.items)
+            result (O.taken out.old) (O.taken out.new)) }
+    ensures idle { On (refusal_of (command_in (map string_bytes words.now) env.now)) (λ refusal.
+        (world.new ≡ world.old) × (spawners.new.items ≡ spawners.old.items)) }
+    // Each command does its steps, and the status and the text are those of its end.
+    ensures detect { On (detect_of (command_in (map string_bytes words.now) env.now)) (λ options.
+        Ends (map_err of_detect (detects options env.now))
+            (outside W.World S.Spawner world.old spawners.old.items)
+            (outside W.World S.Spawner world.new spawners.new.items)
+            result (O.taken out.old) (O.taken out.new)) }
+    // So `detect` comes to the choice of the first trial that passes, by the files and by what its children answered, or
+    // to its refusal; each document is the old one or the whole new one, and all other files are as before.
+    ensures outcome { On (detect_of (command_in (map string_bytes words.now) env.now)) (λ options.
+        Ends (map_err of_detect (ComesTo options env.now))
+            (outside W.World S.Spawner world.old spawners.old.items)
+            (outside W.World S.Spawner world.new spawners.new.items)
+            result (O.taken out.old) (O.taken out.new)) }
 
     // Each failure of the outside is counted, and told by the status.
     ensures files { CauseOfFile result (W.file_faults world.old) (W.file_faults world.new) }
-    ensures children { CauseOfChild result (first_faults S.faults spawners.old.items) (first_faults S.faults spawners.new.items) }
-    ensures output { CountsOutput result (O.faults out.old) (O.faults out.new) }
-    ensures shelves { shelves.new.items ≡ shelves.old.items }
+    ensures children { CauseOfChild result
+        (faults_of (spawners_seen S.Spawner spawners.old.items))
+        (faults_of (spawners_seen S.Spawner spawners.new.items)) }
     ensures world_children { W.child_faults world.new ≡ W.child_faults world.old }
-    ensures runs { W.runs world.new ≡ W.runs world.old }
-    ensures misused { OnDetect (command_in (map string_bytes words.now) env.now) (λ detect. MayMisuse (option_map (is_fit_detect detect) (W.tree world.old)) (W.misused world.old) (W.misused world.new)) }
+    ensures output { CountsOutput result (O.faults out.old) (O.faults out.new) }
+    // One worker runs all children, and no cache is looked at.
+    ensures others { drop 1 spawners.new.items ≡ drop 1 spawners.old.items }
+    ensures shelves { shelves.new.items ≡ shelves.old.items }
 {
     let end = run_words(rt, alloc, words, env, world, spawners);
     finish(alloc, end, out)

@@ -55,7 +55,8 @@ pub fn detect<S: Spawner + Send, R: Threads + Sync>(
     ensures asked_by { AskedBy (since (first_runs S.runs spawners.old.items) (first_runs S.runs spawners.new.items))
         (spawners_seen S.Spawner spawners.old.items) (spawners_seen S.Spawner spawners.new.items) }
     ensures faults { CountsSpawners end_cause result
-        (faults_of (spawners_seen S.Spawner spawners.old.items)) (faults_of (spawners_seen S.Spawner spawners.new.items)) }
+        (faults_of (spawners_seen S.Spawner spawners.old.items))
+        (faults_of (spawners_seen S.Spawner spawners.new.items)) }
 {
     search(alloc, order, catalog, &mut spawners[0], frame)
 }

@@ -3,8 +3,8 @@ use Rattle.cnb_world.specs.Path.{is_path, beside}
 use Rattle.cnb_world.specs.Tree.{is_root}
 use Rattle.cnb_world.proofs.Joins.{path_beside_file}
 use Rattle.detect_core.proofs.PathLemmas.{length_joined}
-use Rattle.cnb_lifecycle.proofs.DocumentLemmas.{no_root_below, longer}
-use Rattle.cnb_lifecycle.proofs.documents.write_document.Goals as goal
+use Rattle.cnb_detect.proofs.DocumentLemmas.{no_root_below, longer}
+use Rattle.cnb_detect.proofs.documents.write_document.Goals as goal
 
 pub below-requires-clause-short : goal.below-requires-clause-short
 below-requires-clause-short g c = let few = c.requires.short_name in let short = c.requires.short in omega (arith, length_joined c.args.folder.now c.args.name.now)

@@ -1,7 +1,30 @@
 use Rattle.std.proofs.lemmas.Result.{err_from_is_err_and}
+use Rattle.cnb_lifecycle.specs.Commands.{command_in}
+use Rattle.cnb_lifecycle.proofs.CommandLemmas.{api_refused, served, words_cause, words_refused}
 use Rattle.cnb_lifecycle.proofs.commands.command.Goals as goal
 
-pub returns-in_err-platform_api-clause-files : goal.returns-in_err-platform_api-clause-files
-returns-in_err-platform_api-clause-files c =
+pub returns-in_err-asked-clause-command : goal.returns-in_err-asked-clause-command
+unfolding command_in
+returns-in_err-asked-clause-command c =
+    let exit = err_from_is_err_and c.from_residual.result c.from_residual.ensures.1 in
+    rw (exit.1, exit.2) (words_refused _ _ _ c.in_err-asked.ensures.words)
+
+pub returns-in_err-asked-clause-cause : goal.returns-in_err-asked-clause-cause
+returns-in_err-asked-clause-cause c =
+    let exit = err_from_is_err_and c.from_residual.result c.from_residual.ensures.1 in
+    rw (exit.1, exit.2) (words_cause _)
+
+pub returns-in_err-platform_api-clause-command : goal.returns-in_err-platform_api-clause-command
+unfolding command_in
+returns-in_err-platform_api-clause-command c =
     let exit = err_from_is_err_and c.from_residual-in_err-platform_api.result c.from_residual-in_err-platform_api.ensures.1 in
-    rw (exit.1, exit.2) c.in_err-platform_api.ensures.files
+    rw (exit.1, exit.2) (api_refused _ _ _ _ c.in_ok-asked.ensures.words c.in_err-platform_api.ensures.command)
+
+pub returns-in_err-platform_api-clause-cause : goal.returns-in_err-platform_api-clause-cause
+returns-in_err-platform_api-clause-cause c =
+    let exit = err_from_is_err_and c.from_residual-in_err-platform_api.result c.from_residual-in_err-platform_api.ensures.1 in
+    rw (exit.1, exit.2) c.in_err-platform_api.ensures.cause
+
+pub returns-clause-command : goal.returns-clause-command
+unfolding command_in
+returns-clause-command c = served _ _ _ _ c.in_ok-asked.ensures.words c.in_ok-platform_api.ensures.command

@@ -1,0 +1,93 @@
+-- What follows from the definition of `detect`.
+use Rattle.std.proofs.Common.{◌≡◌, ◌∙◌, refl, sym, ap, subst, ℕ, Bool, true, false, ◌&&◌, List, Option, Some, None, Result, Ok, Err, inl, inr, ◌⊎◌}
+use Rattle.std.specs.Prelude.{IfSome}
+use Rattle.cnb_world.specs.Tree.{Tree}
+use Rattle.cnb_world.specs.declared.env.Variable.{Variable}
+use Rattle.cnb_words.specs.declared.detect.DetectWords.{DetectWords}
+use Rattle.doc_files.specs.declared.fault.ReadFault.{ReadFault}
+use Rattle.doc_files.specs.declared.fault.ReadFault.TheVariants as read
+use Rattle.order_files.specs.Catalog.{catalog_in, is_fit_catalog}
+use Rattle.order_files.specs.OrderFile.{order_file_in, is_fit_order_file}
+use Rattle.cnb_env.specs.declared.files.EnvFile.{EnvFile}
+use Rattle.cnb_env.specs.Files.{platform_files_in, is_fit_platform}
+use Rattle.bp_docs.specs.declared.descriptor.Descriptor.{Descriptor}
+use Rattle.bp_docs.specs.declared.descriptor.Entry.{Entry}
+use Rattle.order_expand.specs.Check.{checked}
+use Rattle.order_expand.specs.declared.order.OrderFault.{OrderFault}
+use Rattle.order_expand.specs.declared.order.OrderFault.TheVariants as order
+use Rattle.steps.specs.Outside.{Outside, Seen}
+use Rattle.steps.specs.Results.{with_fault}
+use Rattle.steps.specs.Steps.{gives, map_err, reads}
+use Rattle.steps.proofs.ReadingLaws.{OnlyReads, gives_known, may_as, reads_files, reads_then, reads_told}
+use Rattle.steps.proofs.StepLemmas.{allowed_by, ended, mapped_fault, within}
+use Rattle.cnb_detect.specs.declared.refusal.DetectRefusal.{DetectRefusal}
+use Rattle.cnb_detect.specs.declared.refusal.DetectRefusal.TheVariants.{Memory}
+use Rattle.cnb_detect.specs.Detects.{detects}
+use Rattle.cnb_detect.specs.declared.preparation.Prepared.{Prepared}
+use Rattle.cnb_detect.specs.Outcome.{prepared_in}
+use Rattle.cnb_detect.specs.Preparation.{frame_of, is_fit_preparation, prepares}
+use Rattle.cnb_detect.specs.Refusals.{cause_of, of_order_fault, of_read_fault, order_cause, read_cause}
+
+any_files : (o : Option Tree) → IfSome o (λ files. Unit {0})
+any_files None = tt
+any_files (Some files) = tt
+
+-- memory may run out before anything is done
+pub no_memory_at_once : (options : DetectWords) (env : List Variable) (old : Outside) → detects options env old (Err Memory) old
+unfolding detects prepares reads
+no_memory_at_once options env old =
+    ended _ _ old old Memory (within _ old.world old.world old.spawners (Err Memory)
+    (ended _ _ old.world old.world Memory (mapped_fault of_read_fault _ old.world old.world read.Memory
+    (record {
+      same = record { files = refl; runs = refl };
+      answer = any_files old.world.files;
+      cause = tt;
+      allows = allowed_by (is_fit_order_file options.order) old.world.files old.world.misused old.world.misused refl;
+    }))))
+
+-- ---- what is read
+
+read_causes : (fault : ReadFault) → cause_of (of_read_fault fault) ≡ read_cause fault
+read_causes (read.File path) = refl
+read_causes (read.Document path fault) = refl
+read_causes (read.Limit kind) = refl
+read_causes read.Memory = refl
+
+order_causes : (fault : OrderFault) → cause_of (of_order_fault fault) ≡ order_cause fault
+order_causes (order.Absent id) = refl
+order_causes (order.Ambiguous id) = refl
+order_causes (order.Api id api) = refl
+order_causes (order.Deep id) = refl
+order_causes order.ManyGroups = refl
+order_causes order.LongGroup = refl
+order_causes order.Memory = refl
+
+three : (a b c : Bool) → (a && (b && (true && (c && true)))) ≡ (a && b && c)
+three true true true = refl
+three true true false = refl
+three true false c = refl
+three false b c = refl
+
+-- a file that is read, in the refusals of `detect`
+reads_one : {T : Type 0} (fits : Tree → Bool) (want : Tree → Result T ReadFault) → OnlyReads cause_of fits (λ files. with_fault of_read_fault (want files)) (map_err of_read_fault (reads read_cause fits want))
+reads_one fits want = reads_told read_cause cause_of of_read_fault fits want (reads read_cause fits want) read_causes (reads_files read_cause fits want)
+
+checks_one : (want : Result ℕ OrderFault) → OnlyReads cause_of (λ files. true) (λ files. with_fault of_order_fault want) (map_err of_order_fault (gives order_cause want))
+checks_one want = reads_told order_cause cause_of of_order_fault (λ files. true) (λ files. want) (gives order_cause want) order_causes (gives_known order_cause want)
+
+-- the preparation comes to what the files say, and where they fit, it makes no call on a path of the wrong kind
+pub prepares_reads : (options : DetectWords) (env : List Variable) → OnlyReads cause_of (is_fit_preparation options) (prepared_in options env) (prepares options env)
+unfolding prepares
+prepares_reads options env old new result h =
+    let made : List (List Entry) → List Descriptor → List EnvFile → Result Prepared DetectRefusal = λ order catalog files. Ok (record { order = order; catalog = catalog; frame = frame_of options env files }) in
+    let all = reads_then cause_of (is_fit_order_file options.order) _ (λ files. with_fault of_read_fault (order_file_in options.order files)) _ _ _ (reads_one (is_fit_order_file options.order) (order_file_in options.order))
+    (λ order. reads_then cause_of (is_fit_catalog options.buildpacks) _ (λ files. with_fault of_read_fault (catalog_in options.buildpacks files)) _ _ _ (reads_one (is_fit_catalog options.buildpacks) (catalog_in options.buildpacks))
+    (λ catalog. reads_then cause_of (λ files. true) _ (λ files. with_fault of_order_fault (checked catalog order)) _ _ _ (checks_one (checked catalog order))
+    (λ groups. reads_then cause_of (is_fit_platform options.platform) (λ files. true) (λ files. with_fault of_read_fault (platform_files_in options.platform files)) _ _ _ (reads_one (is_fit_platform options.platform) (platform_files_in options.platform))
+    (λ files. gives_known cause_of (made order catalog files))))) old new result h in
+    record {
+      same = all.same;
+      answer = all.answer;
+      allows = may_as _ (is_fit_preparation options) (λ files. three (is_fit_order_file options.order files) (is_fit_catalog options.buildpacks files) (is_fit_platform options.platform files))
+          old.files old.misused new.misused all.allows;
+    }

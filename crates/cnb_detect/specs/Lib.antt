@@ -1,0 +1,7 @@
+pub mod Choice
+pub mod Detects
+pub mod Documents
+pub mod Outcome
+pub mod Preparation
+pub mod Refusals
+pub mod Report

@@ -1,0 +1,81 @@
+-- What `detect` comes to, as a function of its options, the environment, the files and what the children answered.
+use Rattle.std.specs.Prelude.{ℕ, ◌≡◌, true, List, Option, Result, Ok, Err, IfSome}
+use Rattle.std.specs.Option.{option_map}
+use Rattle.cnb_world.specs.Calls.{MayMisuse}
+use Rattle.cnb_world.specs.declared.env.Variable.{Variable}
+use Rattle.cnb_world.specs.Runs.{Ran}
+use Rattle.cnb_world.specs.Tree.{Tree}
+use Rattle.cnb_world.specs.Whole.{written}
+use Rattle.cnb_words.specs.declared.detect.DetectWords.{DetectWords}
+use Rattle.order_files.specs.Catalog.{catalog_in}
+use Rattle.order_files.specs.OrderFile.{order_file_in}
+use Rattle.cnb_env.specs.Files.{platform_files_in}
+use Rattle.order_expand.specs.Check.{checked}
+use Rattle.run_docs.specs.Group.{group_in}
+use Rattle.run_docs.specs.Plan.{plan_in}
+use Rattle.steps.specs.Asking.{AskedBy}
+use Rattle.steps.specs.Causes.{IsAnswer}
+use Rattle.steps.specs.Frames.{IsOldOrNew, is_free, standing, touched}
+use Rattle.steps.specs.Outside.{Outside}
+use Rattle.steps.specs.Results.{◌>>=◌, with_fault}
+use Rattle.cnb_detect.specs.declared.preparation.Prepared.{Prepared}
+use Rattle.cnb_detect.specs.declared.refusal.DetectRefusal.{DetectRefusal}
+use Rattle.cnb_detect.specs.declared.refusal.DetectRefusal.TheVariants.{File, Memory}
+use Rattle.cnb_detect.specs.Choice.{Choice, choice_of}
+use Rattle.cnb_detect.specs.Detects.{is_fit_detect, text_of}
+use Rattle.cnb_detect.specs.Documents.{group_document, plan_document}
+use Rattle.cnb_detect.specs.Preparation.{frame_of}
+use Rattle.cnb_detect.specs.Refusals.{cause_of, of_read_fault, of_order_fault}
+
+-- the order, the buildpacks, the check of the order, the platform's files: the first refusal decides
+abbrev pub prepared_in : DetectWords → List Variable → Tree → Result Prepared DetectRefusal
+prepared_in options env files = do
+  order ← with_fault of_read_fault (order_file_in options.order files)
+  catalog ← with_fault of_read_fault (catalog_in options.buildpacks files)
+  groups ← with_fault of_order_fault (checked catalog order)
+  variables ← with_fault of_read_fault (platform_files_in options.platform files)
+  Ok (record { order = order; catalog = catalog; frame = frame_of options env variables })
+
+-- the choice
+unfoldable pub detect_choice : DetectWords → List Variable → List Ran → Tree → Result Choice DetectRefusal
+detect_choice options env answers files = prepared_in options env files >>= (λ prepared. choice_of prepared answers)
+
+-- its text
+abbrev pub outcome_of : Result Choice DetectRefusal → Result (List ℕ) DetectRefusal
+outcome_of choice = choice >>= (λ c. Ok (text_of c))
+
+-- there is a choice, and it is such
+abbrev pub IsChoiceWith : Result Choice DetectRefusal → (Choice → Type 0) → Type 0
+IsChoiceWith (Ok choice) P = P choice
+IsChoiceWith (Err refusal) P = ⊥
+
+-- a refusal leaves all files, unless a call failed or memory ran out
+abbrev pub KeepsFiles : Result (List ℕ) DetectRefusal → Option Tree → Option Tree → Type 0
+KeepsFiles (Ok text) old new = Unit {0}
+KeepsFiles (Err (File path)) old new = Unit {0}
+KeepsFiles (Err Memory) old new = Unit {0}
+KeepsFiles (Err refusal) old new = new ≡ old
+
+-- where it did its work, both documents stand, and nothing else is changed but what is made above and beside them
+abbrev pub WritesBoth : Result (List ℕ) DetectRefusal → List ℕ → (Choice → Type 0) → Option Tree → Option Tree → Type 0
+WritesBoth (Err refusal) work IsChosen old new = Unit {0}
+WritesBoth (Ok text) work IsChosen old new =
+    (choice : Choice) × IsChosen choice × (group : List ℕ) × (plan : List ℕ) × (group_in group ≡ Ok choice.group) × (plan_in plan ≡ Ok choice.plan)
+    × (new ≡ option_map (λ files. written (plan_document work) plan (written (group_document work) group files)) old)
+
+-- What `detect` comes to. The end is that of the choice, by the files and by what the children of this call answered; each of
+-- the two documents is the old one or a whole new one that reads as the choice.
+pub record ComesTo (options : DetectWords) (env : List Variable) (old : Outside) (end : Result (List ℕ) DetectRefusal) (new : Outside) : Type 0 where
+  pub answers : List Ran
+  pub asked : AskedBy answers old.spawners new.spawners
+  pub comes : IfSome old.world.files (λ files. IsAnswer cause_of end (outcome_of (detect_choice options env answers files)))
+  pub group : IsOldOrNew old.world.files new.world.files (group_document options.work)
+      (λ bytes. IfSome old.world.files (λ files. IsChoiceWith (detect_choice options env answers files) (λ choice. group_in bytes ≡ Ok choice.group)))
+  pub plan : IsOldOrNew old.world.files new.world.files (plan_document options.work)
+      (λ bytes. IfSome old.world.files (λ files. IsChoiceWith (detect_choice options env answers files) (λ choice. plan_in bytes ≡ Ok choice.plan)))
+  pub written : WritesBoth end options.work (λ choice. IfSome old.world.files (λ files. detect_choice options env answers files ≡ Ok choice)) old.world.files new.world.files
+  pub kept : KeepsFiles end old.world.files new.world.files
+  pub others : (path : List ℕ) → is_free (touched (group_document options.work)) path ≡ true → is_free (touched (plan_document options.work)) path ≡ true
+      → standing new.world.files path ≡ standing old.world.files path
+  pub runs : new.world.runs ≡ old.world.runs
+  pub misused : MayMisuse (option_map (is_fit_detect options) old.world.files) old.world.misused new.world.misused

@@ -1,0 +1,15 @@
+//! What the command `detect` does: it reads the order, the buildpacks and the platform's environment files, runs the
+//! detect children that have to be asked, chooses the first group and plan that pass, and writes both.
+#![tactic(auto)]
+
+mod choosing;
+mod detection;
+mod documents;
+mod faults;
+mod preparation;
+mod refusal;
+mod report;
+
+pub use detection::detect;
+pub use preparation::Prepared;
+pub use refusal::DetectRefusal;
