@@ -14,7 +14,7 @@ use std::rt::Files;
 /// The most that is read of a plan file: one byte more than a document may have.
 const PLAN_MAX: u64 = 1048577;
 
-/// A desk that runs each detect child as a program, waits for it, and keeps the list of those that ended. Contracts see
+/// A spawner that runs each detect child as a program, waits for it, and keeps the list of those that ended. Contracts see
 /// it as that list and the count of the children that gave no answer.
 #[derive(Drop)]
 pub struct HostSpawner<R: Files + Processes + AllocGlobal + Drop> {
@@ -39,11 +39,11 @@ impl Model for Row {
 }
 
 impl<R: Files + Processes + AllocGlobal + Drop> Model for HostSpawner<R> {
-    ghost use Rattle.cnb_host.specs.Desk.{Desk};
+    ghost use Rattle.cnb_host.specs.Spawned.{Spawned};
 
-    ghost Value = { Desk };
+    ghost Value = { Spawned };
 
-    ghost view = { λ desk. record { runs = desk.runs.items; faults = desk.faults } };
+    ghost view = { λ spawner. record { runs = spawner.runs.items; faults = spawner.faults } };
 }
 
 impl<R: Files + Processes + AllocGlobal + Drop> HostSpawner<R> {
@@ -101,11 +101,11 @@ impl<R: Files + Processes + AllocGlobal + Drop> HostSpawner<R> {
 impl<R: Files + Processes + AllocGlobal + Drop> Spawner for HostSpawner<R> {
     ghost use Rattle.std.specs.Prelude.{None};
 
-    ghost runs = { λ desk. desk.runs };
+    ghost runs = { λ spawner. spawner.runs };
 
     ghost says = { λ _. None };
 
-    ghost faults = { λ desk. desk.faults };
+    ghost faults = { λ spawner. spawner.faults };
 
     fn detect(&mut self, job: &DetectJob) -> Result<Probed, DetectFault> {
         let outcome = self.run_job(job);

@@ -130,6 +130,8 @@ impl<R: Files + Processes + AllocGlobal + Clone + Drop> World for HostWorld<R> {
 
     ghost runs = { λ world. runs_of world.runs };
 
+    ghost standing = { λ _. tt };
+
     fn kind(&mut self, path: &Path) -> Result<Kind, FileFault> {
         let kind = kind_at(&self.rt, path.as_str());
         self.counted(kind)

@@ -117,9 +117,9 @@ fn writes_through_no_link(rt: HostRuntime) -> Result<(), Fail> {
     leave_folder(&rt)
 }
 
-// A pool of workers moves a desk into a thread.
-fn sent<S: Spawner + Send>(desk: S) -> S {
-    desk
+// A pool of workers moves a spawner into a thread.
+fn sent<S: Spawner + Send>(spawner: S) -> S {
+    spawner
 }
 
 #[test]
