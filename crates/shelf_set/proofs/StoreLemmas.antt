@@ -1,6 +1,6 @@
 -- Storing trees on one shelf after another.
-use Rattle.std.proofs.Common.{◌≡◌, ℕ, ◌+◌, ◌-◌, ◌<◌, ◌≤◌, Bool, true, false, List, [], ◌∷◌, ◌++◌, map, length, take, drop, get_or, refl, sym, ap, subst, ◌∙◌, arith, zero, suc, Result, Ok, Err, Option, inl, inr}
-use Rattle.std.specs.Prelude.{Some, None, OnOk, OnErr}
+use Rattle.std.proofs.Common.{◌≡◌, ℕ, ◌+◌, ◌-◌, ◌<◌, ◌≤◌, Bool, true, false, List, [], ◌∷◌, ◌++◌, length, take, drop, get_or, refl, sym, ap, subst, ◌∙◌, arith, suc, Result, Ok, Err, Option, inl, inr}
+use Rattle.std.specs.Prelude.{Some, None}
 use Rattle.std.specs.List.{AllByRecursion}
 use Rattle.std.specs.Option.{option_map}
 use Rattle.std.specs.FinMap.{insert}
@@ -13,9 +13,9 @@ use Rattle.cnb_world.specs.declared.shelf.ShelfFault.TheVariants as shelf
 use Rattle.cnb_world.specs.declared.values.Memory.{Memory}
 use Rattle.shelf_set.specs.ShelfState.{ShelfState}
 use Rattle.shelf_set.specs.Dropping.{Turn, has_failed, Drops, AreStanding}
-use Rattle.shelf_set.specs.Turns.{Goes, TakesTurn, is_failed}
-use Rattle.shelf_set.specs.Storing.{with_trees, HasAll, HasSome, HasEither, IsStored, MayBeStored}
-use Rattle.shelf_set.specs.StoringEach.{Puts, SetsRows, Putting, HasAfter, Stores, Storing, StoresEach}
+use Rattle.shelf_set.specs.Turns.{TakesTurn, is_failed}
+use Rattle.shelf_set.specs.Storing.{with_trees, HasEither, IsStored, MayBeStored}
+use Rattle.shelf_set.specs.StoringEach.{Puts, SetsRows, Putting, Stores, Storing, StoresEach}
 use Rattle.shelf_set.specs.declared.storing.TreeBytes.{TreeBytes}
 use Rattle.shelf_set.proofs.Lists.{all_both}
 use Rattle.shelf_set.proofs.TurnLemmas.{counted, OneMore, one_more, still, all_still, none_yet, finish, ends_at, standing_again}

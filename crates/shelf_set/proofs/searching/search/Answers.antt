@@ -1,5 +1,4 @@
-use Rattle.std.proofs.Common.{◌≡◌, ◌<◌, subst, ◌≤◌, sym, length, arith}
-use Rattle.std.proofs.lemmas.List.{length-map}
+use Rattle.std.proofs.Common.{◌≡◌, ◌<◌, length, arith}
 use Rattle.shelf_set.proofs.SearchLemmas.{begin, lacking_then, failing_then, ended_then, holding_then, nowhere}
 use Rattle.shelf_set.proofs.searching.search.Goals as goal
 use Rattle.shelf_set.proofs.searching.search.Goals.{in-Ok-None, in-Err-Failed}
