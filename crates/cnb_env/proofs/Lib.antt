@@ -1,4 +1,5 @@
 pub mod Applied
+pub mod BlameLemmas
 pub mod BuildLemmas
 pub mod EachLemmas
 pub mod FileLemmas

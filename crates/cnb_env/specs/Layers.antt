@@ -1,15 +1,15 @@
 -- The environment that layers give (buildpack.md, "Layer Paths"; "Provided by the Buildpacks").
-use Rattle.std.specs.Prelude.{ℕ, ◌≡◌, ◌≤◌, ◌⊎◌, IfSome, Bool, not, List, [], ◌∷◌, ◌++◌, codes, filter, map, length, if◌then◌else◌, Option, Some, None, Result, Ok, Err, ◌==◌}
-use Rattle.std.specs.List.{All, join_by, list_all}
+use Rattle.std.specs.Prelude.{ℕ, ◌≡◌, ◌≤◌, ◌⊎◌, IfSome, IsTrue, Bool, not, List, [], ◌∷◌, ◌++◌, codes, filter, map, length, if◌then◌else◌, Option, Some, None, Result, Ok, Err, ◌==◌}
+use Rattle.std.specs.List.{All, IsAmong, join_by, list_all}
 use Rattle.cnb_world.specs.Env.{with_value}
-use Rattle.cnb_world.specs.Path.{joined}
+use Rattle.cnb_world.specs.Path.{is_part, joined}
 use Rattle.cnb_world.specs.Steps.{◌>>=◌}
 use Rattle.cnb_world.specs.Tree.{Tree, is_folder, item_at}
 use Rattle.cnb_world.specs.declared.env.Variable.{Variable}
 use Rattle.doc_files.specs.declared.fault.ReadFault.{ReadFault}
 use Rattle.doc_files.specs.declared.fault.ReadFault.TheVariants.{Memory}
 use Rattle.cnb_env.specs.Apply.{HasFirst, all_applied, applied_among, in_front, text_of}
-use Rattle.cnb_env.specs.Files.{folder_files_in, is_fit_folder}
+use Rattle.cnb_env.specs.Files.{IsOfFolder, folder_files_in, is_fit_folder}
 use Rattle.cnb_env.specs.Platform.{with_files}
 use Rattle.cnb_env.specs.declared.files.EnvFile.{EnvFile}
 use Rattle.cnb_env.specs.declared.names.Naming.TheVariants.{BeforeDot}
@@ -119,3 +119,13 @@ is_fit_set when files layers = list_all (is_fit_layer when files) layers
 
 abbrev pub are_fit_sets : When → Tree → List (List (List ℕ)) → Bool
 are_fit_sets when files sets = list_all (is_fit_set when files) sets
+
+-- what is read of a layer: the folders that stand in it by these names, and what stands right in them
+abbrev pub IsOfLayer : List ℕ → List ℕ → Type 0
+IsOfLayer layer path = (name : List ℕ) × IsTrue (is_part name) × IsOfFolder (joined layer name) path
+
+abbrev pub IsOfLayers : List (List ℕ) → List ℕ → Type 0
+IsOfLayers layers path = (layer : List ℕ) × IsAmong layers layer × IsOfLayer layer path
+
+abbrev pub IsOfSets : List (List (List ℕ)) → List ℕ → Type 0
+IsOfSets sets path = (layers : List (List ℕ)) × IsAmong sets layers × IsOfLayers layers path

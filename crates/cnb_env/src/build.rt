@@ -1,11 +1,11 @@
 // The environment of a build.
-ghost use Rattle.std.specs.Prelude.{◌≡◌, IfSome, OnOk};
+ghost use Rattle.std.specs.Prelude.{◌≡◌, IfErr, IfSome, OnOk};
 ghost use Rattle.std.specs.List.{All};
 ghost use Rattle.std.specs.Option.{option_copied, option_map};
 ghost use Rattle.cnb_world.specs.Calls.{MayMisuse};
 ghost use Rattle.doc_files.specs.Counts.{CountsFiles};
-ghost use Rattle.doc_files.specs.Reading.{Reads};
-ghost use Rattle.cnb_env.specs.Layers.{AreShort, are_fit_sets, build_env, with_platform};
+ghost use Rattle.doc_files.specs.Reading.{BlamesOne, Reads};
+ghost use Rattle.cnb_env.specs.Layers.{AreShort, IsOfSets, are_fit_sets, build_env, with_platform};
 
 use crate::files::EnvFile;
 use crate::layers::{LayerSet, apply_sets};
@@ -36,6 +36,7 @@ pub fn build_env<W: World>(
     requires { All AreShort done.now }
     ensures reads { IfSome (W.tree world.old) (λ tree.
         Reads result (build_env done.now (option_copied files.entry) base.now tree)) }
+    ensures blames { IfErr result (BlamesOne (IsOfSets done.now)) }
     ensures tree { W.tree world.new ≡ W.tree world.old }
     ensures files { CountsFiles result (W.file_faults world.old) (W.file_faults world.new) }
     ensures children { W.child_faults world.new ≡ W.child_faults world.old }

@@ -1,13 +1,13 @@
 // The environment that layers give.
-ghost use Rattle.std.specs.Prelude.{◌≡◌, IfSome, IsTrue};
+ghost use Rattle.std.specs.Prelude.{◌≡◌, IfErr, IfSome, IsTrue};
 ghost use Rattle.std.specs.List.{All};
 ghost use Rattle.std.specs.Option.{option_map};
 ghost use Rattle.cnb_world.specs.Calls.{MayMisuse};
 ghost use Rattle.cnb_world.specs.Path.{is_part, joined};
 ghost use Rattle.doc_files.specs.Counts.{CountsFiles};
-ghost use Rattle.doc_files.specs.Reading.{Reads};
-ghost use Rattle.cnb_env.specs.Files.{is_fit_folder};
-ghost use Rattle.cnb_env.specs.Layers.{AreShort, IsShort, are_fit_sets, is_fit_layer, is_fit_set};
+ghost use Rattle.doc_files.specs.Reading.{BlamesOne, Reads};
+ghost use Rattle.cnb_env.specs.Files.{IsOfFolder, is_fit_folder};
+ghost use Rattle.cnb_env.specs.Layers.{AreShort, IsOfLayer, IsOfLayers, IsOfSets, IsShort, are_fit_sets, is_fit_layer, is_fit_set};
 ghost use Rattle.cnb_env.specs.Layers.{each, folder_applied, giving, layer_applied, phase_folder, set_applied};
 
 use crate::apply_folder::env_folder;
@@ -31,6 +31,7 @@ fn apply_folder<W: World>(
     requires short { IsShort layer.now }
     ensures reads { IfSome (W.tree world.old) (λ files.
         Reads (giving env.new result) (folder_applied files (joined layer.now name.now) env.old)) }
+    ensures blames { IfErr result (BlamesOne (IsOfFolder (joined layer.now name.now))) }
     ensures tree { W.tree world.new ≡ W.tree world.old }
     ensures files { CountsFiles result (W.file_faults world.old) (W.file_faults world.new) }
     ensures children { W.child_faults world.new ≡ W.child_faults world.old }
@@ -65,6 +66,7 @@ fn apply_layer<W: World>(
     requires { IsShort layer.now }
     ensures reads { IfSome (W.tree world.old) (λ files.
         Reads (giving env.new result) (layer_applied when files layer.now env.old)) }
+    ensures blames { IfErr result (BlamesOne (IsOfLayer layer.now)) }
     ensures tree { W.tree world.new ≡ W.tree world.old }
     ensures files { CountsFiles result (W.file_faults world.old) (W.file_faults world.new) }
     ensures children { W.child_faults world.new ≡ W.child_faults world.old }
@@ -88,6 +90,7 @@ fn apply_layers<W: World>(
     requires { All IsShort layers.now }
     ensures reads { IfSome (W.tree world.old) (λ files.
         Reads (giving env.new result) (each (layer_applied when files) layers.now env.old)) }
+    ensures blames { IfErr result (BlamesOne (IsOfLayers layers.now)) }
     ensures tree { W.tree world.new ≡ W.tree world.old }
     ensures files { CountsFiles result (W.file_faults world.old) (W.file_faults world.new) }
     ensures children { W.child_faults world.new ≡ W.child_faults world.old }
@@ -112,6 +115,7 @@ fn apply_set<W: World>(
     requires { All IsShort layers.now }
     ensures reads { IfSome (W.tree world.old) (λ files.
         Reads (giving env.new result) (set_applied when files layers.now env.old)) }
+    ensures blames { IfErr result (BlamesOne (IsOfLayers layers.now)) }
     ensures tree { W.tree world.new ≡ W.tree world.old }
     ensures files { CountsFiles result (W.file_faults world.old) (W.file_faults world.new) }
     ensures children { W.child_faults world.new ≡ W.child_faults world.old }
@@ -136,6 +140,7 @@ pub(crate) fn apply_sets<W: World>(
     requires { All AreShort sets.now }
     ensures reads { IfSome (W.tree world.old) (λ files.
         Reads (giving env.new result) (each (set_applied when files) sets.now env.old)) }
+    ensures blames { IfErr result (BlamesOne (IsOfSets sets.now)) }
     ensures tree { W.tree world.new ≡ W.tree world.old }
     ensures files { CountsFiles result (W.file_faults world.old) (W.file_faults world.new) }
     ensures children { W.child_faults world.new ≡ W.child_faults world.old }

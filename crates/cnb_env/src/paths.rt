@@ -4,8 +4,8 @@ ghost use Rattle.std.specs.List.{All, join_by};
 ghost use Rattle.cnb_world.specs.Path.{is_part};
 ghost use Rattle.cnb_world.specs.Tree.{is_folder, item_at};
 ghost use Rattle.doc_files.specs.Counts.{CountsFiles};
-ghost use Rattle.doc_files.specs.Reading.{FailsAt, Reads, is_free};
-ghost use Rattle.cnb_env.specs.Layers.{IsShort, folders_at, giving, separated, standing_at};
+ghost use Rattle.doc_files.specs.Reading.{BlamesOne, FailsAt, Reads, is_free};
+ghost use Rattle.cnb_env.specs.Layers.{IsOfLayers, IsShort, folders_at, giving, separated, standing_at};
 ghost use Rattle.cnb_env.specs.Layers.{with_build_paths, with_front, with_launch_paths, with_paths};
 
 use crate::apply::{in_front, text_of};
@@ -54,6 +54,7 @@ fn standing<W: World>(
     ensures found { IfSome (W.tree world.old) (λ files. IfOk result (λ paths.
         paths ≡ standing_at files layers.now name.now)) }
     ensures fails { IfErr result (λ fault. IsTrue (is_free fault)) }
+    ensures blames { IfErr result (BlamesOne (IsOfLayers layers.now)) }
     ensures tree { W.tree world.new ≡ W.tree world.old }
     ensures files { CountsFiles result (W.file_faults world.old) (W.file_faults world.new) }
     ensures children { W.child_faults world.new ≡ W.child_faults world.old }
@@ -100,6 +101,7 @@ fn folders<W: World>(
     ensures found { IfSome (W.tree world.old) (λ files. IfOk result (λ text.
         text ≡ folders_at files layers.now name.now)) }
     ensures fails { IfErr result (λ fault. IsTrue (is_free fault)) }
+    ensures blames { IfErr result (BlamesOne (IsOfLayers layers.now)) }
     ensures tree { W.tree world.new ≡ W.tree world.old }
     ensures files { CountsFiles result (W.file_faults world.old) (W.file_faults world.new) }
     ensures children { W.child_faults world.new ≡ W.child_faults world.old }
@@ -136,6 +138,7 @@ fn put_launch_paths<W: World>(
     ensures found { IfSome (W.tree world.old) (λ files.
         OnOk result (env.new ≡ with_launch_paths files layers.now env.old)) }
     ensures fails { IfErr result (λ fault. IsTrue (is_free fault)) }
+    ensures blames { IfErr result (BlamesOne (IsOfLayers layers.now)) }
     ensures tree { W.tree world.new ≡ W.tree world.old }
     ensures files { CountsFiles result (W.file_faults world.old) (W.file_faults world.new) }
     ensures children { W.child_faults world.new ≡ W.child_faults world.old }
@@ -160,6 +163,7 @@ fn put_build_paths<W: World>(
     ensures found { IfSome (W.tree world.old) (λ files.
         OnOk result (env.new ≡ with_build_paths files layers.now env.old)) }
     ensures fails { IfErr result (λ fault. IsTrue (is_free fault)) }
+    ensures blames { IfErr result (BlamesOne (IsOfLayers layers.now)) }
     ensures tree { W.tree world.new ≡ W.tree world.old }
     ensures files { CountsFiles result (W.file_faults world.old) (W.file_faults world.new) }
     ensures children { W.child_faults world.new ≡ W.child_faults world.old }
@@ -190,6 +194,7 @@ pub(crate) fn put_paths<W: World>(
     ensures found { IfSome (W.tree world.old) (λ files.
         OnOk result (env.new ≡ with_paths when files layers.now env.old)) }
     ensures fails { IfErr result (λ fault. IsTrue (is_free fault)) }
+    ensures blames { IfErr result (BlamesOne (IsOfLayers layers.now)) }
     ensures tree { W.tree world.new ≡ W.tree world.old }
     ensures files { CountsFiles result (W.file_faults world.old) (W.file_faults world.new) }
     ensures children { W.child_faults world.new ≡ W.child_faults world.old }
@@ -214,6 +219,7 @@ pub fn layer_paths<W: World>(
     ensures reads { IfSome (W.tree world.old) (λ files.
         Reads (giving env.new result) (Ok (with_paths when files layers.now env.old))) }
     ensures refused { OnErr result (env.new ≡ env.old) }
+    ensures blames { IfErr result (BlamesOne (IsOfLayers layers.now)) }
     ensures tree { W.tree world.new ≡ W.tree world.old }
     ensures files { CountsFiles result (W.file_faults world.old) (W.file_faults world.new) }
     ensures children { W.child_faults world.new ≡ W.child_faults world.old }

@@ -6,6 +6,7 @@ use Rattle.cnb_world.specs.Tree.{Tree}
 use Rattle.cnb_env.specs.Files.{is_fit_folder}
 use Rattle.cnb_env.specs.Layers.{env_folders, folder_applied, layer_applied}
 use Rattle.cnb_env.proofs.EachLemmas.{all_done, moves, nothing_done, stops}
+use Rattle.cnb_env.proofs.BlameLemmas.{in_layer}
 use Rattle.cnb_env.proofs.layers.apply_layer.Goals as goal
 
 pub returns-in_err-apply_folder-clause-reads : goal.returns-in_err-apply_folder-clause-reads
@@ -51,3 +52,13 @@ returns-clause-misused g c =
     let fit = λ (files : Tree) (folder : List ℕ). is_fit_folder folder files in
     rest_fits fit _ _ (env_folders c.args.when layer) refl _ _ refl _ _ _ c.in_ok-apply_folder.ensures.misused
     (one_fits fit (joined layer c.phase_folder.result.now) [] _ (ap (λ name. joined layer name ∷ []) (sym c.phase_folder.ensures.name)) _ _ c.in_ok-apply_folder.ensures.tree _ _ c.in_ok-apply_folder-2.ensures.misused)
+
+pub returns-in_err-apply_folder-clause-blames : goal.returns-in_err-apply_folder-clause-blames
+returns-in_err-apply_folder-clause-blames g c =
+    let exit = err_from_is_err_and c.from_residual.result c.from_residual.ensures.1 in
+    rw (exit.1, exit.2) (in_layer c.args.layer.now (codes "env") _ refl refl _ c.in_err-apply_folder.ensures.blames)
+
+pub returns-in_err-apply_folder-2-clause-blames : goal.returns-in_err-apply_folder-2-clause-blames
+returns-in_err-apply_folder-2-clause-blames g c =
+    let exit = err_from_is_err_and c.from_residual-in_err-apply_folder-2.result c.from_residual-in_err-apply_folder-2.ensures.1 in
+    rw (exit.1, exit.2) (in_layer c.args.layer.now c.phase_folder.result.now _ c.phase_folder.ensures.part refl _ c.in_err-apply_folder-2.ensures.blames)

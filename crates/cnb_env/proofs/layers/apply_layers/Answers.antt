@@ -6,6 +6,7 @@ use Rattle.cnb_world.proofs.Misuse.{no_misuse, one_fits, rest_fits}
 use Rattle.cnb_world.specs.Tree.{Tree}
 use Rattle.cnb_env.specs.Layers.{each, is_fit_layer, layer_applied}
 use Rattle.cnb_env.proofs.EachLemmas.{all_done, moves, next_item, nothing_done, stops}
+use Rattle.cnb_env.proofs.BlameLemmas.{in_layers}
 use Rattle.cnb_env.proofs.layers.apply_layers.Goals as goal
 
 pub returns-in_err-apply_layer-clause-reads : goal.returns-in_err-apply_layer-clause-reads
@@ -53,3 +54,8 @@ returns-clause-reads g c =
 
 pub returns-clause-misused : goal.returns-clause-misused
 returns-clause-misused g c = c.loop-layer.invariant.misused _ (no_misuse (λ (files : Tree). list_all (is_fit_layer c.args.when files) (drop c.loop-layer.layer-index c.args.layers.now)) (g.W.World.tree c.args.world.now) (g.W.World.misused c.loop-layer.world) _ refl)
+
+pub returns-in_err-apply_layer-clause-blames : goal.returns-in_err-apply_layer-clause-blames
+returns-in_err-apply_layer-clause-blames g c =
+    let exit = err_from_is_err_and c.from_residual.result c.from_residual.ensures.1 in
+    rw (exit.1, exit.2) (in_layers c.args.layers.now c.loop-layer.layer-index c.layer-item.result c.loop-layer-test.true c.layer-item.is _ c.in_err-apply_layer.ensures.blames)

@@ -6,6 +6,7 @@ use Rattle.cnb_world.proofs.Misuse.{no_misuse, one_fits, rest_fits}
 use Rattle.cnb_world.specs.Tree.{Tree}
 use Rattle.cnb_env.specs.Layers.{each, is_fit_set, set_applied}
 use Rattle.cnb_env.proofs.EachLemmas.{all_done, moves, next_item, nothing_done, stops}
+use Rattle.cnb_env.proofs.BlameLemmas.{in_sets}
 use Rattle.cnb_env.proofs.layers.apply_sets.Goals as goal
 
 pub returns-in_err-apply_set-clause-reads : goal.returns-in_err-apply_set-clause-reads
@@ -53,3 +54,8 @@ returns-clause-reads g c =
 
 pub returns-clause-misused : goal.returns-clause-misused
 returns-clause-misused g c = c.loop-layers.invariant.misused _ (no_misuse (λ (files : Tree). list_all (is_fit_set c.args.when files) (drop c.loop-layers.layers-index c.args.sets.now)) (g.W.World.tree c.args.world.now) (g.W.World.misused c.loop-layers.world) _ refl)
+
+pub returns-in_err-apply_set-clause-blames : goal.returns-in_err-apply_set-clause-blames
+returns-in_err-apply_set-clause-blames g c =
+    let exit = err_from_is_err_and c.from_residual.result c.from_residual.ensures.1 in
+    rw (exit.1, exit.2) (in_sets c.args.sets.now c.loop-layers.layers-index c.layers-item.result c.loop-layers-test.true c.layers-item.is _ c.in_err-apply_set.ensures.blames)
