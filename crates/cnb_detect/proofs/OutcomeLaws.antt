@@ -148,8 +148,8 @@ module _ (options : DetectWords) (env : List Variable) where
   comes_to path old new (Ok text) (prepared, s1, h1, (choice, s2, h2, (t, s3, h3, (u, s4, h4, y)))) =
       let read = prepares_reads options env old.world s1.world (Ok prepared) h1.0 in
       let w : ChoiceWritten options.work choice s1.world (Ok u) new.world =
-          subst (λ v. ChoiceWritten options.work choice v (Ok u) new.world) (ap (λ s. s.world) h3.0 ∙ h2.1)
-          (subst (λ v. ChoiceWritten options.work choice s3.world (Ok u) v) (sym (ap (λ s. s.world) y.1)) (choice_written options.work choice path s3.world s4.world (Ok u) h4.0)) in
+      subst (λ v. ChoiceWritten options.work choice v (Ok u) new.world) (ap (λ s. s.world) h3.0 ∙ h2.1)
+      (subst (λ v. ChoiceWritten options.work choice s3.world (Ok u) v) (sym (ap (λ s. s.world) y.1)) (choice_written options.work choice path s3.world s4.world (Ok u) h4.0)) in
       wrote old s1.world new (Ok text) (Ok u) prepared choice h2.0.answers
       (asked_from h2.0.answers old.spawners s1.spawners s2.spawners new.spawners h1.1 (ap (λ s. s.spawners) y.1 ∙ h4.1 ∙ ap (λ s. s.spawners) h3.0) h2.0.asked)
       read h2.0.meets.1 w (h3.1 ∙ ap Ok (sym y.0))
@@ -175,7 +175,7 @@ module _ (options : DetectWords) (env : List Variable) where
   comes_to path old new (Err refusal) (inr (prepared, s1, h1, inr (choice, s2, h2, inr (t, s3, h3, inl h4)))) =
       let read = prepares_reads options env old.world s1.world (Ok prepared) h1.0 in
       let w : ChoiceWritten options.work choice s1.world (Err refusal) new.world =
-          subst (λ v. ChoiceWritten options.work choice v (Err refusal) new.world) (ap (λ s. s.world) h3.0 ∙ h2.1) (choice_written options.work choice path s3.world new.world (Err refusal) h4.0) in
+      subst (λ v. ChoiceWritten options.work choice v (Err refusal) new.world) (ap (λ s. s.world) h3.0 ∙ h2.1) (choice_written options.work choice path s3.world new.world (Err refusal) h4.0) in
       wrote old s1.world new (Err refusal) (Err refusal) prepared choice h2.0.answers
       (asked_from h2.0.answers old.spawners s1.spawners s2.spawners new.spawners h1.1 (h4.1 ∙ ap (λ s. s.spawners) h3.0) h2.0.asked)
       read h2.0.meets.1 w (write_answer refusal (outcome_of (Ok choice)) w.cause) tt (write_kept refusal old.world.files new.world.files w.cause)

@@ -1,5 +1,5 @@
 -- The end of the command that was asked for.
-use Rattle.std.proofs.Common.{◌≡◌, sym, ap, subst, ℕ, List, Option, Some, None, Result, Ok, Err}
+use Rattle.std.proofs.Common.{◌≡◌, ap, ℕ, List, Option, Some, None, Result, Ok, Err}
 use Rattle.cnb_world.specs.declared.env.Variable.{Variable}
 use Rattle.cnb_words.specs.declared.detect.DetectWords.{DetectWords}
 use Rattle.cnb_words.specs.declared.words.Asked.{Asked}
@@ -32,15 +32,21 @@ ends None steps old new end status taken_old taken_new did files children spawne
 ends (Some asked) steps old new end status taken_old taken_new did files children spawners finishes =
     record { end = end; did = did; files = files; children = children; spawners = spawners; finishes = finishes }
 
-same_refusal : (want refusal : Refusal) → Err {A = Asked} want ≡ Err refusal → Err {A = List ℕ} want ≡ Err refusal
-same_refusal want refusal h = let same : want ≡ refusal = cc in ap Err same
+abbrev no_command : Refusal → Result Asked Refusal
+no_command refusal = Err refusal
+
+abbrev no_text : Refusal → Result (List ℕ) Refusal
+no_text refusal = Err refusal
+
+same_refusal : (want refusal : Refusal) → no_command want ≡ no_command refusal → no_text want ≡ no_text refusal
+same_refusal want refusal h = let same : want ≡ refusal = cc in ap no_text same
 
 -- the words were refused, or memory ran out, before anything was done
 pub early_refused : (asked : Result Asked Refusal) (refusal : Refusal) (old : Outside) → IsAnswer {A = Asked} cause_of (Err refusal) asked → IsGivenCause (cause_of refusal)
     → On (refusal_of asked) (λ want. gives {A = List ℕ} cause_of (Err want) old (Err refusal) old)
 early_refused (Ok asked) refusal old answer cause = tt
 early_refused (Err want) refusal old answer cause =
-    given_fault cause_of (Err want) old refusal (where_map (cause_of refusal) (Err {A = Asked} want ≡ Err refusal) (Err {A = List ℕ} want ≡ Err refusal) (same_refusal want refusal) answer) cause
+    given_fault cause_of (Err want) old refusal (where_map (cause_of refusal) (no_command want ≡ no_command refusal) (no_text want ≡ no_text refusal) (same_refusal want refusal) answer) cause
 
 not_begun : (options : DetectWords) (env : List Variable) (refusal : Refusal) (old : Outside) → IsAnswer {A = Asked} cause_of (Err refusal) (Ok (Detect options)) → IsGivenCause (cause_of refusal)
     → map_err of_detect (detects options env) old (Err refusal) old
@@ -66,13 +72,6 @@ pub early_detect : (asked : Result Asked Refusal) (env : List Variable) (refusal
 early_detect (Ok (Detect options)) env refusal old answer cause = not_begun options env refusal old answer cause
 early_detect (Err want) env refusal old answer cause = tt
 
--- the command that was asked for was done
-pub done_detect : (asked : Result Asked Refusal) (options : DetectWords) (P : DetectWords → Type 0) → asked ≡ Ok (Detect options) → P options → On (detect_of asked) P
-done_detect asked options P same h = subst (λ a. On (detect_of a) P) (sym same) h
-
-pub not_refused : (asked : Result Asked Refusal) (options : DetectWords) (P : Refusal → Type 0) → asked ≡ Ok (Detect options) → On (refusal_of asked) P
-not_refused asked options P same = subst (λ a. On (refusal_of a) P) (sym same) tt
-
-pub early_idle : (asked : Result Asked Refusal) (P : Type 0) → P → On (refusal_of asked) (λ refusal. P)
-early_idle (Ok asked) P h = tt
-early_idle (Err refusal) P h = h
+pub early_idle : (asked : Result Asked Refusal) (P Q : Type 0) → P → Q → On (refusal_of asked) (λ refusal. P × Q)
+early_idle (Ok asked) P Q p q = tt
+early_idle (Err refusal) P Q p q = (p, q)

@@ -64,21 +64,21 @@ fn run_words<W: World, S: Spawner + Send, R: Threads + Sync>(
     requires { 0 < length spawners.old.items }
     ensures refused { On (refusal_of (command_in (map string_bytes words.now) env.now))
         (λ refusal. gives cause_of (Err refusal)
-            (outside W.World S.Spawner world.old spawners.old.items)
-            result
-            (outside W.World S.Spawner world.new spawners.new.items)) }
+        (outside W.World S.Spawner world.old spawners.old.items)
+        result
+        (outside W.World S.Spawner world.new spawners.new.items)) }
     ensures idle { On (refusal_of (command_in (map string_bytes words.now) env.now))
         (λ refusal. (world.new ≡ world.old) × (spawners.new.items ≡ spawners.old.items)) }
     ensures detect { On (detect_of (command_in (map string_bytes words.now) env.now)) (λ options.
         map_err of_detect (detects options env.now)
-            (outside W.World S.Spawner world.old spawners.old.items)
-            result
-            (outside W.World S.Spawner world.new spawners.new.items)) }
+        (outside W.World S.Spawner world.old spawners.old.items)
+        result
+        (outside W.World S.Spawner world.new spawners.new.items)) }
     ensures outcome { On (detect_of (command_in (map string_bytes words.now) env.now)) (λ options.
         map_err of_detect (ComesTo options env.now)
-            (outside W.World S.Spawner world.old spawners.old.items)
-            result
-            (outside W.World S.Spawner world.new spawners.new.items)) }
+        (outside W.World S.Spawner world.old spawners.old.items)
+        result
+        (outside W.World S.Spawner world.new spawners.new.items)) }
     ensures others { drop 1 spawners.new.items ≡ drop 1 spawners.old.items }
     ensures files { CountsFiles cause_of result (W.file_faults world.old) (W.file_faults world.new) }
     ensures children { W.child_faults world.new ≡ W.child_faults world.old }
@@ -108,24 +108,24 @@ pub fn lifecycle<W: World, S: Spawner + Send, O: Sink, R: Threads + Sync>(
     // Words that are no command, and a Platform API that isn't served, are refused, and nothing outside is looked at.
     ensures refused { On (refusal_of (command_in (map string_bytes words.now) env.now)) (λ refusal.
         Ends (gives cause_of (Err refusal))
-            (outside W.World S.Spawner world.old spawners.old.items)
-            (outside W.World S.Spawner world.new spawners.new.items)
-            result (O.taken out.old) (O.taken out.new)) }
+        (outside W.World S.Spawner world.old spawners.old.items)
+        (outside W.World S.Spawner world.new spawners.new.items)
+        result (O.taken out.old) (O.taken out.new)) }
     ensures idle { On (refusal_of (command_in (map string_bytes words.now) env.now)) (λ refusal.
         (world.new ≡ world.old) × (spawners.new.items ≡ spawners.old.items)) }
     // Each command does its steps, and the status and the text are those of its end.
     ensures detect { On (detect_of (command_in (map string_bytes words.now) env.now)) (λ options.
         Ends (map_err of_detect (detects options env.now))
-            (outside W.World S.Spawner world.old spawners.old.items)
-            (outside W.World S.Spawner world.new spawners.new.items)
-            result (O.taken out.old) (O.taken out.new)) }
+        (outside W.World S.Spawner world.old spawners.old.items)
+        (outside W.World S.Spawner world.new spawners.new.items)
+        result (O.taken out.old) (O.taken out.new)) }
     // So `detect` comes to the choice of the first trial that passes, by the files and by what its children answered, or
     // to its refusal; each document is the old one or the whole new one, and all other files are as before.
     ensures outcome { On (detect_of (command_in (map string_bytes words.now) env.now)) (λ options.
         Ends (map_err of_detect (ComesTo options env.now))
-            (outside W.World S.Spawner world.old spawners.old.items)
-            (outside W.World S.Spawner world.new spawners.new.items)
-            result (O.taken out.old) (O.taken out.new)) }
+        (outside W.World S.Spawner world.old spawners.old.items)
+        (outside W.World S.Spawner world.new spawners.new.items)
+        result (O.taken out.old) (O.taken out.new)) }
 
     // Each failure of the outside is counted, and told by the status.
     ensures files { CauseOfFile result (W.file_faults world.old) (W.file_faults world.new) }

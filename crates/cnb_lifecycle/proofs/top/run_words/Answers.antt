@@ -1,7 +1,7 @@
 use Rattle.std.proofs.Common.{refl}
 use Rattle.std.proofs.lemmas.Result.{err_from_is_err_and}
 use Rattle.cnb_lifecycle.proofs.CauseLemmas.{given_files, given_spawners}
-use Rattle.cnb_lifecycle.proofs.EndLemmas.{done_detect, early_detect, early_idle, early_outcome, early_refused, not_refused}
+use Rattle.cnb_lifecycle.proofs.EndLemmas.{early_detect, early_idle, early_outcome, early_refused}
 use Rattle.cnb_lifecycle.proofs.top.run_words.Goals as goal
 
 pub returns-in_err-options-clause-refused : goal.returns-in_err-options-clause-refused
@@ -10,29 +10,17 @@ returns-in_err-options-clause-refused g c =
     rw (exit.1, exit.2) (early_refused _ _ _ c.in_err-options.ensures.command c.in_err-options.ensures.cause)
 
 pub returns-in_err-options-clause-idle : goal.returns-in_err-options-clause-idle
-returns-in_err-options-clause-idle g c = early_idle _ _ (refl, refl)
+returns-in_err-options-clause-idle g c = early_idle _ _ _ refl refl
 
 pub returns-in_err-options-clause-detect : goal.returns-in_err-options-clause-detect
 returns-in_err-options-clause-detect g c =
     let exit = err_from_is_err_and c.from_residual.result c.from_residual.ensures.1 in
     rw (exit.1, exit.2) (early_detect _ _ _ _ c.in_err-options.ensures.command c.in_err-options.ensures.cause)
 
-pub returns-clause-refused : goal.returns-clause-refused
-returns-clause-refused g c = not_refused _ _ _ c.in_ok-options.ensures.command
-
-pub returns-clause-idle : goal.returns-clause-idle
-returns-clause-idle g c = not_refused _ _ _ c.in_ok-options.ensures.command
-
-pub returns-clause-detect : goal.returns-clause-detect
-returns-clause-detect g c = done_detect _ _ _ c.in_ok-options.ensures.command c.run_detect.ensures.steps
-
 pub returns-in_err-options-clause-outcome : goal.returns-in_err-options-clause-outcome
 returns-in_err-options-clause-outcome g c =
     let exit = err_from_is_err_and c.from_residual.result c.from_residual.ensures.1 in
     rw (exit.1, exit.2) (early_outcome _ _ _ _ c.in_err-options.ensures.command c.in_err-options.ensures.cause)
-
-pub returns-clause-outcome : goal.returns-clause-outcome
-returns-clause-outcome g c = done_detect _ _ _ c.in_ok-options.ensures.command c.run_detect.ensures.outcome
 
 pub returns-in_err-options-clause-files : goal.returns-in_err-options-clause-files
 returns-in_err-options-clause-files g c =
