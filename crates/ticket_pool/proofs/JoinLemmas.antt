@@ -1,6 +1,6 @@
 -- What two halves of some workers did, as one.
-use Rattle.std.proofs.Common.{◌≡◌, ℕ, ◌+◌, ◌≤◌, List, [], ◌∷◌, ◌++◌, length, map, refl, sym, ap, ◌∙◌, subst, arith, length-append}
-use Rattle.std.specs.Prelude.{Option, Result, IfOk}
+use Rattle.std.proofs.Common.{◌≡◌, ℕ, ◌+◌, List, [], ◌∷◌, ◌++◌, length, map, sym, ap, ◌∙◌, subst, arith, length-append}
+use Rattle.std.specs.Prelude.{Option, Result}
 use Rattle.std.proofs.lemmas.List.{map-append}
 use Rattle.cnb_world.specs.Runs.{Ran}
 use Rattle.cnb_world.specs.declared.child.DetectJob.{DetectJob}
@@ -9,7 +9,7 @@ use Rattle.ticket_pool.specs.Counts.{CountsPool, first_fault}
 use Rattle.ticket_pool.specs.Numbers.{weigh, late_one, IsAscending}
 use Rattle.ticket_pool.specs.Said.{RanAsSaid}
 use Rattle.ticket_pool.specs.TicketRule.{joined, IsWhole}
-use Rattle.ticket_pool.specs.Work.{numbers, weighs, on_jobs, DrewAll, RanLists, Worked}
+use Rattle.ticket_pool.specs.Work.{weighs, on_jobs, DrewAll, RanLists, Worked}
 use Rattle.ticket_pool.specs.declared.answer.Answer.{Answer}
 use Rattle.ticket_pool.specs.declared.fault.PoolFault.{PoolFault}
 use Rattle.ticket_pool.specs.declared.rule.View.{View}

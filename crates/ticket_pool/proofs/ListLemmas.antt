@@ -1,5 +1,5 @@
 -- Facts on each element of lists put together.
-use Rattle.std.proofs.Common.{◌≡◌, ℕ, suc, ◌<◌, List, [], ◌∷◌, ◌++◌, length, refl, arith}
+use Rattle.std.proofs.Common.{◌≡◌, List, [], ◌∷◌, ◌++◌, length, refl, arith}
 use Rattle.std.specs.List.{AllByRecursion, AllZip}
 
 module _ {A : Type 0} (P : A → Type 0) where

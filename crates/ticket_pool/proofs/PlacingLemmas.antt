@@ -2,15 +2,13 @@
 use Rattle.std.proofs.Common.{◌≡◌, ℕ, zero, suc, ◌+◌, ◌<◌, ◌≤◌, ◌≢◌, List, [], ◌∷◌, ◌++◌, length, map, set, refl, sym, ap, ◌∙◌, subst, arith, length-set}
 use Rattle.std.specs.Prelude.{Some, slice_get}
 use Rattle.std.proofs.lemmas.List.{map-append}
-use mathlib.Core.Logic.{dite}
-use native.Mathlib.Decide.{ℕ_discrete}
 use Rattle.cnb_world.specs.declared.child.Probed.{Probed}
-use Rattle.ticket_pool.specs.Deal.{deal_weighs, NoneTwice}
-use Rattle.ticket_pool.specs.Numbers.{weigh, same, AllAbove, AllBelow, IsAscending}
+use Rattle.ticket_pool.specs.Deal.{NoneTwice}
+use Rattle.ticket_pool.specs.Numbers.{weigh, same, AllBelow, IsAscending}
 use Rattle.ticket_pool.specs.Placing.{HasAllAnswers, HasAnswers, SameElse}
 use Rattle.ticket_pool.specs.Work.{numbers, weighs, AllDealt, IsDealt}
 use Rattle.ticket_pool.specs.declared.answer.Answer.{Answer}
-use Rattle.ticket_pool.proofs.ListLemmas.{all-append, all_parts, empty}
+use Rattle.ticket_pool.proofs.ListLemmas.{all-append, all_parts}
 use Rattle.ticket_pool.proofs.NumberLemmas.{weigh-snoc, same-self, same-other}
 
 slice_get-set_same : (xs : List Probed) (k : ℕ) (x : Probed) → k < length xs → slice_get (set xs k x) k ≡ Some x

@@ -1,7 +1,7 @@
 -- What workers did together, once one pass has all spawners again.
-use Rattle.std.proofs.Common.{◌≡◌, ℕ, zero, suc, ◌+◌, ◌-◌, ◌<◌, ◌≤◌, cond, ltb, List, [], ◌∷◌, ◌++◌, length, map, take, drop, refl, sym, ap, ◌∙◌, subst, arith, lt-ltb, le-ltb, length-append}
+use Rattle.std.proofs.Common.{◌≡◌, ℕ, zero, suc, ◌+◌, ◌≤◌, cond, List, [], ◌∷◌, ◌++◌, length, map, take, refl, sym, ap, ◌∙◌, subst, arith, lt-ltb, le-ltb, length-append}
 use Rattle.std.specs.Prelude.{Option, Some, None, Result, Ok, Err, OnErr, slice_get}
-use Rattle.std.specs.List.{AllByRecursion, AllZip, cons_option, filter_map}
+use Rattle.std.specs.List.{AllByRecursion, AllZip, cons_option}
 use Rattle.std.specs.Option.{option_map}
 use Rattle.std.proofs.lemmas.List.{append-nil, map-append}
 use Rattle.std.proofs.Math.Seq.{take-append_seam}
@@ -12,12 +12,12 @@ use Rattle.cnb_world.specs.declared.child.DetectJob.{DetectJob}
 use Rattle.cnb_world.specs.declared.child.Probed.{Probed}
 use Rattle.cnb_world.specs.declared.child.Reply.{Reply}
 use Rattle.ticket_pool.specs.Counts.{CountsPool}
-use Rattle.ticket_pool.specs.Deal.{recorded, at_numbers, deal_weighs, IsDealOf, NoneTwice, Shares, SharesJobs, RanAll, RanJobs, RanSome}
+use Rattle.ticket_pool.specs.Deal.{recorded, at_numbers, IsDealOf, NoneTwice, Shares, SharesJobs, RanAll, RanSome}
 use Rattle.ticket_pool.specs.Numbers.{weigh, same, late_of, upto, IsAscending}
 use Rattle.ticket_pool.specs.Placing.{HasAllAnswers, HasAnswers}
 use Rattle.ticket_pool.specs.Said.{RanAsSaid}
 use Rattle.ticket_pool.specs.TicketRule.{IsWhole}
-use Rattle.ticket_pool.specs.Work.{numbers, rows, weighs, on_jobs, AllDealt, DrewAll, RanLists, Worked}
+use Rattle.ticket_pool.specs.Work.{numbers, rows, on_jobs, AllDealt, DrewAll, RanLists, Worked}
 use Rattle.ticket_pool.specs.declared.answer.Answer.{Answer}
 use Rattle.ticket_pool.specs.declared.fault.PoolFault.{PoolFault}
 use Rattle.ticket_pool.specs.declared.rule.View.{View}

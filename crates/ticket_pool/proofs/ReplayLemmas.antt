@@ -1,21 +1,20 @@
 -- A deal of numbers, played as a round.
-use Rattle.std.proofs.Common.{◌≡◌, ℕ, zero, suc, ◌+◌, ◌<◌, ◌≤◌, ◌≢◌, cond, eqb, leb, ltb, List, [], ◌∷◌, ◌++◌, length, refl, sym, ap, ◌∙◌, subst, arith, lt-ltb, le-leb, eq-eqb, ne_eqb}
+use Rattle.std.proofs.Common.{◌≡◌, ℕ, zero, suc, ◌+◌, ◌<◌, ◌≤◌, ◌≢◌, cond, eqb, List, [], ◌∷◌, ◌++◌, length, refl, sym, ap, ◌∙◌, subst, arith, lt-ltb, le-leb, eq-eqb, ne_eqb}
 use Rattle.std.proofs.lemmas.Bool.{lt-leb}
-use Rattle.std.specs.Prelude.{Option, Some, None, slice_get}
+use Rattle.std.specs.Prelude.{Some, None, slice_get}
 use Rattle.std.specs.List.{AllByRecursion, cons_option}
 use Rattle.std.specs.Option.{option_map}
 use mathlib.Core.Logic.{dite}
 use native.Mathlib.Decide.{ℕ_discrete, dec_le}
 use Rattle.cnb_world.specs.declared.child.Probed.{Probed}
-use Rattle.ticket_pool.specs.declared.round.Event.{Event}
 use Rattle.ticket_pool.specs.declared.round.Event.TheVariants.{Draw, End}
 use Rattle.ticket_pool.specs.Deal.{deal_weighs, IsDealOf}
-use Rattle.ticket_pool.specs.Law.{AreLawful, IsOver, after_all}
+use Rattle.ticket_pool.specs.Law.{AreLawful, after_all}
 use Rattle.ticket_pool.specs.Numbers.{weigh, same, upto, AllAbove, IsAscending}
 use Rattle.ticket_pool.specs.Replay.{owner_of, replay, numbered, end_by, ends_by, numbers_of, answers_at, IsRound}
 use Rattle.ticket_pool.specs.Round.{Round, put, start, draw, give, end, after, IsLawful}
 use Rattle.ticket_pool.proofs.LawLemmas.{put-same, put-other}
-use Rattle.ticket_pool.proofs.NumberLemmas.{weigh-snoc, same-self, same-other, same-upto-le, ascending_same}
+use Rattle.ticket_pool.proofs.NumberLemmas.{weigh-snoc, same-self, same-upto-le, ascending_same}
 
 -- h of a number whose owner is w, and 0 of another
 abbrev mask : (ℕ → ℕ) → ℕ → (ℕ → ℕ) → ℕ → ℕ

@@ -1,12 +1,10 @@
 -- What one worker has so far, and what one more draw makes of it.
-use Rattle.std.proofs.Common.{◌≡◌, ℕ, zero, suc, ◌+◌, ◌-◌, ◌<◌, ◌≤◌, cond, List, [], ◌∷◌, ◌++◌, length, map, refl, sym, ap, ◌∙◌, subst, arith, lt-ltb, le-ltb, append_assoc}
-use Rattle.std.specs.Prelude.{Option, Some, None, Result, Ok, Err, slice_get, IfOk}
-use Rattle.std.specs.List.{AllByRecursion, cons_option}
+use Rattle.std.proofs.Common.{◌≡◌, ℕ, suc, ◌+◌, ◌<◌, ◌≤◌, cond, List, [], ◌∷◌, ◌++◌, length, refl, sym, ap, ◌∙◌, subst, arith, lt-ltb, le-ltb, append_assoc}
+use Rattle.std.specs.Prelude.{Option, Some, Result, Ok, Err, slice_get}
+use Rattle.std.specs.List.{cons_option}
 use Rattle.std.specs.Option.{option_map}
 use Rattle.std.proofs.lemmas.List.{append-nil, map-append}
 use Rattle.std.proofs.lemmas.List.Elements.{filter_map-append}
-use mathlib.Core.Logic.{dite}
-use native.Mathlib.Decide.{dec_lt}
 use Rattle.cnb_world.specs.Calls.{CountsDetect}
 use Rattle.cnb_world.specs.Runs.{Ran, IsSaid}
 use Rattle.cnb_world.specs.declared.child.DetectFault.{DetectFault}
@@ -17,7 +15,7 @@ use Rattle.ticket_pool.specs.Counts.{pool_fault}
 use Rattle.ticket_pool.specs.Numbers.{weigh, late_one, late_of, AllBelow, IsAscending}
 use Rattle.ticket_pool.specs.Said.{AllSaid}
 use Rattle.ticket_pool.specs.TicketRule.{view, drew, IsDraw, IsWhole}
-use Rattle.ticket_pool.specs.Work.{numbers, rows, weighs, on_jobs, IsDealt, DrewAll, Worked}
+use Rattle.ticket_pool.specs.Work.{numbers, rows, on_jobs, IsDealt, Worked}
 use Rattle.ticket_pool.specs.declared.answer.Answer.{Answer}
 use Rattle.ticket_pool.specs.declared.fault.PoolFault.{PoolFault}
 use Rattle.ticket_pool.specs.declared.rule.View.{View}

@@ -1,5 +1,5 @@
 -- What an answer says of the spawners' counts of faults.
-use Rattle.std.specs.Prelude.{◌≡◌, ◌⊎◌, ℕ, ◌≤◌, List, [], ◌∷◌, Result, Ok, Err}
+use Rattle.std.specs.Prelude.{◌≡◌, ◌⊎◌, ℕ, ◌≤◌, List, ◌∷◌, Result, Ok, Err}
 use Rattle.std.specs.List.{AllZip}
 use Rattle.cnb_world.specs.Calls.{Rose}
 use Rattle.cnb_world.specs.declared.child.DetectFault.{DetectFault}

@@ -1,13 +1,12 @@
 -- What workers did in a round: the answers in each one's list, and the numbers that their pass has drawn.
-use Rattle.std.specs.Prelude.{◌≡◌, ℕ, ◌+◌, ◌≤◌, nat_lt, if◌then◌else◌, List, [], ◌∷◌, ◌++◌, length, map, slice_get, Option, Result, IfOk}
+use Rattle.std.specs.Prelude.{◌≡◌, ℕ, ◌≤◌, nat_lt, if◌then◌else◌, List, [], ◌∷◌, ◌++◌, length, map, slice_get, Option, Result, IfOk}
 use Rattle.std.specs.List.{AllByRecursion, AllZip, filter_map}
 use Rattle.std.specs.Option.{option_map}
 use Rattle.cnb_world.specs.Runs.{Ran}
 use Rattle.cnb_world.specs.declared.child.DetectJob.{DetectJob}
-use Rattle.cnb_world.specs.declared.child.Probed.{Probed}
 use Rattle.cnb_world.specs.declared.child.Reply.{Reply}
 use Rattle.ticket_pool.specs.Counts.{CountsPool}
-use Rattle.ticket_pool.specs.Deal.{deal_weighs, NoneTwice}
+use Rattle.ticket_pool.specs.Deal.{deal_weighs}
 use Rattle.ticket_pool.specs.Numbers.{weigh, late_of, AllBelow, IsAscending}
 use Rattle.ticket_pool.specs.Said.{RanAsSaid}
 use Rattle.ticket_pool.specs.TicketRule.{IsWhole}

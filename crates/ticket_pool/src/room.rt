@@ -7,7 +7,11 @@ use cnb_world::{Bytes, Memory, Probed};
 use std::alloc::Global;
 
 /// A list for each worker, with room for all jobs.
-pub fn reserved_lists(alloc: Global, workers: usize, jobs: usize) -> Result<Vec<Vec<Answer>>, Memory>
+pub fn reserved_lists(
+    alloc: Global,
+    workers: usize,
+    jobs: usize,
+) -> Result<Vec<Vec<Answer>>, Memory>
     ensures count { IfOk result (λ lists. length lists.items ≡ workers) }
     ensures room { IfOk result (λ lists. All (λ list. HasRoom jobs list.items (vec_capacity list)) lists.items) }
 {

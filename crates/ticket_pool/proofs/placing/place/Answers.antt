@@ -1,4 +1,4 @@
-use Rattle.std.proofs.Common.{◌≡◌, ◌∙◌, length, sym}
+use Rattle.std.proofs.Common.{◌∙◌, length, sym}
 use Rattle.ticket_pool.proofs.ListLemmas.{empty}
 use Rattle.ticket_pool.proofs.PlacingLemmas.{last_dealt, leads_on, led}
 use Rattle.ticket_pool.proofs.placing.place.Goals as goal

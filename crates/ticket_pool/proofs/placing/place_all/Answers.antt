@@ -1,4 +1,4 @@
-use Rattle.std.proofs.Common.{◌≡◌, ◌∙◌, length, sym}
+use Rattle.std.proofs.Common.{◌∙◌, length, sym}
 use Rattle.ticket_pool.proofs.ListLemmas.{empty}
 use Rattle.ticket_pool.proofs.PlacingLemmas.{last_list, leads_all_on, all_led}
 use Rattle.ticket_pool.proofs.placing.place_all.Goals as goal

@@ -1,4 +1,4 @@
-use Rattle.std.proofs.Common.{◌≡◌, ◌++◌, length, drop, sym, ◌∙◌}
+use Rattle.std.proofs.Common.{◌++◌, length, drop, sym, ◌∙◌}
 use Rattle.ticket_pool.proofs.PoolLemmas.{counts_beside_others, lent_first, said_beside}
 use Rattle.ticket_pool.proofs.pool.run_all.Goals as goal
 

@@ -1,8 +1,8 @@
-use Rattle.std.proofs.Common.{◌≡◌, ◌≤◌, ◌<◌, ◌+◌, ℕ, length, vec_len, arith, subst, sym, refl, ap, ◌∙◌, ◌∷◌, [], length-append}
-use Rattle.std.specs.Prelude.{Option, Some, None, Err, slice_get}
+use Rattle.std.proofs.Common.{◌≡◌, ◌+◌, ℕ, length, vec_len, arith, subst, sym, refl, ap, ◌∙◌, ◌∷◌, [], length-append}
+use Rattle.std.specs.Prelude.{Some, None, Err}
 use Rattle.std.proofs.lemmas.Option.{slice_get_read}
 use Rattle.std.proofs.lemmas.Result.{err_from_is_err_and}
-use Rattle.ticket_pool.specs.Passes.{DrawsNext, jobs_of, spawners_of, view_of}
+use Rattle.ticket_pool.specs.Passes.{DrawsNext, spawners_of, view_of}
 use Rattle.ticket_pool.specs.declared.answer.Answer.{Answer}
 use Rattle.ticket_pool.proofs.WorkLemmas.{Going, goes, ends, fails, dealt-length}
 use Rattle.ticket_pool.proofs.worker.work.Goals as goal
