@@ -37,7 +37,8 @@ Shares runs rows (old ∷ olds) (new ∷ news) (numbers ∷ deal) =
     (runs new ≡ runs old ++ at_numbers rows numbers) × IsAscending numbers × Shares runs rows olds news deal
 Shares runs rows _ _ _ = ⊥
 
--- All jobs were run, each once, with these answers: the spawners were dealt the numbers of all jobs, and the deal is a round.
+-- All jobs were run, each once, with these answers: the spawners were dealt the numbers of all jobs, and the deal is
+-- a round.
 pub record RanAll {S : Type 0} (runs : S → List Ran) (jobs : List DetectJob) (answers : List Probed) (olds news : List S) : Type 0 where
   pub deal : List (List ℕ)
   pub shares : Shares runs (recorded jobs answers) olds news deal
@@ -52,7 +53,8 @@ pub record RanJobs {S : Type 0} (runs : S → List Ran) (jobs : List DetectJob) 
 
 abbrev pub SharesJobs : {S : Type 0} → (S → List Ran) → List DetectJob → List S → List S → List (List ℕ) → Type 0
 SharesJobs runs jobs [] [] [] = Unit {0}
-SharesJobs runs jobs (old ∷ olds) (new ∷ news) (numbers ∷ deal) = RanJobs runs jobs old new numbers × SharesJobs runs jobs olds news deal
+SharesJobs runs jobs (old ∷ olds) (new ∷ news) (numbers ∷ deal) =
+    RanJobs runs jobs old new numbers × SharesJobs runs jobs olds news deal
 SharesJobs runs jobs _ _ _ = ⊥
 
 -- some of the jobs were run, each at most once

@@ -8,7 +8,8 @@ use Rattle.ticket_pool.specs.Round.{Round, start, after, IsLawful}
 -- each event is lawful where it comes
 abbrev pub AreLawful : ℕ → ℕ → Round → List Event → Type 0
 AreLawful jobs workers round [] = Unit {0}
-AreLawful jobs workers round (event ∷ events) = IsLawful workers round event × AreLawful jobs workers (after jobs round event) events
+AreLawful jobs workers round (event ∷ events) =
+    IsLawful workers round event × AreLawful jobs workers (after jobs round event) events
 
 -- the round after some events
 abbrev pub after_all : ℕ → Round → List Event → Round
@@ -21,7 +22,8 @@ IsOver jobs round = (round.next ≡ jobs) × ((worker : ℕ) → round.held work
 
 -- the worker that draws n by an event
 abbrev pub drawn_by : ℕ → ℕ → Round → Event → List ℕ
-drawn_by jobs n round (Draw worker) = if nat_lt round.next jobs then (if round.next == n then worker ∷ [] else []) else []
+drawn_by jobs n round (Draw worker) =
+    if nat_lt round.next jobs then (if round.next == n then worker ∷ [] else []) else []
 drawn_by jobs n round (End worker probed) = []
 
 -- the workers that draw n, in order

@@ -30,7 +30,8 @@ end_by worker round (End by probed) = if by == worker then numbered (round.held 
 -- what one worker ends, in order: each number with its answer
 abbrev pub ends_by : ℕ → ℕ → Round → List Event → List (ℕ × Probed)
 ends_by jobs worker round [] = []
-ends_by jobs worker round (event ∷ events) = end_by worker round event ++ ends_by jobs worker (after jobs round event) events
+ends_by jobs worker round (event ∷ events) =
+    end_by worker round event ++ ends_by jobs worker (after jobs round event) events
 
 abbrev pub numbers_of : List (List ℕ) → ℕ → List ℕ
 numbers_of deal worker = unwrap_or (slice_get deal worker) []
@@ -39,10 +40,12 @@ numbers_of deal worker = unwrap_or (slice_get deal worker) []
 abbrev pub answers_at : List Probed → List ℕ → List (ℕ × Probed)
 answers_at answers numbers = filter_map (λ n. option_map (λ probed. (n, probed)) (slice_get answers n)) numbers
 
--- The deal, played so, is a lawful round that is over. Its answers are these, each by the worker that has the number, and each
--- worker ends the numbers that it has, in their order.
+-- The deal, played so, is a lawful round that is over. Its answers are these, each by the worker that has the number,
+-- and each worker ends the numbers that it has, in their order.
 pub record IsRound (jobs : ℕ) (deal : List (List ℕ)) (answers : List Probed) : Type 0 where
   pub lawful : AreLawful jobs (length deal) start (replay (owner_of deal) 0 answers)
   pub over : IsOver jobs (after_all jobs start (replay (owner_of deal) 0 answers))
-  pub answered : (n : ℕ) → (after_all jobs start (replay (owner_of deal) 0 answers)).answers n ≡ option_map (λ probed. (owner_of deal n, probed)) (slice_get answers n)
-  pub ended : (worker : ℕ) → worker < length deal → ends_by jobs worker start (replay (owner_of deal) 0 answers) ≡ answers_at answers (numbers_of deal worker)
+  pub answered : (n : ℕ)
+      → (after_all jobs start (replay (owner_of deal) 0 answers)).answers n ≡ option_map (λ probed. (owner_of deal n, probed)) (slice_get answers n)
+  pub ended : (worker : ℕ) → worker < length deal
+      → ends_by jobs worker start (replay (owner_of deal) 0 answers) ≡ answers_at answers (numbers_of deal worker)

@@ -21,11 +21,13 @@ start = record { next = 0; held = λ _. None; answers = λ _. None }
 
 -- a worker takes the next number
 abbrev pub draw : Round → ℕ → Round
-draw round worker = record { next = round.next + 1; held = put round.held worker (Some round.next); answers = round.answers }
+draw round worker =
+    record { next = round.next + 1; held = put round.held worker (Some round.next); answers = round.answers }
 
 -- a worker gives a number its answer
 abbrev pub give : Round → ℕ → ℕ → Probed → Round
-give round number worker probed = record { next = round.next; held = put round.held worker None; answers = put round.answers number (Some (worker, probed)) }
+give round number worker probed =
+    record { next = round.next; held = put round.held worker None; answers = put round.answers number (Some (worker, probed)) }
 
 -- a worker gives its answer to the number that it holds
 abbrev pub end : Option ℕ → Round → ℕ → Probed → Round

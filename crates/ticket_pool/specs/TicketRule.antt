@@ -14,13 +14,14 @@ abbrev pub total : (View → ℕ) → List View → ℕ
 total f [] = 0
 total f (v ∷ vs) = f v + total f vs
 
--- what holds of each view: its numbers ascend, as many as it says are no job's, at most one for each of its spawners, and
--- a view of no spawner has drawn nothing
+-- what holds of each view: its numbers ascend; as many of them as it says are no job's, at most one for each of its
+-- spawners; and a view of no spawner has drawn nothing
 abbrev pub IsView : ℕ → View → Type 0
-IsView jobs v = IsAscending v.drawn × (v.late ≡ late_of jobs v.drawn) × (v.late ≤ v.spawners) × (v.spawners ≡ 0 → v.drawn ≡ [])
+IsView jobs v =
+    IsAscending v.drawn × (v.late ≡ late_of jobs v.drawn) × (v.late ≤ v.spawners) × (v.spawners ≡ 0 → v.drawn ≡ [])
 
--- There is one word. The numbers of all views together are those below the word, each once: whatever each number weighs, the
--- two weigh the same. The spawners of all views together are the round's.
+-- There is one word. The numbers of all views together are those below the word, each once: whatever each number
+-- weighs, the two weigh the same. The spawners of all views together are the round's.
 abbrev pub TicketRule : ℕ → ℕ → State (Unit {0}) View → Type 0
 TicketRule jobs spawners s =
     (length s.words ≡ 1)
@@ -38,7 +39,8 @@ IsWhole spawners v = v.spawners ≡ spawners → v.drawn ≡ upto (length v.draw
 
 -- a draw: the number found is added, and is greater than those before
 abbrev pub Drew : ℕ → ℕ → Me (Unit {0}) View → ℕ → Me (Unit {0}) View → Type 0
-Drew jobs spawners me n me' = (me'.0 ≡ drew jobs me.0 n) × (me'.1 ≡ me.1) × AllBelow n me.0.drawn × IsAscending me'.0.drawn × IsWhole spawners me'.0
+Drew jobs spawners me n me' =
+    (me'.0 ≡ drew jobs me.0 n) × (me'.1 ≡ me.1) × AllBelow n me.0.drawn × IsAscending me'.0.drawn × IsWhole spawners me'.0
 
 -- a look, after a join
 abbrev pub Looked : ℕ → Me (Unit {0}) View → Me (Unit {0}) View → Type 0

@@ -19,7 +19,8 @@ numbers list = map (λ answer. answer.number) list
 
 -- the runs of these answers
 abbrev pub rows : List DetectJob → List Answer → List Ran
-rows jobs list = filter_map (λ answer. option_map (λ job. record { job = job; probed = answer.probed }) (slice_get jobs answer.number)) list
+rows jobs list =
+    filter_map (λ answer. option_map (λ job. record { job = job; probed = answer.probed }) (slice_get jobs answer.number)) list
 
 -- answers of jobs, their numbers ascending
 abbrev pub IsDealt : ℕ → List Answer → Type 0
@@ -47,14 +48,14 @@ RanLists runs jobs (old ∷ olds) (new ∷ news) (list ∷ lists) =
     (runs new ≡ runs old ++ rows jobs list) × IsDealt (length jobs) list × RanLists runs jobs olds news lists
 RanLists runs jobs _ _ _ = ⊥
 
--- where no worker failed: each drew one number that is no job's, and the lists have all other numbers that the pass has drawn
+-- where no worker failed: each drew one number that is no job's, and the lists have all other numbers of the pass
 pub record DrewAll (jobs workers : ℕ) (lists : List (List Answer)) (pass : View) : Type 0 where
   pub late : pass.late ≡ workers
   pub late_numbers : late_of jobs pass.drawn ≡ workers
   pub listed : (h : ℕ → ℕ) → weighs h lists ≡ weigh (on_jobs jobs h) pass.drawn
 
--- What workers with one pass did, of all those of a round: each spawner's new runs are those of its list, whose numbers the
--- pass has drawn.
+-- What workers with one pass did, of all those of a round: each spawner's new runs are those of its list, whose numbers
+-- the pass has drawn.
 pub record Worked {S : Type 0} (runs : S → List Ran) (says : S → Option (List Reply)) (faults : S → ℕ) (jobs : List DetectJob) (all : ℕ)
     (olds news : List S) (lists : List (List Answer)) (pass : View) (end : Result (Unit {0}) PoolFault) : Type 0 where
   pub ran : RanLists runs jobs olds news lists

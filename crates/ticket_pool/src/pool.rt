@@ -52,7 +52,7 @@ pub fn run_all<S: Spawner + Send, R: Threads + Sync>(
     ensures said { AllZip (RanAsSaid S.runs S.says) spawners.old.items spawners.new.items }
     ensures counts { CountsPool result (map S.faults spawners.old.items) (map S.faults spawners.new.items) }
 
-    // The pass has all spawners of the round again, and has drawn a number for each job and one more for each spawner used.
+    // The pass has all spawners of the round again. It has drawn a number for each job, and one more for each spawner.
     ensures round { IsPassOf round.now pass.new }
     ensures whole { (view_of pass.new).spawners ≡ spawners_of round.now }
     ensures drawn { IfOk result (λ answers.
