@@ -39,14 +39,16 @@ Shares runs rows _ _ _ = ⊥
 
 -- All jobs were run, each once, with these answers: the spawners were dealt the numbers of all jobs, and the deal is
 -- a round.
-pub record RanAll {S : Type 0} (runs : S → List Ran) (jobs : List DetectJob) (answers : List Probed) (olds news : List S) : Type 0 where
+pub record RanAll {S : Type 0} (runs : S → List Ran)
+    (jobs : List DetectJob) (answers : List Probed) (olds news : List S) : Type 0 where
   pub deal : List (List ℕ)
   pub shares : Shares runs (recorded jobs answers) olds news deal
   pub whole : IsDealOf (length jobs) deal
   pub round : IsRound (length jobs) deal answers
 
 -- a spawner's new runs are of the jobs of these numbers
-pub record RanJobs {S : Type 0} (runs : S → List Ran) (jobs : List DetectJob) (old new : S) (numbers : List ℕ) : Type 0 where
+pub record RanJobs {S : Type 0} (runs : S → List Ran)
+    (jobs : List DetectJob) (old new : S) (numbers : List ℕ) : Type 0 where
   pub more : List Ran
   pub grown : runs new ≡ runs old ++ more
   pub ran : map (λ row. row.job) more ≡ at_numbers jobs numbers

@@ -46,6 +46,7 @@ pub record IsRound (jobs : ℕ) (deal : List (List ℕ)) (answers : List Probed)
   pub lawful : AreLawful jobs (length deal) start (replay (owner_of deal) 0 answers)
   pub over : IsOver jobs (after_all jobs start (replay (owner_of deal) 0 answers))
   pub answered : (n : ℕ)
-      → (after_all jobs start (replay (owner_of deal) 0 answers)).answers n ≡ option_map (λ probed. (owner_of deal n, probed)) (slice_get answers n)
+      → (after_all jobs start (replay (owner_of deal) 0 answers)).answers n
+      ≡ option_map (λ probed. (owner_of deal n, probed)) (slice_get answers n)
   pub ended : (worker : ℕ) → worker < length deal
       → ends_by jobs worker start (replay (owner_of deal) 0 answers) ≡ answers_at answers (numbers_of deal worker)

@@ -40,7 +40,8 @@ IsWhole spawners v = v.spawners ≡ spawners → v.drawn ≡ upto (length v.draw
 -- a draw: the number found is added, and is greater than those before
 abbrev pub Drew : ℕ → ℕ → Me (Unit {0}) View → ℕ → Me (Unit {0}) View → Type 0
 Drew jobs spawners me n me' =
-    (me'.0 ≡ drew jobs me.0 n) × (me'.1 ≡ me.1) × AllBelow n me.0.drawn × IsAscending me'.0.drawn × IsWhole spawners me'.0
+    (me'.0 ≡ drew jobs me.0 n) × (me'.1 ≡ me.1) × AllBelow n me.0.drawn
+    × IsAscending me'.0.drawn × IsWhole spawners me'.0
 
 -- a look, after a join
 abbrev pub Looked : ℕ → Me (Unit {0}) View → Me (Unit {0}) View → Type 0
