@@ -1,4 +1,3 @@
 pub mod Blame
 pub mod Counts
-pub mod Listing
 pub mod NamesRead

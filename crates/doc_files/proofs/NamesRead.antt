@@ -9,7 +9,7 @@ use Rattle.cnb_world.specs.Tree.{Lists, Tree, can_list}
 use Rattle.doc_files.specs.Reading.{names_at}
 use Rattle.doc_files.specs.declared.fault.ReadFault.{ReadFault}
 use Rattle.doc_files.specs.declared.fault.ReadFault.TheVariants.{File}
-use Rattle.doc_files.proofs.Listing.{names_listed}
+use Rattle.cnb_world.proofs.Listing.{names_listed}
 
 -- a value that was told
 abbrev pub told : {A : Type 0} → A → Result A ReadFault
