@@ -46,7 +46,7 @@ fits_make last e es depth p q r =
     ap (λ (f : Fitting). name_fits last f.0 && (f.1 depth && entries_fit (Some f.0) es depth)) (fits_named e)
     ∙ and_from (name_fits last e.name) _ p (and_from (fits e.node depth) _ q r)
 
-entries_fit_push : (last : Option (List ℕ)) (es : List Named) (e : Named) (depth : ℕ) → entries_fit last es depth ≡ true → name_fits (last_from last es) e.name ≡ true → fits e.node depth ≡ true → entries_fit last (es ++ e ∷ []) depth ≡ true
+pub entries_fit_push : (last : Option (List ℕ)) (es : List Named) (e : Named) (depth : ℕ) → entries_fit last es depth ≡ true → name_fits (last_from last es) e.name ≡ true → fits e.node depth ≡ true → entries_fit last (es ++ e ∷ []) depth ≡ true
 entries_fit_push last [] e depth h p q = fits_make last e [] depth p q refl
 entries_fit_push last (x ∷ xs) e depth h p q =
     let parts = fits_cons last x xs depth h in

@@ -1,5 +1,5 @@
 // Digests of bytes.
-ghost use Rattle.std.specs.Prelude.{◌≡◌, ◌↔◌, IsTrue, IfOk, length, IsNone, IfSome, false};
+ghost use Rattle.std.specs.Prelude.{◌≡◌, ◌↔◌, IsTrue, IfOk, length, IsNone, IfSome, true, false};
 ghost use Rattle.sha2.specs.Sha256.{sha256};
 ghost use Rattle.hex.specs.Hex.{encode_lower};
 ghost use Rattle.tree_canon.specs.Digest.{is_digest_text, is_lower_digit};
@@ -37,6 +37,13 @@ impl Digest {
         }
     }
 
+    /// The digest that these 32 bytes are.
+    pub fn from_bytes(bytes: [u8; 32]) -> Digest
+        ensures { result ≡ bytes }
+    {
+        Digest { bytes }
+    }
+
     /// The digest that 64 digits of `0` to `9` and `a` to `f` write.
     pub fn parse(text: &str) -> Option<Digest>
         ensures none { IsNone result ↔ (is_digest_text text.now ≡ false) }
@@ -53,7 +60,8 @@ impl Digest {
 
     /// The digest as 64 digits.
     pub fn text(&self, alloc: Global) -> Result<Text, Memory>
-        ensures { IfOk result (λ text. text ≡ encode_lower self.now) }
+        ensures text { IfOk result (λ text. text ≡ encode_lower self.now) }
+        ensures digits { is_digest_text (encode_lower self.now) ≡ true }
     {
         lower_text(alloc, &self.bytes)
     }

@@ -21,6 +21,7 @@ mod tree;
 pub use decoder::{Decoder, decode};
 pub use digest::Digest;
 pub use fault::{DecodeFault, Reason, TreeFault};
+pub use fitting::is_target;
 pub use judging::{Judged, judge};
 pub use node::{Named, Node};
 pub use spelling::encode;

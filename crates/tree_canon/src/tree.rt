@@ -55,7 +55,7 @@ impl Tree {
     }
 
     /// The tree with this root, whose spelling was measured.
-    pub(crate) fn measured(root: Node, size: u64) -> Tree
+    pub fn measured(root: Node, size: u64) -> Tree
         requires { IsMeasured root size }
         ensures { result ≡ root }
     {

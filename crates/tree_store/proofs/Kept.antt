@@ -1,0 +1,121 @@
+-- The bytes of a tree's file, piece by piece.
+use Rattle.std.proofs.Common.{◌≡◌, ◌≢◌, ℕ, ◌+◌, ◌*◌, ◌/◌, ◌<◌, ◌≤◌, ◌∙◌, Bool, true, false, not, List, [], ◌++◌, length, take, drop, refl, sym, ap, subst, arith, Option, Some, None, Result, Ok, Err, is_some}
+use Rattle.std.specs.Prelude.{IfOk, IfSome, IsTrue, ◌↔◌}
+use Rattle.std.specs.Option.{option_map}
+use Rattle.std.specs.Str.{bytes_eq}
+use Rattle.std.proofs.lemmas.Slice.Eq.{bytes_eq-Decides}
+use Rattle.std.proofs.Math.Seq.{take-add}
+use Rattle.std.proofs.lemmas.List.{take_all, length-take}
+use Rattle.cnb_world.specs.Calls.{MayMisuse}
+use Rattle.tree_store.specs.declared.judging.Judging.{Judging}
+use Rattle.tree_store.specs.Judging.{HasTaken}
+use Rattle.cnb_world.specs.Tree.{Tree, item_at, is_file, is_file_or_absent, bytes_of}
+
+-- ---- lists read in pieces
+
+-- one piece more
+pub piece_more : (xs ys : List ℕ) (at size : ℕ) → take at xs ≡ take at ys → take size (drop at xs) ≡ take size (drop at ys) → take (at + size) xs ≡ take (at + size) ys
+piece_more xs ys at size before here = take-add at size xs ∙ ap (λ l. l ++ take size (drop at xs)) before ∙ ap (λ l. take at ys ++ l) here ∙ sym (take-add at size ys)
+
+-- lists that are alike to behind the end of one are the same
+pub same_to_end : (xs ys : List ℕ) (n : ℕ) → length ys < n → take n xs ≡ take n ys → xs ≡ ys
+same_to_end xs ys n long same = sym (take_all n xs (omega (arith, length-take n xs, length-take n ys, ap length same))) ∙ same ∙ take_all n ys (omega arith)
+
+pub behind_end : (size : ℕ) → size < (size / 65536 + 1) * 65536
+behind_end size = omega arith
+
+pub next_number : (number : ℕ) → number * 65536 + 65536 ≡ (number + 1) * 65536
+next_number number = omega arith
+
+pub rest_is_long : (rest : List ℕ) → 65536 < length rest → 65536 ≡ length (take 65536 rest)
+rest_is_long rest h = omega (arith, length-take 65536 rest)
+
+pub same_unless : (xs ys : List ℕ) (differ : Bool) → differ ≡ not (bytes_eq xs ys) → differ ≡ false → xs ≡ ys
+same_unless xs ys differ is e = (bytes_eq-Decides xs ys).0 (by (bytes_eq xs ys) (sym is ∙ e))
+  where
+    by : (v : Bool) → not v ≡ false → v ≡ true
+    by true h = refl
+    by false h = absurd (cc)
+
+-- ---- what is told of a file
+
+abbrev pub contents : Tree → List ℕ → List ℕ
+contents files path = bytes_of (item_at files path)
+
+-- so many pieces of a file are these
+abbrev pub Alike : Option Tree → List ℕ → List ℕ → ℕ → Type 0
+Alike o path bytes number = IfSome o (λ files. take (number * 65536) (contents files path) ≡ take (number * 65536) bytes)
+
+pub none_alike : (o : Option Tree) (path bytes : List ℕ) → Alike o path bytes 0
+none_alike None path bytes = tt
+none_alike (Some files) path bytes = refl
+
+pub one_alike : (o o1 : Option Tree) (path bytes piece expected : List ℕ) (number : ℕ) → o1 ≡ o → Alike o path bytes number → IfSome o1 (λ files. piece ≡ take 65536 (drop (number * 65536) (contents files path))) → expected ≡ take 65536 (drop (number * 65536) bytes) → piece ≡ expected → Alike o path bytes (number + 1)
+one_alike None o1 path bytes piece expected number same before read is e = tt
+one_alike (Some files) o1 path bytes piece expected number same before read is e =
+    ap (λ n. take n (contents files path)) (sym (next_number number))
+    ∙ piece_more (contents files path) bytes (number * 65536) 65536 before (sym (subst (λ x. IfSome x (λ files. piece ≡ take 65536 (drop (number * 65536) (contents files path)))) same read) ∙ e ∙ is)
+    ∙ ap (λ n. take n bytes) (next_number number)
+
+pub all_alike : (o : Option Tree) (path bytes : List ℕ) → Alike o path bytes (length bytes / 65536 + 1) → IfSome o (λ files. contents files path ≡ bytes)
+all_alike None path bytes h = tt
+all_alike (Some files) path bytes h = same_to_end (contents files path) bytes ((length bytes / 65536 + 1) * 65536) (behind_end (length bytes)) h
+
+pub other_piece : (o o1 : Option Tree) (path bytes piece expected : List ℕ) (number : ℕ) → o1 ≡ o → IfSome o1 (λ files. piece ≡ take 65536 (drop (number * 65536) (contents files path))) → expected ≡ take 65536 (drop (number * 65536) bytes) → piece ≢ expected → IfSome o (λ files. contents files path ≢ bytes)
+other_piece None o1 path bytes piece expected number same read is ne = tt
+other_piece (Some files) o1 path bytes piece expected number same read is ne = λ e. ne (subst (λ x. IfSome x (λ files. piece ≡ take 65536 (drop (number * 65536) (contents files path)))) same read ∙ ap (λ b. take 65536 (drop (number * 65536) b)) e ∙ sym is)
+
+-- ---- misuse
+
+pub may_begin : (o : Option Bool) (a : ℕ) → MayMisuse o a a
+may_begin None a = refl
+may_begin (Some true) a = refl
+may_begin (Some false) a = omega arith
+
+pub may_more : (o : Option Bool) (a b c : ℕ) → MayMisuse o a b → MayMisuse o b c → MayMisuse o a c
+may_more None a b c x y = y ∙ x
+may_more (Some true) a b c x y = y ∙ x
+may_more (Some false) a b c x y = omega (arith, x, y)
+
+-- what is told of a piece is told of its slice
+pub told_slice : (o : Option Tree) (path slice piece : List ℕ) (number : ℕ) → slice ≡ piece → IfSome o (λ files. piece ≡ take 65536 (drop (number * 65536) (contents files path))) → IfSome o (λ files. slice ≡ take 65536 (drop (number * 65536) (contents files path)))
+told_slice o path slice piece number e h = subst (λ p. IfSome o (λ files. p ≡ take 65536 (drop (number * 65536) (contents files path)))) (sym e) h
+
+-- more of a file's bytes were taken
+pub taken_on : (o o1 : Option Tree) (path piece : List ℕ) (before after : Judging) (number : ℕ) → o1 ≡ o → IfSome o (λ files. HasTaken before (take (number * 65536) (contents files path))) → IfSome o1 (λ files. piece ≡ take 65536 (drop (number * 65536) (contents files path))) → ((bytes : List ℕ) → HasTaken before bytes → HasTaken after (bytes ++ piece)) → IfSome o (λ files. HasTaken after (take ((number + 1) * 65536) (contents files path)))
+taken_on None o1 path piece before after number same taken read more = tt
+taken_on (Some files) o1 path piece before after number same taken read more =
+    subst (HasTaken after) (ap (λ p. take (number * 65536) (contents files path) ++ p) (subst (λ x. IfSome x (λ files. piece ≡ take 65536 (drop (number * 65536) (contents files path)))) same read) ∙ sym (take-add (number * 65536) 65536 (contents files path)) ∙ ap (λ n. take n (contents files path)) (next_number number)) (more (take (number * 65536) (contents files path)) taken)
+
+pub none_taken : (o : Option Tree) (path : List ℕ) (judging : Judging) → HasTaken judging [] → IfSome o (λ files. HasTaken judging (take (0 * 65536) (contents files path)))
+none_taken None path judging h = tt
+none_taken (Some files) path judging h = h
+
+-- a file stands at a path from which a piece was read
+abbrev pub IsFileAfter : Option Tree → List ℕ → ℕ → Type 0
+IsFileAfter o path number = IfSome o (λ files. 0 < number → IsTrue (is_file (item_at files path)))
+
+pub no_file_yet : (o : Option Tree) (path : List ℕ) → IsFileAfter o path 0
+no_file_yet None path = tt
+no_file_yet (Some files) path = λ h. absurd (omega (arith, h))
+
+pub file_read : (o o1 : Option Tree) (path : List ℕ) (number : ℕ) → o1 ≡ o → IfSome o1 (λ files. IsTrue (is_file (item_at files path))) → IsFileAfter o path number
+file_read None o1 path number same h = tt
+file_read (Some files) o1 path number same h = λ _. subst (λ x. IfSome x (λ files. IsTrue (is_file (item_at files path)))) same h
+
+pub is_file_after : (o : Option Tree) (path : List ℕ) (number : ℕ) → 0 < number → IsFileAfter o path number → IfSome o (λ files. IsTrue (is_file (item_at files path)))
+is_file_after None path number more h = tt
+is_file_after (Some files) path number more h = h more
+
+-- the same, asked of files that are as before
+pub may_go_on : (o o1 : Option Tree) (path : List ℕ) (a b c : ℕ) → o1 ≡ o → MayMisuse (option_map (λ t. is_file (item_at t path)) o) a b → MayMisuse (option_map (λ t. is_file (item_at t path)) o1) b c → MayMisuse (option_map (λ t. is_file (item_at t path)) o) a c
+may_go_on o o1 path a b c same before m = may_more (option_map (λ t. is_file (item_at t path)) o) a b c before (subst (λ x. MayMisuse (option_map (λ t. is_file (item_at t path)) x) b c) same m)
+
+-- what comparing answers
+pub says_other : (o : Option Tree) (path bytes : List ℕ) → IfSome o (λ files. contents files path ≢ bytes) → IfSome o (λ files. IsTrue false ↔ (contents files path ≡ bytes))
+says_other None path bytes ne = tt
+says_other (Some files) path bytes ne = (λ h. absurd (cc), λ e. absurd (ne e))
+
+pub says_same : (o : Option Tree) (path bytes : List ℕ) → IfSome o (λ files. contents files path ≡ bytes) → IfSome o (λ files. IsTrue true ↔ (contents files path ≡ bytes))
+says_same None path bytes e = tt
+says_same (Some files) path bytes e = (λ h. e, λ same. refl)

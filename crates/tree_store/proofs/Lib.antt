@@ -1,0 +1,15 @@
+pub mod Nodes
+pub mod Entries
+pub mod Feeding
+pub mod Fit
+pub mod Fitting
+pub mod Kept
+pub mod Laid
+pub mod Overlays
+pub mod Places
+pub mod Pieces
+pub mod Puts
+pub mod Roots
+pub mod Standing
+pub mod StorePaths
+pub mod Ways

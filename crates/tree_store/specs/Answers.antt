@@ -1,0 +1,80 @@
+-- What a call on trees in files answers.
+use Rattle.std.specs.Prelude.{ℕ, Bool, true, false, ◌≡◌, ◌≤◌, List, Result, Ok, Err}
+use Rattle.cnb_world.specs.Calls.{Rose}
+use Rattle.cnb_world.specs.declared.world.FileFault.{FileFault}
+use Rattle.cnb_world.specs.declared.world.Kind.{Kind}
+use Rattle.cnb_world.specs.declared.world.Kind.TheVariants as kind
+use Rattle.cnb_world.specs.declared.world.FileFault.TheVariants as file_fault
+use Rattle.tree_store.specs.declared.fault.StoreFault.{StoreFault}
+use Rattle.tree_store.specs.declared.fault.StoreFault.TheVariants.{OddFile, Limit, File, NoTree, Damaged, Clash, Memory}
+
+-- a refusal that may come anyway: the outside failed, or memory ran out
+abbrev pub is_free : StoreFault → Bool
+is_free (File path) = true
+is_free Memory = true
+is_free (OddFile path) = false
+is_free (Limit kind) = false
+is_free (NoTree digest) = false
+is_free (Damaged asked found bad) = false
+is_free (Clash digest) = false
+
+abbrev pub Unless : Bool → Type 0 → Type 0
+Unless true P = Unit {0}
+Unless false P = P
+
+-- an answer is this one, unless the outside failed or memory ran out
+abbrev pub Reads : {T : Type 0} → Result T StoreFault → Result T StoreFault → Type 0
+Reads (Ok value) want = want ≡ Ok value
+Reads (Err fault) want = Unless (is_free fault) (want ≡ Err fault)
+
+-- `File` comes where the count rose
+abbrev pub CountsFault : StoreFault → ℕ → ℕ → Type 0
+CountsFault (File path) before now = Rose before now
+CountsFault Memory before now = before ≤ now
+CountsFault (OddFile path) before now = now ≡ before
+CountsFault (Limit kind) before now = now ≡ before
+CountsFault (NoTree digest) before now = now ≡ before
+CountsFault (Damaged asked found bad) before now = now ≡ before
+CountsFault (Clash digest) before now = now ≡ before
+
+abbrev pub CountsStore : {T : Type 0} → Result T StoreFault → ℕ → ℕ → Type 0
+CountsStore (Ok value) before now = now ≡ before
+CountsStore (Err fault) before now = CountsFault fault before now
+
+abbrev pub IsBlamed : List ℕ → StoreFault → Type 0
+IsBlamed path (File blamed) = blamed ≡ path
+IsBlamed path Memory = Unit {0}
+IsBlamed path (OddFile other) = ⊥
+IsBlamed path (Limit kind) = ⊥
+IsBlamed path (NoTree digest) = ⊥
+IsBlamed path (Damaged asked found bad) = ⊥
+IsBlamed path (Clash digest) = ⊥
+
+-- a call on a path that failed is a refusal of that path, or memory ran out
+abbrev pub Blames : List ℕ → FileFault → StoreFault → Type 0
+Blames path file_fault.Failed refusal = IsBlamed path refusal
+Blames path file_fault.Memory refusal = refusal ≡ Memory
+
+abbrev pub is_odd_file : List ℕ → StoreFault → Type 0
+is_odd_file path (OddFile odd) = odd ≡ path
+is_odd_file path Memory = Unit {0}
+is_odd_file path (File blamed) = ⊥
+is_odd_file path (Limit kind) = ⊥
+is_odd_file path (NoTree digest) = ⊥
+is_odd_file path (Damaged asked found bad) = ⊥
+is_odd_file path (Clash digest) = ⊥
+
+-- what a kind is
+abbrev pub is_file_kind : Kind → Bool
+is_file_kind (kind.File exec len) = true
+is_file_kind kind.Absent = false
+is_file_kind kind.Folder = false
+is_file_kind kind.Link = false
+is_file_kind kind.Odd = false
+
+abbrev pub is_absent_kind : Kind → Bool
+is_absent_kind kind.Absent = true
+is_absent_kind (kind.File exec len) = false
+is_absent_kind kind.Folder = false
+is_absent_kind kind.Link = false
+is_absent_kind kind.Odd = false

@@ -1,0 +1,17 @@
+//! Trees in files: reading a folder as a tree, laying a tree over files, and a store that keeps trees under their digests.
+#![tactic(auto)]
+
+mod fault;
+mod folders;
+mod judging;
+mod laying;
+mod reading;
+mod store;
+#[cfg(test)]
+mod tests;
+
+pub use fault::StoreFault;
+pub use folders::{check_tree, lay_stored, put_folder};
+pub use laying::write_tree;
+pub use reading::read_tree;
+pub use store::{get, has, put};

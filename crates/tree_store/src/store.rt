@@ -1,0 +1,313 @@
+// The store of trees: each tree's bytes in a file that is named after their digest.
+ghost use Rattle.std.specs.Prelude.{◌≡◌, ◌≤◌, ◌+◌, ◌*◌, ◌-◌, ◌<◌, ◌↔◌, IfErr, IfOk, IfSome, IsTrue, Ok, OnOk, OnErr, length, take, drop, is_some, not, false, ℕ};
+ghost use Rattle.std.specs.Option.{option_map};
+ghost use Rattle.sha2.specs.Sha256.{sha256};
+ghost use Rattle.cnb_world.specs.Calls.{MayMisuse};
+ghost use Rattle.cnb_world.specs.Path.{is_path, beside};
+ghost use Rattle.cnb_world.specs.Tree.{item_at, is_file, is_file_or_absent, is_root, bytes_of};
+ghost use Rattle.cnb_world.specs.Whole.{can_write, written, LeavesPart};
+ghost use Rattle.tree_canon.specs.Spelling.{spelling_of};
+ghost use Rattle.tree_store.specs.Answers.{Reads, CountsStore, is_free, is_file_kind, is_absent_kind};
+ghost use Rattle.tree_store.specs.Store.{tree_path, tree_put, kept_or_written, Gets, IsJudgedTree, Keeps, Puts, LeavesStore};
+
+use crate::fault::{StoreFault, blamed};
+use crate::judging::Judging;
+use crate::reading::kind_at;
+use cnb_world::{Bytes, Kind, Memory, Path, World, write_whole};
+use std::alloc::Global;
+use tree_canon::{Digest, Judged, Tree, encode};
+
+/// How many bytes are read at once.
+const PIECE: u64 = 65536;
+
+// The path of a tree's file.
+fn tree_file(alloc: Global, store: &Path, digest: &Digest) -> Result<Path, Memory>
+    requires { length store.now ≤ 8192 }
+    ensures path { IfOk result (λ path. path ≡ tree_path store.now digest.now) }
+    ensures beside { IfOk result (λ path. IsTrue (is_path (beside path))) }
+    ensures not_root { IfOk result (λ path. is_root path ≡ false) }
+{
+    let trees = store.below(alloc, "trees")?;
+    let name = digest.text(alloc)?;
+    let path = trees.below(alloc, name.as_str())?;
+    Ok(path)
+}
+
+fn is_file(kind: Kind) -> bool
+    ensures { result ≡ is_file_kind kind }
+{
+    match kind {
+        Kind::File { exec: _, len: _ } => true,
+        Kind::Absent => false,
+        Kind::Folder => false,
+        Kind::Link => false,
+        Kind::Odd => false,
+    }
+}
+
+fn is_absent(kind: Kind) -> bool
+    ensures { result ≡ is_absent_kind kind }
+{
+    match kind {
+        Kind::Absent => true,
+        Kind::File { exec: _, len: _ } => false,
+        Kind::Folder => false,
+        Kind::Link => false,
+        Kind::Odd => false,
+    }
+}
+
+/// Whether the store has a tree's file.
+#[tactic(auto, using(crate::proofs::Puts::has_told))]
+pub fn has<W: World>(
+    alloc: Global,
+    world: &mut W,
+    store: &Path,
+    digest: &Digest,
+) -> Result<bool, StoreFault>
+    requires { length store.now ≤ 8192 }
+    ensures reads { IfSome (W.tree world.old) (λ files. Reads result (Ok (is_file (item_at files (tree_path store.now digest.now))))) }
+    ensures tree { W.tree world.new ≡ W.tree world.old }
+    ensures files { CountsStore result (W.file_faults world.old) (W.file_faults world.new) }
+    ensures children { W.child_faults world.new ≡ W.child_faults world.old }
+    ensures runs { W.runs world.new ≡ W.runs world.old }
+    ensures misused { W.misused world.new ≡ W.misused world.old }
+{
+    let path = tree_file(alloc, store, digest)?;
+    let kind = kind_at(alloc, world, &path)?;
+    Ok(is_file(kind))
+}
+
+// The bytes of the file at a path from a place on, at most as many as are read at once.
+fn read_piece<W: World>(
+    alloc: Global,
+    world: &mut W,
+    path: &Path,
+    at: u64,
+) -> Result<Bytes, StoreFault>
+    ensures told { IfSome (W.tree world.old) (λ files. IfOk result (λ piece. piece ≡ take 65536 (drop at (bytes_of (item_at files path.now))))) }
+    ensures file { IfSome (W.tree world.old) (λ files. OnOk result (IsTrue (is_file (item_at files path.now)))) }
+    ensures free { IfErr result (λ fault. IsTrue (is_free fault)) }
+    ensures tree { W.tree world.new ≡ W.tree world.old }
+    ensures files { CountsStore result (W.file_faults world.old) (W.file_faults world.new) }
+    ensures children { W.child_faults world.new ≡ W.child_faults world.old }
+    ensures runs { W.runs world.new ≡ W.runs world.old }
+    ensures misused { MayMisuse (option_map (λ t. is_file (item_at t path.now)) (W.tree world.old)) (W.misused world.old) (W.misused world.new) }
+{
+    match world.read(path, at, PIECE) {
+        Ok(piece) => Ok(piece),
+        Err(fault) => Err(blamed(alloc, path, fault)),
+    }
+}
+
+// The bytes from a place on, at most as many as are read at once.
+fn piece_of(bytes: &[u8], at: usize) -> &[u8]
+    requires { at ≤ length bytes.now }
+    ensures { result.now ≡ take 65536 (drop at bytes.now) }
+{
+    let rest = &bytes[at..];
+    if rest.len() > PIECE as usize {
+        &rest[..PIECE as usize]
+    } else {
+        rest
+    }
+}
+
+// Whether the file at a path has these bytes.
+fn has_bytes<W: World>(
+    alloc: Global,
+    world: &mut W,
+    path: &Path,
+    bytes: &[u8],
+) -> Result<bool, StoreFault>
+    ensures told { IfSome (W.tree world.old) (λ files. IfOk result (λ same. IsTrue same ↔ (bytes_of (item_at files path.now) ≡ bytes.now))) }
+    ensures file { IfSome (W.tree world.old) (λ files. OnOk result (IsTrue (is_file (item_at files path.now)))) }
+    ensures free { IfErr result (λ fault. IsTrue (is_free fault)) }
+    ensures tree { W.tree world.new ≡ W.tree world.old }
+    ensures files { CountsStore result (W.file_faults world.old) (W.file_faults world.new) }
+    ensures children { W.child_faults world.new ≡ W.child_faults world.old }
+    ensures runs { W.runs world.new ≡ W.runs world.old }
+    ensures misused { MayMisuse (option_map (λ t. is_file (item_at t path.now)) (W.tree world.old)) (W.misused world.old) (W.misused world.new) }
+{
+    for number in 0..bytes.len() / PIECE as usize + 1 {
+        let at = number * PIECE as usize;
+        let piece = read_piece(alloc, world, path, at as u64)?;
+        if piece.as_slice() != piece_of(bytes, at) {
+            return Ok(false);
+        }
+    }
+    Ok(true)
+}
+
+// Whether nothing stands at a path.
+#[tactic(auto, using(crate::proofs::Puts::absent_told))]
+fn is_absent_at<W: World>(alloc: Global, world: &mut W, path: &Path) -> Result<bool, StoreFault>
+    ensures told { IfSome (W.tree world.old) (λ files. IfOk result (λ absent. absent ≡ not (is_some (item_at files path.now)))) }
+    ensures free { IfErr result (λ fault. IsTrue (is_free fault)) }
+    ensures tree { W.tree world.new ≡ W.tree world.old }
+    ensures files { CountsStore result (W.file_faults world.old) (W.file_faults world.new) }
+    ensures children { W.child_faults world.new ≡ W.child_faults world.old }
+    ensures runs { W.runs world.new ≡ W.runs world.old }
+    ensures misused { W.misused world.new ≡ W.misused world.old }
+{
+    let kind = kind_at(alloc, world, path)?;
+    Ok(is_absent(kind))
+}
+
+// Sees that the file at a path has these bytes.
+fn compare<W: World>(
+    alloc: Global,
+    world: &mut W,
+    path: &Path,
+    bytes: &[u8],
+    digest: &Digest,
+) -> Result<(), StoreFault>
+    ensures keeps { IfSome (W.tree world.old) (λ files. Keeps digest.now bytes.now (item_at files path.now) result) }
+    ensures tree { W.tree world.new ≡ W.tree world.old }
+    ensures files { CountsStore result (W.file_faults world.old) (W.file_faults world.new) }
+    ensures children { W.child_faults world.new ≡ W.child_faults world.old }
+    ensures runs { W.runs world.new ≡ W.runs world.old }
+    ensures misused { MayMisuse (option_map (λ t. is_file (item_at t path.now)) (W.tree world.old)) (W.misused world.old) (W.misused world.new) }
+{
+    if has_bytes(alloc, world, path, bytes)? {
+        Ok(())
+    } else {
+        Err(StoreFault::Clash { digest: *digest })
+    }
+}
+
+// The bytes in a new file at a path.
+fn write_new<W: World>(
+    alloc: Global,
+    world: &mut W,
+    path: &Path,
+    bytes: &[u8],
+) -> Result<(), StoreFault>
+    requires beside { IsTrue (is_path (beside path.now)) }
+    requires not_root { is_root path.now ≡ false }
+    ensures ok { OnOk result (W.tree world.new ≡ option_map (written path.now bytes.now) (W.tree world.old)) }
+    ensures err { OnErr result (LeavesPart (W.tree world.old) (W.tree world.new) path.now) }
+    ensures free { IfErr result (λ fault. IsTrue (is_free fault)) }
+    ensures files { CountsStore result (W.file_faults world.old) (W.file_faults world.new) }
+    ensures children { W.child_faults world.new ≡ W.child_faults world.old }
+    ensures runs { W.runs world.new ≡ W.runs world.old }
+    ensures misused { MayMisuse (option_map (can_write path.now) (W.tree world.old)) (W.misused world.old) (W.misused world.new) }
+{
+    match write_whole(alloc, world, path, bytes) {
+        Ok(()) => Ok(()),
+        Err(fault) => Err(blamed(alloc, path, fault)),
+    }
+}
+
+// The bytes in the file at a path, which is written where nothing stands and else compared.
+fn keep<W: World>(
+    alloc: Global,
+    world: &mut W,
+    path: &Path,
+    bytes: &[u8],
+    digest: &Digest,
+) -> Result<(), StoreFault>
+    requires beside { IsTrue (is_path (beside path.now)) }
+    requires not_root { is_root path.now ≡ false }
+    ensures keeps { IfSome (W.tree world.old) (λ files. Keeps digest.now bytes.now (item_at files path.now) result) }
+    ensures ok { OnOk result (W.tree world.new ≡ option_map (kept_or_written path.now bytes.now) (W.tree world.old)) }
+    ensures err { IfErr result (λ fault. LeavesStore fault path.now (W.tree world.old) (W.tree world.new)) }
+    ensures files { CountsStore result (W.file_faults world.old) (W.file_faults world.new) }
+    ensures children { W.child_faults world.new ≡ W.child_faults world.old }
+    ensures runs { W.runs world.new ≡ W.runs world.old }
+    ensures misused { MayMisuse (option_map (can_write path.now) (W.tree world.old)) (W.misused world.old) (W.misused world.new) }
+{
+    if is_absent_at(alloc, world, path)? {
+        write_new(alloc, world, path, bytes)?;
+        return Ok(());
+    }
+    compare(alloc, world, path, bytes, digest)?;
+    Ok(())
+}
+
+/// Puts a tree into the store, as `<store>/trees/<64 digits>`. A tree that is there is left. `Clash` comes where the file
+/// of that name has other bytes.
+pub fn put<W: World>(
+    alloc: Global,
+    world: &mut W,
+    store: &Path,
+    tree: &Tree,
+) -> Result<Digest, StoreFault>
+    requires { length store.now ≤ 8192 }
+    ensures digest { IfOk result (λ digest. digest ≡ sha256 (spelling_of tree.now)) }
+    ensures puts { IfSome (W.tree world.old) (λ files. Puts store.now tree.now files result) }
+    ensures ok { OnOk result (W.tree world.new ≡ option_map (tree_put store.now tree.now) (W.tree world.old)) }
+    ensures err { IfErr result (λ fault. LeavesStore fault (tree_path store.now (sha256 (spelling_of tree.now))) (W.tree world.old) (W.tree world.new)) }
+    ensures files { CountsStore result (W.file_faults world.old) (W.file_faults world.new) }
+    ensures children { W.child_faults world.new ≡ W.child_faults world.old }
+    ensures runs { W.runs world.new ≡ W.runs world.old }
+    ensures misused { MayMisuse (option_map (can_write (tree_path store.now (sha256 (spelling_of tree.now)))) (W.tree world.old)) (W.misused world.old) (W.misused world.new) }
+{
+    let bytes = encode(alloc, tree)?;
+    let digest = Digest::of(bytes.as_slice());
+    let path = tree_file(alloc, store, &digest)?;
+    keep(alloc, world, &path, bytes.as_slice(), &digest)?;
+    Ok(digest)
+}
+
+// The tree of judged bytes.
+fn judged_tree(judged: Judged) -> Result<Tree, StoreFault>
+    ensures { IsJudgedTree judged result }
+{
+    match judged {
+        Judged::Tree(tree) => Ok(tree),
+        Judged::Damaged { asked, found, bad } => Err(StoreFault::Damaged { asked, found, bad }),
+    }
+}
+
+// The tree of the file at a path, which has so many bytes.
+fn read_kept<W: World>(
+    alloc: Global,
+    world: &mut W,
+    path: &Path,
+    len: u64,
+    digest: &Digest,
+) -> Result<Tree, StoreFault>
+    requires len { IfSome (W.tree world.old) (λ files. length (bytes_of (item_at files path.now)) ≤ len) }
+    requires stands { IfSome (W.tree world.old) (λ files. IsTrue (is_some (item_at files path.now))) }
+    ensures gets { IfSome (W.tree world.old) (λ files. Gets digest.now (item_at files path.now) result) }
+    ensures tree { W.tree world.new ≡ W.tree world.old }
+    ensures files { CountsStore result (W.file_faults world.old) (W.file_faults world.new) }
+    ensures children { W.child_faults world.new ≡ W.child_faults world.old }
+    ensures runs { W.runs world.new ≡ W.runs world.old }
+    ensures misused { MayMisuse (option_map (λ t. is_file (item_at t path.now)) (W.tree world.old)) (W.misused world.old) (W.misused world.new) }
+{
+    let mut judging = Judging::new(alloc)?;
+    for number in 0..len / PIECE + 1 {
+        let piece = read_piece(alloc, world, path, number * PIECE)?;
+        judging.take(piece.as_slice())?;
+    }
+    let judged = judging.end(digest)?;
+    judged_tree(judged)
+}
+
+/// The tree that the store has under a digest. The digest of the file's bytes is judged first: `bad` is none where it is
+/// another, and else says why the bytes spell no tree.
+pub fn get<W: World>(
+    alloc: Global,
+    world: &mut W,
+    store: &Path,
+    digest: &Digest,
+) -> Result<Tree, StoreFault>
+    requires { length store.now ≤ 8192 }
+    ensures gets { IfSome (W.tree world.old) (λ files. Gets digest.now (item_at files (tree_path store.now digest.now)) result) }
+    ensures tree { W.tree world.new ≡ W.tree world.old }
+    ensures files { CountsStore result (W.file_faults world.old) (W.file_faults world.new) }
+    ensures children { W.child_faults world.new ≡ W.child_faults world.old }
+    ensures runs { W.runs world.new ≡ W.runs world.old }
+    ensures misused { MayMisuse (option_map (λ t. is_file_or_absent (item_at t (tree_path store.now digest.now))) (W.tree world.old)) (W.misused world.old) (W.misused world.new) }
+{
+    let path = tree_file(alloc, store, digest)?;
+    match kind_at(alloc, world, &path)? {
+        Kind::Absent => Err(StoreFault::NoTree(*digest)),
+        Kind::File { exec: _, len } => read_kept(alloc, world, &path, len, digest),
+        Kind::Folder => read_kept(alloc, world, &path, 0, digest),
+        Kind::Link => read_kept(alloc, world, &path, 0, digest),
+        Kind::Odd => read_kept(alloc, world, &path, 0, digest),
+    }
+}
