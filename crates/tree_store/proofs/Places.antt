@@ -11,7 +11,9 @@ use Rattle.cnb_world.proofs.Trees.{bytes_eq-same}
 use Rattle.cnb_world.proofs.Folders.{not_longer}
 use Rattle.std.proofs.lemmas.List.Folds.{list_any-append}
 use Rattle.cnb_world.proofs.Parents.{has_slash}
-use Rattle.cnb_world.proofs.Listing.{joined_front}
+
+joined_front : (folder name : List ℕ) → joined folder name ≡ joined folder [] ++ name
+joined_front folder name = ap (λ f. f ++ name) (sym (append-nil (cond (bytes_eq folder (47 ∷ [])) folder (folder ++ 47 ∷ []))))
 
 -- at a path or below it
 abbrev pub is_at_or_below : List ℕ → List ℕ → Bool
