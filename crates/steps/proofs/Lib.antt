@@ -1,3 +1,4 @@
+pub mod AnswerLaws
 pub mod AskingLemmas
 pub mod FrameLaws
 pub mod ReadingLaws
