@@ -33,7 +33,7 @@ is_bp_version text = is_release (version_parts text)
 abbrev pub joined_numbers : ℕ → ℕ → ℕ → List ℕ
 joined_numbers major minor patch = decimal major ++ (46 ∷ (decimal minor ++ (46 ∷ decimal patch)))
 
--- three decimal numbers below 2 ^ 64 without leading zeros, joined by dots
+-- a version as it is written: each number in plain decimal digits, and dots between
 abbrev pub IsJoinedNumbers : List ℕ → Type 0
 IsJoinedNumbers text = (major : ℕ) × (minor : ℕ) × (patch : ℕ) × (major < 2 ^ 64) × (minor < 2 ^ 64) × (patch < 2 ^ 64) × (text ≡ joined_numbers major minor patch)
 

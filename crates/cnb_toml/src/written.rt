@@ -13,8 +13,11 @@ use std::alloc::Global;
 use toml::value::Array;
 use toml::{Table, Value};
 
-/// A kind of value that is read as it was written. `is_typed` is what its type says of every value, `is_sound` what
-/// the value must meet besides.
+/// A kind of value that is read as it was written, where it is sound.
+///
+/// `data_of` is what a value is written as; `is_typed` what the type says of every value, and `is_sound` what the value
+/// must meet besides; lists and tables nest at most `nesting` deep in what is written. The laws are that a value reads
+/// back, that what is written holds no date-time that `toml` refuses, and that it nests no deeper than `nesting`.
 pub trait Written: Form {
     ghost use Rattle.std.specs.Prelude.{◌≡◌, ◌≤◌, ℕ, Bool, true, IfOk, OnOk, IsTrue, Ok};
     ghost use Rattle.toml.specs.Data.{Data, depth, has_valid_dates};
@@ -39,7 +42,7 @@ pub trait Written: Form {
     ghost within: { (v : Self.Value) → is_sound v ≡ true → depth (data_of v) ≤ nesting };
 }
 
-/// A kind of table that is read as it was written.
+/// A kind of table that is read as it was written, where its value is sound; its members are as `Written` has them.
 pub trait WrittenTable: TableForm {
     ghost use Rattle.std.specs.Prelude.{◌≡◌, ◌≤◌, ℕ, Bool, true, IfOk, OnOk, IsTrue, Ok};
     ghost use Rattle.toml.specs.Data.{Members, members_depth, members_have_valid_dates};
@@ -65,7 +68,7 @@ pub trait WrittenTable: TableForm {
     ghost within: { (v : Self.Value) → is_sound v ≡ true → members_depth (members_of v) ≤ nesting };
 }
 
-/// A kind of row that is read as it was written, where it may stand behind those before it.
+/// A kind of row that is read as it was written, where it `follows` those before it, which is what its value must meet.
 pub trait WrittenRow: RowForm {
     ghost use Rattle.std.specs.Prelude.{◌≡◌, ◌≤◌, ℕ, Bool, true, List, IfOk, OnOk, IsTrue, Ok};
     ghost use Rattle.toml.specs.Data.{Members, members_depth, members_have_valid_dates};

@@ -32,12 +32,12 @@ pub returns-in_err-write_document-2-clause-step : goal.returns-in_err-write_docu
 unfolding writes_choice
 returns-in_err-write_document-2-clause-step g c =
     let exit = err_from_is_err_and c.from_residual-in_err-write_document-2.result c.from_residual-in_err-write_document-2.ensures.1 in
-    rw (exit.1, exit.2) (went _ _ _ _ _ _ _ (written_so g.W.World _ _ _ _ _ _ (ap group_in c.as_slice.ensures ∙ c.in_ok-group_bytes.ensures c.requires.group) c.in_ok-write_document.ensures.ok c.in_ok-write_document.ensures.runs c.in_ok-write_document.ensures.misused) (ended _ _ _ _ _ (write_refused g.W.World _ _ _ _ _ _ c.in_err-write_document-2.ensures.cause c.in_err-write_document-2.ensures.err c.in_err-write_document-2.ensures.runs c.in_err-write_document-2.ensures.misused)))
+    rw (exit.1, exit.2) (went _ _ _ _ _ _ _ (written_so g.W.World _ _ _ _ _ _ (ap group_in c.as_slice.ensures ∙ c.in_ok-group_bytes.ensures.reads_back c.requires.group) c.in_ok-write_document.ensures.ok c.in_ok-write_document.ensures.runs c.in_ok-write_document.ensures.misused) (ended _ _ _ _ _ (write_refused g.W.World _ _ _ _ _ _ c.in_err-write_document-2.ensures.cause c.in_err-write_document-2.ensures.err c.in_err-write_document-2.ensures.runs c.in_err-write_document-2.ensures.misused)))
 
 pub returns-clause-step : goal.returns-clause-step
 unfolding writes_choice
 returns-clause-step g c =
-    went _ _ _ _ _ _ _ (written_so g.W.World _ _ _ _ _ _ (ap group_in c.as_slice.ensures ∙ c.in_ok-group_bytes.ensures c.requires.group) c.in_ok-write_document.ensures.ok c.in_ok-write_document.ensures.runs c.in_ok-write_document.ensures.misused) (went _ _ _ _ _ _ _ (written_so g.W.World _ _ _ _ _ _ (ap plan_in c.as_slice-2.ensures ∙ c.in_ok-plan_bytes.ensures c.requires.plan) c.in_ok-write_document-2.ensures.ok c.in_ok-write_document-2.ensures.runs c.in_ok-write_document-2.ensures.misused) (yielded DetectRefusal _ _))
+    went _ _ _ _ _ _ _ (written_so g.W.World _ _ _ _ _ _ (ap group_in c.as_slice.ensures ∙ c.in_ok-group_bytes.ensures.reads_back c.requires.group) c.in_ok-write_document.ensures.ok c.in_ok-write_document.ensures.runs c.in_ok-write_document.ensures.misused) (went _ _ _ _ _ _ _ (written_so g.W.World _ _ _ _ _ _ (ap plan_in c.as_slice-2.ensures ∙ c.in_ok-plan_bytes.ensures.reads_back c.requires.plan) c.in_ok-write_document-2.ensures.ok c.in_ok-write_document-2.ensures.runs c.in_ok-write_document-2.ensures.misused) (yielded DetectRefusal _ _))
 
 pub returns-in_err-group_bytes-clause-spawners : goal.returns-in_err-group_bytes-clause-spawners
 returns-in_err-group_bytes-clause-spawners g c counts =
