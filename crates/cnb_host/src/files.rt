@@ -9,8 +9,8 @@ use crate::fault::HostFault;
 use cnb_world::{Bytes, Kind, Text};
 use std::alloc::Global;
 use std::fs::{Metadata, OpenFile, OpenOptions};
-use std::io::{ErrorKind, Read, Seek, SeekFrom, Write};
-use std::os::unix::fs::{MetadataExt, OpenOptionsExt, symlink};
+use std::io::{ErrorKind, Write};
+use std::os::unix::fs::{FileExt, MetadataExt, OpenOptionsExt, symlink};
 use std::rt::Files;
 use std::{fs, io};
 
@@ -48,16 +48,22 @@ pub fn read_part<R: Files>(
     at: u64,
     max: u64,
 ) -> Result<Bytes, HostFault>
+where
+    R::File: FileExt,
     ensures bound { IfOk result (λ bytes. length bytes ≤ max) }
 {
     let mut options = OpenOptions::new();
     options.read(true);
-    let mut file = open_regular(rt, &options, path)?;
-    file.seek(SeekFrom::Start(at))?;
-    read_at_most(alloc, &mut file, max)
+    let (file, opened) = open_regular(rt, &options, path)?;
+    read_at_most(alloc, &file, at, opened.len().saturating_sub(at).min(max))
 }
 
-fn open_regular<R: Files>(rt: &R, options: &OpenOptions, path: &str) -> Result<R::File, HostFault> {
+// The file, and what the system says of it once it is open.
+fn open_regular<R: Files>(
+    rt: &R,
+    options: &OpenOptions,
+    path: &str,
+) -> Result<(R::File, Metadata), HostFault> {
     let found = fs::symlink_metadata(rt, path)?;
     if !found.is_file() {
         return Err(HostFault::Failed);
@@ -67,43 +73,38 @@ fn open_regular<R: Files>(rt: &R, options: &OpenOptions, path: &str) -> Result<R
     if opened.dev() != found.dev() || opened.ino() != found.ino() {
         return Err(HostFault::Failed);
     }
-    Ok(file)
+    Ok((file, opened))
 }
 
-const PIECE: usize = 16384;
-
-pub fn read_at_most<F: Read>(alloc: Global, file: &mut F, max: u64) -> Result<Bytes, HostFault>
+/// The bytes of a file from `at` on, at most `max` of them, into room for `max`.
+pub fn read_at_most<F: FileExt>(
+    alloc: Global,
+    file: &F,
+    at: u64,
+    max: u64,
+) -> Result<Bytes, HostFault>
     ensures bound { IfOk result (λ bytes. length bytes ≤ max) }
 {
-    let mut bytes = Vec::new(alloc);
-    let mut piece = [0u8; PIECE];
-    for _ in 0..u64::MAX {
-        let left = max - bytes.len() as u64;
-        let count = read_piece(file, &mut piece, left)?;
-        if count == 0 {
-            return Ok(Bytes::from_vec(bytes));
-        }
-        bytes.extend_from_slice(&piece[..count])?;
-    }
-    Err(HostFault::Failed)
+    let mut bytes = vec![in alloc; 0u8; max as usize]?;
+    let count = fill_from(file, bytes.as_mut_slice(), at)?;
+    bytes.truncate(count);
+    Ok(Bytes::from_vec(bytes))
 }
 
-// Reads some bytes, at most `left` of them: none only at the file's end, or where `left` is none.
-fn read_piece<F: Read>(file: &mut F, piece: &mut [u8], left: u64) -> Result<usize, HostFault>
-    ensures bound { IfOk result (λ count. count ≤ left) }
-    ensures fits { IfOk result (λ count. count ≤ length piece.new) }
+// Fills the room with the file's bytes from `at` on, and answers how many there were: fewer only at the file's end.
+fn fill_from<F: FileExt>(file: &F, room: &mut [u8], at: u64) -> Result<usize, HostFault>
+    ensures within { IfOk result (λ count. count ≤ length room.new) }
 {
-    let room = left.min(piece.len() as u64) as usize;
-    if room == 0 {
-        return Ok(0);
-    }
+    let mut count = 0;
     for _ in 0..u64::MAX {
-        match file.read(&mut piece[..room]) {
-            Ok(count) => return Ok(count),
-            Err(error) => match error.kind() {
-                ErrorKind::Interrupted => {}
-                _ => return Err(HostFault::from(error)),
-            },
+        if count == room.len() {
+            return Ok(count);
+        }
+        match file.read_at(&mut room[count..], at.saturating_add(count as u64)) {
+            Ok(0) => return Ok(count),
+            Ok(more) => count += more,
+            Err(error) if error.kind() == ErrorKind::Interrupted => {}
+            Err(error) => return Err(HostFault::from(error)),
         }
     }
     Err(HostFault::Failed)
@@ -144,7 +145,8 @@ fn create_new(rt: &impl Files, path: &str, mode: u32) -> Result<(), HostFault> {
 pub fn append_bytes(rt: &impl Files, path: &str, bytes: &[u8]) -> Result<(), HostFault> {
     let mut options = OpenOptions::new();
     options.append(true);
-    open_regular(rt, &options, path)?.write_all(bytes)?;
+    let (mut file, _) = open_regular(rt, &options, path)?;
+    file.write_all(bytes)?;
     Ok(())
 }
 

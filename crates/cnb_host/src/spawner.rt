@@ -8,6 +8,7 @@ use crate::fault::HostFault;
 use crate::files::{fresh_file, make_folders, read_part};
 use cnb_world::{Bytes, DetectFault, DetectJob, Probed, Spawner, parent_text};
 use std::marker::Model;
+use std::os::unix::fs::FileExt;
 use std::process::Processes;
 use std::rt::Files;
 
@@ -61,6 +62,8 @@ impl<R: Files + Processes + AllocGlobal + Drop> HostSpawner<R> {
 
     // Takes the memory for the child's row before the child starts.
     fn run_job(&mut self, job: &DetectJob) -> Result<Probed, HostFault>
+    where
+        R::File: FileExt,
         ensures ok { IfOk result (λ probed. self.new.runs ≡ self.old.runs ++ record { job = job.now; probed = probed } ∷ []) }
         ensures bound { IfOk result (λ probed. length probed.plan ≤ 1048577) }
         ensures err { OnErr result (self.new.runs ≡ self.old.runs) }
@@ -98,7 +101,10 @@ impl<R: Files + Processes + AllocGlobal + Drop> HostSpawner<R> {
     }
 }
 
-impl<R: Files + Processes + AllocGlobal + Drop> Spawner for HostSpawner<R> {
+impl<R: Files + Processes + AllocGlobal + Drop> Spawner for HostSpawner<R>
+where
+    R::File: FileExt,
+{
     ghost use Rattle.std.specs.Prelude.{None};
 
     ghost runs = { λ spawner. spawner.runs };

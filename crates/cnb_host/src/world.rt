@@ -13,6 +13,7 @@ use crate::files::{
 use crate::names::names_in;
 use cnb_world::{Bytes, ChildFault, ChildJob, End, FileFault, Kind, List, Path, Text, World};
 use std::marker::Model;
+use std::os::unix::fs::FileExt;
 use std::process::Processes;
 use std::rt::Files;
 
@@ -119,7 +120,10 @@ impl<R: Files + Processes + AllocGlobal + Clone + Drop> HostWorld<R> {
     }
 }
 
-impl<R: Files + Processes + AllocGlobal + Clone + Drop> World for HostWorld<R> {
+impl<R: Files + Processes + AllocGlobal + Clone + Drop> World for HostWorld<R>
+where
+    R::File: FileExt,
+{
     ghost tree = { λ _. None };
 
     ghost file_faults = { λ world. world.file_faults };

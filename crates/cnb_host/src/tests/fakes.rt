@@ -4,33 +4,49 @@ use crate::StdoutSink;
 use crate::fault::HostFault;
 use crate::files::read_at_most;
 use cnb_world::{Sink, SinkFault};
+use std::cell::Cell;
 use std::fmt::Display;
 use std::io;
-use std::io::{ErrorKind, Read};
+use std::io::ErrorKind;
+use std::os::unix::fs::FileExt;
 use std::test::Fail;
 
-// Gives two bytes, then an interruption, then a failure, then more.
+// Gives two bytes, then an interruption, then a failure at the bytes behind 3, and ends at 9.
 #[derive(Drop)]
 struct Broken {
-    reads: u8,
+    reads: Cell<u8>,
 }
 
-impl Read for Broken {
-    fn read(&mut self, buf: &mut [u8]) -> io::Result<usize> {
-        self.reads = self.reads.saturating_add(1);
-        match self.reads {
-            2 => Err(io::Error::from(ErrorKind::Interrupted)),
-            3 => Err(io::Error::from(ErrorKind::TimedOut)),
+impl FileExt for Broken {
+    fn read_at(&self, buf: &mut [u8], offset: u64) -> io::Result<usize> {
+        self.reads.set(self.reads.get().saturating_add(1));
+        match (self.reads.get(), offset) {
+            (2, _) => Err(io::Error::from(ErrorKind::Interrupted)),
+            (_, 4) => Err(io::Error::from(ErrorKind::TimedOut)),
+            (_, 9) => Ok(0),
             _ => Ok(buf.len().min(2)),
         }
+    }
+
+    fn write_at(&self, _buf: &[u8], _offset: u64) -> io::Result<usize> {
+        Ok(0)
     }
 }
 
 #[test]
 fn a_failed_read_gives_no_bytes(rt: HostRuntime) -> Result<(), Fail> {
-    for (max, want) in [(1, Ok(1)), (2, Ok(2)), (3, Err(HostFault::Failed))] {
-        let bytes = read_at_most(rt.alloc(), &mut Broken { reads: 0 }, max);
-        assert_eq!(rt; bytes.map(|b| b.as_slice().len()), want, "{max}");
+    for (at, max, want) in [
+        (0, 0, Ok(0)),
+        (0, 1, Ok(1)),
+        (0, 4, Ok(4)),
+        (0, 5, Err(HostFault::Failed)),
+        (5, 9, Ok(4)),
+    ] {
+        let file = Broken {
+            reads: Cell::new(0),
+        };
+        let bytes = read_at_most(rt.alloc(), &file, at, max);
+        assert_eq!(rt; bytes.map(|b| b.as_slice().len()), want, "{max} from {at}");
     }
     Ok(())
 }
