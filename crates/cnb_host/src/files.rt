@@ -70,7 +70,7 @@ fn open_regular<R: Files>(
     }
     let file = options.open(rt, path)?;
     let opened = file.metadata()?;
-    if opened.dev() != found.dev() || opened.ino() != found.ino() {
+    if !is_same_file(&found, &opened) {
         return Err(HostFault::Failed);
     }
     Ok((file, opened))
@@ -114,31 +114,47 @@ const EXECUTABLE: u32 = 0o755;
 
 const PLAIN: u32 = 0o644;
 
-/// Makes an empty file, in place of a regular file that stands there.
-pub fn create_file(rt: &impl Files, path: &str, exec: bool) -> Result<(), HostFault> {
+/// Makes an empty file and opens it, in place of a regular file that stands there.
+pub fn create_file<R: Files>(rt: &R, path: &str, exec: bool) -> Result<R::File, HostFault> {
+    let mode = if exec { EXECUTABLE } else { PLAIN };
+    if let Some(file) = make_new(rt, path, mode)? {
+        return Ok(file);
+    }
     match kind_at(rt, path)? {
         Kind::Absent => {}
         Kind::File { .. } => fs::remove_file(rt, path)?,
         Kind::Folder | Kind::Link | Kind::Odd => return Err(HostFault::Failed),
     }
-    create_new(rt, path, if exec { EXECUTABLE } else { PLAIN })
+    make_new(rt, path, mode)?.ok_or(HostFault::Failed)
 }
 
 /// Makes an empty file in place of anything but a folder: a link there is taken away and not written through.
-pub fn fresh_file(rt: &impl Files, path: &str) -> Result<(), HostFault> {
+pub fn fresh_file<R: Files>(rt: &R, path: &str) -> Result<(), HostFault> {
+    if make_new(rt, path, PLAIN)?.is_some() {
+        return Ok(());
+    }
     match kind_at(rt, path)? {
         Kind::Absent => {}
         Kind::File { .. } | Kind::Link | Kind::Odd => fs::remove_file(rt, path)?,
         Kind::Folder => return Err(HostFault::Failed),
     }
-    create_new(rt, path, PLAIN)
+    match make_new(rt, path, PLAIN)? {
+        Some(_) => Ok(()),
+        None => Err(HostFault::Failed),
+    }
 }
 
-fn create_new(rt: &impl Files, path: &str, mode: u32) -> Result<(), HostFault> {
+// Makes an empty file and opens it, where nothing stands.
+fn make_new<R: Files>(rt: &R, path: &str, mode: u32) -> Result<Option<R::File>, HostFault> {
     let mut options = OpenOptions::new();
-    options.write(true).create_new(true).mode(mode);
-    options.open(rt, path)?;
-    Ok(())
+    options.append(true).create_new(true).mode(mode);
+    match options.open(rt, path) {
+        Ok(file) => Ok(Some(file)),
+        Err(error) => match error.kind() {
+            ErrorKind::AlreadyExists => Ok(None),
+            _ => Err(HostFault::from(error)),
+        },
+    }
 }
 
 /// Adds bytes to the regular file at a path.
@@ -159,12 +175,39 @@ pub fn make_folders(rt: &impl Files, path: &str) -> Result<(), HostFault> {
     }
 }
 
-/// Gives a regular file a new name, in place of a regular file that has it.
-pub fn rename_file(rt: &impl Files, old: &str, new: &str) -> Result<(), HostFault> {
-    match (kind_at(rt, old)?, kind_at(rt, new)?) {
-        (Kind::File { .. }, Kind::File { .. } | Kind::Absent) => Ok(fs::rename(rt, old, new)?),
-        _ => Err(HostFault::Failed),
+/// Gives a regular file a new name, in place of a regular file that has it, once what it holds has reached the disk.
+pub fn rename_file<R: Files>(rt: &R, old: &str, new: &str) -> Result<(), HostFault> {
+    let mut options = OpenOptions::new();
+    options.read(true);
+    let (file, _) = open_regular(rt, &options, old)?;
+    put_in_place(rt, &file, old, new)
+}
+
+/// Does the same for a file that is open already.
+pub fn rename_open<R: Files>(
+    rt: &R,
+    file: &R::File,
+    old: &str,
+    new: &str,
+) -> Result<(), HostFault> {
+    let found = fs::symlink_metadata(rt, old)?;
+    if !is_same_file(&found, &file.metadata()?) {
+        return Err(HostFault::Failed);
     }
+    put_in_place(rt, file, old, new)
+}
+
+fn put_in_place<R: Files>(rt: &R, file: &R::File, old: &str, new: &str) -> Result<(), HostFault> {
+    match kind_at(rt, new)? {
+        Kind::File { .. } | Kind::Absent => {}
+        Kind::Folder | Kind::Link | Kind::Odd => return Err(HostFault::Failed),
+    }
+    file.sync_data()?;
+    Ok(fs::rename(rt, old, new)?)
+}
+
+fn is_same_file(found: &Metadata, opened: &Metadata) -> bool {
+    found.is_file() && opened.dev() == found.dev() && opened.ino() == found.ino()
 }
 
 /// Makes a link, where nothing stands.

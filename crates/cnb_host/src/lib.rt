@@ -8,6 +8,7 @@
 mod command;
 mod fault;
 mod files;
+mod kept;
 mod names;
 mod process;
 mod sink;

@@ -6,10 +6,8 @@ ghost use Rattle.cnb_host.specs.System.{runs_of};
 
 use crate::command::child_command;
 use crate::fault::HostFault;
-use crate::files::{
-    append_bytes, create_file, kind_at, link_target, make_folders, make_link_at, read_part,
-    remove_at, rename_file,
-};
+use crate::files::{kind_at, link_target, make_folders, make_link_at, read_part, remove_at};
+use crate::kept::KeptFile;
 use crate::names::names_in;
 use cnb_world::{Bytes, ChildFault, ChildJob, End, FileFault, Kind, List, Path, Text, World};
 use std::marker::Model;
@@ -23,6 +21,7 @@ use std::rt::Files;
 #[derive(Drop)]
 pub struct HostWorld<R: Files + Processes + AllocGlobal + Clone + Drop> {
     rt: R,
+    kept: KeptFile<R>,
     runs: Vec<Row>,
     file_faults: u64,
     child_faults: u64,
@@ -60,6 +59,7 @@ impl<R: Files + Processes + AllocGlobal + Clone + Drop> HostWorld<R> {
         let runs = Vec::new(rt.alloc());
         HostWorld {
             rt,
+            kept: KeptFile::none(),
             runs,
             file_faults: 0,
             child_faults: 0,
@@ -152,12 +152,12 @@ where
     }
 
     fn create(&mut self, path: &Path, exec: bool) -> Result<(), FileFault> {
-        let created = create_file(&self.rt, path.as_str(), exec);
+        let created = self.kept.create(&self.rt, self.rt.alloc(), path, exec);
         self.counted(created)
     }
 
     fn append(&mut self, path: &Path, bytes: &[u8]) -> Result<(), FileFault> {
-        let appended = append_bytes(&self.rt, path.as_str(), bytes);
+        let appended = self.kept.append(&self.rt, path, bytes);
         self.counted(appended)
     }
 
@@ -167,7 +167,7 @@ where
     }
 
     fn rename(&mut self, old: &Path, new: &Path) -> Result<(), FileFault> {
-        let renamed = rename_file(&self.rt, old.as_str(), new.as_str());
+        let renamed = self.kept.rename(&self.rt, old, new);
         self.counted(renamed)
     }
 
@@ -182,11 +182,13 @@ where
     }
 
     fn remove(&mut self, path: &Path) -> Result<(), FileFault> {
+        self.kept.close();
         let removed = remove_at(&self.rt, path.as_str());
         self.counted(removed)
     }
 
     fn run(&mut self, job: &ChildJob) -> Result<End, ChildFault> {
+        self.kept.close();
         let outcome = self.run_job(job);
         self.counted_end(outcome)
     }

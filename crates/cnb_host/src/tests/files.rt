@@ -136,6 +136,27 @@ fn lists_and_renames(rt: HostRuntime) -> Result<(), Fail> {
 }
 
 #[test]
+fn renames_what_it_made_and_nothing_else(rt: HostRuntime) -> Result<(), Fail> {
+    enter_folder(&rt)?;
+    let mut world = HostWorld::new(rt);
+    let (made, place) = (path_to(&rt, "made")?, path_to(&rt, "place")?);
+    world.create(&made, false)?;
+    world.append(&made, b"abc")?;
+    world.append(&made, b"de")?;
+    world.rename(&made, &place)?;
+    assert_eq!(rt; fs::read_to_string(&rt, "place")?.as_str(), "abcde");
+    assert_eq!(rt; world.kind(&made)?, Kind::Absent);
+    world.create(&made, false)?;
+    fs::remove_file(&rt, "made")?;
+    fs::write(&rt, "made", "other")?;
+    world.append(&made, b"lost")?;
+    assert_eq!(rt; world.rename(&made, &place).err(), Some(FileFault::Failed));
+    assert_eq!(rt; fs::read_to_string(&rt, "made")?.as_str(), "other");
+    assert_eq!(rt; fs::read_to_string(&rt, "place")?.as_str(), "abcde");
+    leave_folder(&rt)
+}
+
+#[test]
 fn lists_no_name_that_is_not_text(rt: HostRuntime) -> Result<(), Fail> {
     enter_folder(&rt)?;
     let mut world = HostWorld::new(rt);
