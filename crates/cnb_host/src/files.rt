@@ -3,7 +3,7 @@
 // A link in the last part of a path is never followed. What stands at a path is looked at before it is opened, so that
 // a pipe or a device is not opened at all, and the opened file is compared with what was looked at. Between the two
 // another process may still put a pipe there, which would be opened and waited for.
-ghost use Rattle.std.specs.Prelude.{◌≤◌, IfOk, length};
+ghost use Rattle.std.specs.Prelude.{◌≤◌, IfOk, IfSome, length};
 
 use crate::fault::HostFault;
 use cnb_world::{Bytes, Kind, Text};
@@ -16,10 +16,17 @@ use std::{fs, io};
 
 /// What stands at a path. Below what is no folder nothing stands.
 pub fn kind_at(rt: &impl Files, path: &str) -> Result<Kind, HostFault> {
+    match look_at(rt, path)? {
+        Some(found) => Ok(kind_of(&found)),
+        None => Ok(Kind::Absent),
+    }
+}
+
+fn look_at(rt: &impl Files, path: &str) -> Result<Option<Metadata>, HostFault> {
     match fs::symlink_metadata(rt, path) {
-        Ok(found) => Ok(kind_of(&found)),
+        Ok(found) => Ok(Some(found)),
         Err(error) => match error.kind() {
-            ErrorKind::NotFound | ErrorKind::NotADirectory => Ok(Kind::Absent),
+            ErrorKind::NotFound | ErrorKind::NotADirectory => Ok(None),
             _ => Err(HostFault::from(error)),
         },
     }
@@ -52,25 +59,54 @@ where
     R::File: FileExt,
     ensures bound { IfOk result (λ bytes. length bytes ≤ max) }
 {
-    let mut options = OpenOptions::new();
-    options.read(true);
-    let (file, opened) = open_regular(rt, &options, path)?;
-    read_at_most(alloc, &file, at, opened.len().saturating_sub(at).min(max))
+    let found = fs::symlink_metadata(rt, path)?;
+    let (file, len) = open_to_read(rt, path, &found)?;
+    read_at_most(alloc, &file, at, len.saturating_sub(at).min(max))
 }
 
-// The file, and what the system says of it once it is open.
-fn open_regular<R: Files>(
+/// The bytes of the regular file at a path, at most `max` of them, where anything stands there.
+pub fn read_if_there<R: Files>(
+    rt: &R,
+    alloc: Global,
+    path: &str,
+    max: u64,
+) -> Result<Option<Bytes>, HostFault>
+where
+    R::File: FileExt,
+    ensures bound { IfOk result (λ found. IfSome found (λ bytes. length bytes ≤ max)) }
+{
+    let Some(found) = look_at(rt, path)? else {
+        return Ok(None);
+    };
+    let (file, len) = open_to_read(rt, path, &found)?;
+    Ok(Some(read_at_most(alloc, &file, 0, len.min(max))?))
+}
+
+// The regular file that was found at a path, opened, and its length.
+fn open_to_read<R: Files>(
+    rt: &R,
+    path: &str,
+    found: &Metadata,
+) -> Result<(R::File, u64), HostFault> {
+    let mut options = OpenOptions::new();
+    options.read(true);
+    let (file, opened) = open_found(rt, &options, path, found)?;
+    Ok((file, opened.len()))
+}
+
+// The regular file that was found at a path, and what the system says of it once it is open.
+fn open_found<R: Files>(
     rt: &R,
     options: &OpenOptions,
     path: &str,
+    found: &Metadata,
 ) -> Result<(R::File, Metadata), HostFault> {
-    let found = fs::symlink_metadata(rt, path)?;
     if !found.is_file() {
         return Err(HostFault::Failed);
     }
     let file = options.open(rt, path)?;
     let opened = file.metadata()?;
-    if !is_same_file(&found, &opened) {
+    if !is_same_file(found, &opened) {
         return Err(HostFault::Failed);
     }
     Ok((file, opened))
@@ -161,7 +197,8 @@ fn make_new<R: Files>(rt: &R, path: &str, mode: u32) -> Result<Option<R::File>, 
 pub fn append_bytes(rt: &impl Files, path: &str, bytes: &[u8]) -> Result<(), HostFault> {
     let mut options = OpenOptions::new();
     options.append(true);
-    let (mut file, _) = open_regular(rt, &options, path)?;
+    let found = fs::symlink_metadata(rt, path)?;
+    let (mut file, _) = open_found(rt, &options, path, &found)?;
     file.write_all(bytes)?;
     Ok(())
 }
@@ -177,9 +214,8 @@ pub fn make_folders(rt: &impl Files, path: &str) -> Result<(), HostFault> {
 
 /// Gives a regular file a new name, in place of a regular file that has it, once what it holds has reached the disk.
 pub fn rename_file<R: Files>(rt: &R, old: &str, new: &str) -> Result<(), HostFault> {
-    let mut options = OpenOptions::new();
-    options.read(true);
-    let (file, _) = open_regular(rt, &options, old)?;
+    let found = fs::symlink_metadata(rt, old)?;
+    let (file, _) = open_to_read(rt, old, &found)?;
     put_in_place(rt, &file, old, new)
 }
 
@@ -195,6 +231,19 @@ pub fn rename_open<R: Files>(
         return Err(HostFault::Failed);
     }
     put_in_place(rt, file, old, new)
+}
+
+/// Puts a file with these bytes at a path, in place of a regular file that stands there. It is written beside its place
+/// and renamed, so that at no time a part of the bytes stands there.
+pub fn replace_file<R: Files + AllocGlobal>(
+    rt: &R,
+    path: &str,
+    bytes: &[u8],
+) -> Result<(), HostFault> {
+    let unfinished = format!(in rt.alloc(); "{path}.new")?;
+    let mut file = create_file(rt, unfinished.as_str(), false)?;
+    file.write_all(bytes)?;
+    rename_open(rt, &file, unfinished.as_str(), path)
 }
 
 fn put_in_place<R: Files>(rt: &R, file: &R::File, old: &str, new: &str) -> Result<(), HostFault> {

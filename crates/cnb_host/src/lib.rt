@@ -1,5 +1,5 @@
-//! The real outside: files, detect children and standard output over std, with the words and the environment of the
-//! process.
+//! The real outside: files, children, caches in folders and standard output over std, with the words and the
+//! environment of the process.
 //!
 //! A contract can't say what a file holds or what a child does. These objects keep what can be said: each failure is
 //! counted, an answer is within its bounds, and a child is handed exactly its job. What the system does is trusted.
@@ -11,12 +11,14 @@ mod files;
 mod kept;
 mod names;
 mod process;
+mod shelf;
 mod sink;
 mod spawner;
 mod world;
 
 pub use command::{child_command, detect_command};
 pub use process::{StartFault, environment, words};
+pub use shelf::FolderShelf;
 pub use sink::StdoutSink;
 pub use spawner::HostSpawner;
 pub use world::HostWorld;

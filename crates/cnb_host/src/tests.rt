@@ -3,6 +3,7 @@
 mod children;
 mod fakes;
 mod files;
+mod shelf;
 mod started;
 
 use cnb_world::Path;

@@ -1,0 +1,151 @@
+// A cache in a folder of the system.
+ghost use Rattle.std.specs.Prelude.{◌≡◌, ◌≤◌, IfOk, IfSome, None, length};
+ghost use Rattle.std.specs.Result.{result_ok};
+ghost use Rattle.cnb_world.specs.Calls.{CountsShelf};
+
+use crate::fault::HostFault;
+use crate::files::{kind_at, make_folders, read_if_there, replace_file};
+use cnb_world::{Bytes, Kind, Path, Shelf, ShelfFault};
+use std::alloc::AllocError;
+use std::marker::Model;
+use std::os::unix::fs::FileExt;
+use std::rt::Files;
+
+/// The most that is handed out of a file: the spelling of a tree is no longer.
+const MOST: u64 = 1073741824;
+
+/// A cache in a folder: the rows document in `rows.toml`, and the bytes under a digest in `trees`, in a file named by
+/// the digest's 64 digits. Contracts see it as the count of the calls that failed. A `rows.toml` that is not there has
+/// no bytes. A file is written beside its place and renamed. The folder is made by the first call that writes.
+#[derive(Drop)]
+pub struct FolderShelf<R: Files + AllocGlobal + Drop> {
+    rt: R,
+    folder: Path,
+    faults: u64,
+}
+
+impl<R: Files + AllocGlobal + Drop> Model for FolderShelf<R> {
+    ghost use Rattle.std.specs.Prelude.{ℕ};
+
+    ghost Value = { ℕ };
+
+    ghost view = { λ shelf. shelf.faults };
+}
+
+impl<R: Files + AllocGlobal + Drop> FolderShelf<R> {
+    pub fn new(rt: R, folder: Path) -> FolderShelf<R>
+        ensures { result ≡ 0 }
+    {
+        FolderShelf {
+            rt,
+            folder,
+            faults: 0,
+        }
+    }
+
+    fn rows_path(&self) -> Result<String, AllocError> {
+        format!(in self.rt.alloc(); "{}/rows.toml", self.folder.as_str())
+    }
+
+    fn trees_path(&self) -> Result<String, AllocError> {
+        format!(in self.rt.alloc(); "{}/trees", self.folder.as_str())
+    }
+
+    fn tree_path(&self, digest: &[u8; 32]) -> Result<String, AllocError> {
+        let digits = hex::encode(self.rt.alloc(), *digest)?;
+        format!(in self.rt.alloc(); "{}/trees/{}", self.folder.as_str(), digits.as_str())
+    }
+
+    fn read_rows(&self) -> Result<Bytes, HostFault>
+    where
+        R::File: FileExt,
+        ensures bound { IfOk result (λ bytes. length bytes ≤ 1073741824) }
+    {
+        let alloc = self.rt.alloc();
+        match read_if_there(&self.rt, alloc, self.rows_path()?.as_str(), MOST)? {
+            Some(bytes) => Ok(bytes),
+            None => Ok(Bytes::from_vec(Vec::new(alloc))),
+        }
+    }
+
+    fn write_rows(&self, bytes: &[u8]) -> Result<(), HostFault> {
+        make_folders(&self.rt, self.folder.as_str())?;
+        replace_file(&self.rt, self.rows_path()?.as_str(), bytes)
+    }
+
+    fn has_tree(&self, digest: &[u8; 32]) -> Result<bool, HostFault> {
+        match kind_at(&self.rt, self.tree_path(digest)?.as_str())? {
+            Kind::Absent => Ok(false),
+            Kind::File { .. } => Ok(true),
+            Kind::Folder | Kind::Link | Kind::Odd => Err(HostFault::Failed),
+        }
+    }
+
+    fn read_tree(&self, digest: &[u8; 32]) -> Result<Option<Bytes>, HostFault>
+    where
+        R::File: FileExt,
+        ensures bound { IfOk result (λ found. IfSome found (λ bytes. length bytes ≤ 1073741824)) }
+    {
+        read_if_there(
+            &self.rt,
+            self.rt.alloc(),
+            self.tree_path(digest)?.as_str(),
+            MOST,
+        )
+    }
+
+    fn write_tree(&self, digest: &[u8; 32], bytes: &[u8]) -> Result<(), HostFault> {
+        make_folders(&self.rt, self.trees_path()?.as_str())?;
+        replace_file(&self.rt, self.tree_path(digest)?.as_str(), bytes)
+    }
+
+    fn counted<T>(&mut self, outcome: Result<T, HostFault>) -> Result<T, ShelfFault>
+        ensures value { result_ok result ≡ result_ok outcome }
+        ensures faults { CountsShelf result self.old self.new }
+    {
+        match outcome {
+            Ok(value) => Ok(value),
+            Err(HostFault::Failed) => {
+                self.faults = self.faults.saturating_add(1);
+                Err(ShelfFault::Failed)
+            }
+            Err(HostFault::Memory) => Err(ShelfFault::Memory),
+        }
+    }
+}
+
+impl<R: Files + AllocGlobal + Drop> Shelf for FolderShelf<R>
+where
+    R::File: FileExt,
+{
+    ghost held = { λ _. None };
+
+    ghost rows = { λ _. None };
+
+    ghost faults = { λ count. count };
+
+    fn rows(&mut self) -> Result<Bytes, ShelfFault> {
+        let rows = self.read_rows();
+        self.counted(rows)
+    }
+
+    fn set_rows(&mut self, bytes: &[u8]) -> Result<(), ShelfFault> {
+        let written = self.write_rows(bytes);
+        self.counted(written)
+    }
+
+    fn has(&mut self, digest: &[u8; 32]) -> Result<bool, ShelfFault> {
+        let found = self.has_tree(digest);
+        self.counted(found)
+    }
+
+    fn get(&mut self, digest: &[u8; 32]) -> Result<Option<Bytes>, ShelfFault> {
+        let bytes = self.read_tree(digest);
+        self.counted(bytes)
+    }
+
+    fn put(&mut self, digest: &[u8; 32], bytes: &[u8]) -> Result<(), ShelfFault> {
+        let written = self.write_tree(digest, bytes);
+        self.counted(written)
+    }
+}
