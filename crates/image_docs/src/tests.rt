@@ -7,6 +7,7 @@ use crate::{
 use cnb_toml::{DocFault, Label, Meta};
 use cnb_world::{Env, List};
 use std::alloc::{AllocError, Global};
+use std::process::Abort;
 use std::test::Fail;
 use tree_canon::Digest;
 
@@ -238,336 +239,318 @@ fn told_document(alloc: Global, document: Document, bytes: &[u8]) -> Result<Stri
     }
 }
 
-const ROWS: [(Document, &str, &str); 78] = [
+const RUN_IMAGES: [(&str, &str); 12] = [
     (
-        Document::Run,
-        "os = \"linux\"\narch = \"amd64\"\nrows = [\"aaaaaaaaaaaaaaaaaaaaaaaaaaaaaaaaaaaaaaaaaaaaaaaaaaaaaaaaaaaaaaaa\", \"0000000000000000000000000000000000000000000000000000000000000000\"]\nenv = [{name = \"A\", value = \"1\"}, {name = \"B\", value = \"\"}]",
-        "linux/amd64 ab A=1;B=;",
-    ),
-    (
-        Document::Run,
         "os = \"linux\"\narch = \"amd64\"\nrows = [\"aaaaaaaaaaaaaaaaaaaaaaaaaaaaaaaaaaaaaaaaaaaaaaaaaaaaaaaaaaaaaaaa\", \"0000000000000000000000000000000000000000000000000000000000000000\"]\n",
         "linux/amd64 ab ",
     ),
-    (Document::Run, "", "Missing os"),
-    (Document::Run, "os = 1", "Wrong os"),
-    (Document::Run, "os = \"Linux\"", "Name os"),
+    ("", "Missing os"),
+    ("os = 1", "Wrong os"),
+    ("os = \"Linux\"", "Name os"),
     (
-        Document::Run,
         "os = \"aaaaaaaaaaaaaaaaaaaaaaaaaaaaaaaaaaaaaaaaaaaaaaaaaaaaaaaaaaaaaaaaa\"",
         "Name os",
     ),
-    (Document::Run, "os = \"a\"", "Missing arch"),
-    (Document::Run, "os = \"a\"\narch = \".b\"", "Name arch"),
-    (Document::Run, "os = \"a\"\narch = \"b\"", "Wrong rows"),
+    ("os = \"a\"", "Missing arch"),
+    ("os = \"a\"\narch = \".b\"", "Name arch"),
+    ("os = \"a\"\narch = \"b\"", "Wrong rows"),
+    ("os = \"a\"\narch = \"b\"\nrows = []", "Wrong rows"),
     (
-        Document::Run,
-        "os = \"a\"\narch = \"b\"\nrows = []",
-        "Wrong rows",
-    ),
-    (
-        Document::Run,
         "os = \"a\"\narch = \"b\"\nrows = [\"aaaaaaaaaaaaaaaaaaaaaaaaaaaaaaaaaaaaaaaaaaaaaaaaaaaaaaaaaaaaaaa\"]",
         "Wrong rows.0",
     ),
     (
-        Document::Run,
         "os = \"a\"\narch = \"b\"\nrows = [\"Aaaaaaaaaaaaaaaaaaaaaaaaaaaaaaaaaaaaaaaaaaaaaaaaaaaaaaaaaaaaaaaa\"]",
         "Wrong rows.0",
     ),
     (
-        Document::Run,
         "os = \"a\"\narch = \"b\"\nrows = [\"aaaaaaaaaaaaaaaaaaaaaaaaaaaaaaaaaaaaaaaaaaaaaaaaaaaaaaaaaaaaaaaa\", 1]",
         "Wrong rows.1",
     ),
+];
+
+const ENVIRONMENTS: [(&str, &str); 10] = [
     (
-        Document::Run,
+        "os = \"linux\"\narch = \"amd64\"\nrows = [\"aaaaaaaaaaaaaaaaaaaaaaaaaaaaaaaaaaaaaaaaaaaaaaaaaaaaaaaaaaaaaaaa\", \"0000000000000000000000000000000000000000000000000000000000000000\"]\nenv = [{name = \"A\", value = \"1\"}, {name = \"B\", value = \"\"}]",
+        "linux/amd64 ab A=1;B=;",
+    ),
+    (
         "os = \"a\"\narch = \"b\"\nrows = [\"aaaaaaaaaaaaaaaaaaaaaaaaaaaaaaaaaaaaaaaaaaaaaaaaaaaaaaaaaaaaaaaa\"]\nenv = 1",
         "Wrong env",
     ),
     (
-        Document::Run,
         "os = \"a\"\narch = \"b\"\nrows = [\"aaaaaaaaaaaaaaaaaaaaaaaaaaaaaaaaaaaaaaaaaaaaaaaaaaaaaaaaaaaaaaaa\"]\nenv = [{name = \"A\"}]",
         "Missing env.0.value",
     ),
     (
-        Document::Run,
         "os = \"a\"\narch = \"b\"\nrows = [\"aaaaaaaaaaaaaaaaaaaaaaaaaaaaaaaaaaaaaaaaaaaaaaaaaaaaaaaaaaaaaaaa\"]\nenv = [{value = \"A\"}]",
         "Missing env.0.name",
     ),
     (
-        Document::Run,
         "os = \"a\"\narch = \"b\"\nrows = [\"aaaaaaaaaaaaaaaaaaaaaaaaaaaaaaaaaaaaaaaaaaaaaaaaaaaaaaaaaaaaaaaa\"]\nenv = [{name = \"B\", value = \"\"}, {name = \"A\", value = \"\"}]",
         "Wrong env",
     ),
     (
-        Document::Run,
         "os = \"a\"\narch = \"b\"\nrows = [\"aaaaaaaaaaaaaaaaaaaaaaaaaaaaaaaaaaaaaaaaaaaaaaaaaaaaaaaaaaaaaaaa\"]\nenv = [{name = \"A\", value = \"\"}, {name = \"A\", value = \"\"}]",
         "Wrong env",
     ),
     (
-        Document::Run,
         "os = \"a\"\narch = \"b\"\nrows = [\"aaaaaaaaaaaaaaaaaaaaaaaaaaaaaaaaaaaaaaaaaaaaaaaaaaaaaaaaaaaaaaaa\"]\nenv = [{name = \"\", value = \"\"}]",
         "Wrong env",
     ),
     (
-        Document::Run,
         "os = \"a\"\narch = \"b\"\nrows = [\"aaaaaaaaaaaaaaaaaaaaaaaaaaaaaaaaaaaaaaaaaaaaaaaaaaaaaaaaaaaaaaaa\"]\nenv = [{name = \"A=\", value = \"\"}]",
         "Wrong env",
     ),
     (
-        Document::Run,
         "os = \"a\"\narch = \"b\"\nrows = [\"aaaaaaaaaaaaaaaaaaaaaaaaaaaaaaaaaaaaaaaaaaaaaaaaaaaaaaaaaaaaaaaa\"]\nenv = [{name = \"A\", value = \"\\u0000\"}]",
         "Wrong env",
     ),
     (
-        Document::Run,
         "os = \"a\"\narch = \"b\"\nrows = [\"aaaaaaaaaaaaaaaaaaaaaaaaaaaaaaaaaaaaaaaaaaaaaaaaaaaaaaaaaaaaaaaa\"]\nenv = [{name = \"A\\u0000\", value = \"\"}]",
         "Wrong env",
     ),
+];
+
+const ANALYZED: [(&str, &str); 8] = [
     (
-        Document::Analyzed,
         "run = \"java-run\"\nos = \"linux\"\narch = \"amd64\"",
         "java-run linux/amd64 none",
     ),
     (
-        Document::Analyzed,
         "run = \"java-run\"\nos = \"linux\"\narch = \"amd64\"\nprevious = \"demo\"",
         "java-run linux/amd64 demo",
     ),
-    (Document::Analyzed, "", "Missing run"),
-    (Document::Analyzed, "run = \"Run\"", "Name run"),
-    (Document::Analyzed, "run = \"r\"\nos = true", "Wrong os"),
+    ("", "Missing run"),
+    ("run = \"Run\"", "Name run"),
+    ("run = \"r\"\nos = true", "Wrong os"),
+    ("run = \"r\"\nos = \"o\"", "Missing arch"),
     (
-        Document::Analyzed,
-        "run = \"r\"\nos = \"o\"",
-        "Missing arch",
-    ),
-    (
-        Document::Analyzed,
         "run = \"r\"\nos = \"o\"\narch = \"a\"\nprevious = \"\"",
         "Name previous",
     ),
     (
-        Document::Analyzed,
         "run = \"r\"\nos = \"o\"\narch = \"a\"\nprevious = 1",
         "Wrong previous",
     ),
-    (Document::Launch, "", "  none"),
+];
+
+const LAUNCHES: [(&str, &str); 6] = [
+    ("", "  none"),
     (
-        Document::Launch,
         "buildpacks = [{id = \"a\", version = \"1.0.0\"}]\nprocesses = [{type = \"web\", command = [\"java\"]}, {type = \"task\", command = [\"x\"]}]\ndefault = \"other\"",
         "a@1.0.0; web;task; other",
     ),
     (
-        Document::Launch,
         "buildpacks = [{id = \"a\"}]",
         "Missing buildpacks.0.version",
     ),
     (
-        Document::Launch,
         "processes = [{type = \"web\", command = [\"java\"]}, {type = \"web\", command = [\"x\"]}]",
         "Wrong processes.1",
     ),
     (
-        Document::Launch,
         "processes = [{type = \"web\", command = [\"java\"]}, {type = \"web\"}]",
         "Wrong processes.1.command",
     ),
-    (Document::Launch, "default = \"a/b\"", "Name default"),
-    (Document::Cache, "", ""),
+    ("default = \"a/b\"", "Name default"),
+];
+
+const CACHES: [(&str, &str); 14] = [
+    ("", ""),
     (
-        Document::Cache,
         "layers = [{id = \"a\", layer = \"l\", cache = true, digest = \"aaaaaaaaaaaaaaaaaaaaaaaaaaaaaaaaaaaaaaaaaaaaaaaaaaaaaaaaaaaaaaaa\", metadata = {k = 1}}, {id = \"a\", layer = \"m\", launch = true, build = true, cache = true, digest = \"0000000000000000000000000000000000000000000000000000000000000000\"}]",
         "a:l false false true a 1;a:m true true true b 0;",
     ),
     (
-        Document::Cache,
         "layers = [{id = \"a\", layer = \"l\", cache = true, digest = \"aaaaaaaaaaaaaaaaaaaaaaaaaaaaaaaaaaaaaaaaaaaaaaaaaaaaaaaaaaaaaaaa\", metadata = {k = 1}}, {id = \"a\", layer = \"l\", cache = true, digest = \"aaaaaaaaaaaaaaaaaaaaaaaaaaaaaaaaaaaaaaaaaaaaaaaaaaaaaaaaaaaaaaaa\", metadata = {k = 1}}]",
         "Wrong layers.1",
     ),
-    (Document::Cache, "layers = [{}]", "Missing layers.0.id"),
+    ("layers = [{}]", "Missing layers.0.id"),
+    ("layers = [{id = \"a_b\"}]", "Name layers.0.id"),
+    ("layers = [{id = \"a\"}]", "Missing layers.0.layer"),
     (
-        Document::Cache,
-        "layers = [{id = \"a_b\"}]",
-        "Name layers.0.id",
-    ),
-    (
-        Document::Cache,
-        "layers = [{id = \"a\"}]",
-        "Missing layers.0.layer",
-    ),
-    (
-        Document::Cache,
         "layers = [{id = \"a\", layer = \"store\"}]",
         "Name layers.0.layer",
     ),
     (
-        Document::Cache,
         "layers = [{id = \"a\", layer = \"l\", launch = 1}]",
         "Wrong layers.0.launch",
     ),
     (
-        Document::Cache,
         "layers = [{id = \"a\", layer = \"l\", build = 1}]",
         "Wrong layers.0.build",
     ),
     (
-        Document::Cache,
         "layers = [{id = \"a\", layer = \"l\"}]",
         "Wrong layers.0.cache",
     ),
     (
-        Document::Cache,
         "layers = [{id = \"a\", layer = \"l\", cache = 1}]",
         "Wrong layers.0.cache",
     ),
     (
-        Document::Cache,
         "layers = [{id = \"a\", layer = \"l\", cache = true}]",
         "Missing layers.0.digest",
     ),
     (
-        Document::Cache,
         "layers = [{id = \"a\", layer = \"l\", cache = true, digest = \"\"}]",
         "Wrong layers.0.digest",
     ),
     (
-        Document::Cache,
         "layers = [{id = \"a\", layer = \"l\", cache = true, digest = \"aaaaaaaaaaaaaaaaaaaaaaaaaaaaaaaaaaaaaaaaaaaaaaaaaaaaaaaaaaaaaaaa\", metadata = {a = 1.5}}]",
         "MetaKind layers.0.metadata.a",
     ),
+];
+
+const IMAGES: [(&str, &str); 14] = [
     (
-        Document::Image,
         "version = 1\nbase = {name = \"java-run\", top = \"aaaaaaaaaaaaaaaaaaaaaaaaaaaaaaaaaaaaaaaaaaaaaaaaaaaaaaaaaaaaaaaa\", os = \"linux\", arch = \"amd64\"}\nrows = [{role = \"run\", place = \"/\", digest = \"aaaaaaaaaaaaaaaaaaaaaaaaaaaaaaaaaaaaaaaaaaaaaaaaaaaaaaaaaaaaaaaa\"}, {role = \"run\", place = \"/x\", digest = \"0000000000000000000000000000000000000000000000000000000000000000\"}, {role = \"layer\", place = \"/layers/a/l\", digest = \"0000000000000000000000000000000000000000000000000000000000000000\"}, {role = \"app\", place = \"/workspace\", digest = \"0000000000000000000000000000000000000000000000000000000000000000\"}, {role = \"launcher\", place = \"/cnb/lifecycle\", digest = \"0000000000000000000000000000000000000000000000000000000000000000\"}, {role = \"process\", place = \"/cnb/process\", digest = \"0000000000000000000000000000000000000000000000000000000000000000\"}]\nenv = [{name = \"A\", value = \"1\"}]\nentrypoint = \"/cnb/process/web\"\nlabels = [{key = \"k\", value = \"v\"}]\nlaunch = {processes = [{type = \"web\", command = [\"java\"]}], default = \"web\"}\nlayers = [{id = \"a\", layer = \"l\", digest = \"aaaaaaaaaaaaaaaaaaaaaaaaaaaaaaaaaaaaaaaaaaaaaaaaaaaaaaaaaaaaaaaa\"}]\nstore = [{id = \"a\", metadata = {k = 1}}]",
         "java-run a linux/amd64 run / a;run /x b;layer /layers/a/l b;app /workspace b;launcher /cnb/lifecycle b;process /cnb/process b; A=1; /cnb/process/web k=v;  web; web a:l false false false a 0; a 1;",
     ),
     (
-        Document::Image,
         "version = 1\nbase = {name = \"java-run\", top = \"aaaaaaaaaaaaaaaaaaaaaaaaaaaaaaaaaaaaaaaaaaaaaaaaaaaaaaaaaaaaaaaa\", os = \"linux\", arch = \"amd64\"}\nrows = [{role = \"run\", place = \"/\", digest = \"aaaaaaaaaaaaaaaaaaaaaaaaaaaaaaaaaaaaaaaaaaaaaaaaaaaaaaaaaaaaaaaa\"}]\nentrypoint = \"/e\"\nlaunch = {}",
         "java-run a linux/amd64 run / a;  /e    none  ",
     ),
-    (Document::Image, "", "Missing version"),
-    (Document::Image, "version = 2", "Wrong version"),
-    (Document::Image, "version = \"1\"", "Wrong version"),
-    (Document::Image, "version = 1", "Missing base"),
-    (Document::Image, "version = 1\nbase = 1", "Wrong base"),
+    ("", "Missing version"),
+    ("version = 2", "Wrong version"),
+    ("version = \"1\"", "Wrong version"),
+    ("version = 1", "Missing base"),
+    ("version = 1\nbase = 1", "Wrong base"),
+    ("version = 1\nbase = {}", "Missing base.name"),
     (
-        Document::Image,
-        "version = 1\nbase = {}",
-        "Missing base.name",
-    ),
-    (
-        Document::Image,
         "version = 1\nbase = {name = \"n\", top = \"t\"}",
         "Wrong base.top",
     ),
     (
-        Document::Image,
         "version = 1\nbase = {name = \"n\", top = \"aaaaaaaaaaaaaaaaaaaaaaaaaaaaaaaaaaaaaaaaaaaaaaaaaaaaaaaaaaaaaaaa\", os = \"\"}",
         "Name base.os",
     ),
     (
-        Document::Image,
         "version = 1\nbase = {name = \"n\", top = \"aaaaaaaaaaaaaaaaaaaaaaaaaaaaaaaaaaaaaaaaaaaaaaaaaaaaaaaaaaaaaaaa\", os = \"o\"}",
         "Missing base.arch",
     ),
     (
-        Document::Image,
         "version = 1\nbase = {name = \"java-run\", top = \"aaaaaaaaaaaaaaaaaaaaaaaaaaaaaaaaaaaaaaaaaaaaaaaaaaaaaaaaaaaaaaaa\", os = \"linux\", arch = \"amd64\"}\n",
         "Wrong rows",
     ),
     (
-        Document::Image,
         "version = 1\nbase = {name = \"java-run\", top = \"aaaaaaaaaaaaaaaaaaaaaaaaaaaaaaaaaaaaaaaaaaaaaaaaaaaaaaaaaaaaaaaa\", os = \"linux\", arch = \"amd64\"}\nrows = []",
         "Wrong rows",
     ),
     (
-        Document::Image,
         "version = 1\nbase = {name = \"java-run\", top = \"aaaaaaaaaaaaaaaaaaaaaaaaaaaaaaaaaaaaaaaaaaaaaaaaaaaaaaaaaaaaaaaa\", os = \"linux\", arch = \"amd64\"}\nrows = [{role = \"base\"}]",
         "Wrong rows.0.role",
     ),
+];
+
+const IMAGES_IN_PARTS: [(&str, &str); 14] = [
     (
-        Document::Image,
         "version = 1\nbase = {name = \"java-run\", top = \"aaaaaaaaaaaaaaaaaaaaaaaaaaaaaaaaaaaaaaaaaaaaaaaaaaaaaaaaaaaaaaaa\", os = \"linux\", arch = \"amd64\"}\nrows = [{role = \"run\", place = \"x\"}]",
         "Name rows.0.place",
     ),
     (
-        Document::Image,
         "version = 1\nbase = {name = \"java-run\", top = \"aaaaaaaaaaaaaaaaaaaaaaaaaaaaaaaaaaaaaaaaaaaaaaaaaaaaaaaaaaaaaaaa\", os = \"linux\", arch = \"amd64\"}\nrows = [{role = \"run\", place = \"/\"}]",
         "Missing rows.0.digest",
     ),
     (
-        Document::Image,
         "version = 1\nbase = {name = \"java-run\", top = \"aaaaaaaaaaaaaaaaaaaaaaaaaaaaaaaaaaaaaaaaaaaaaaaaaaaaaaaaaaaaaaaa\", os = \"linux\", arch = \"amd64\"}\nrows = [{role = \"run\", place = \"/x\", digest = \"0000000000000000000000000000000000000000000000000000000000000000\"}]",
         "Wrong rows",
     ),
     (
-        Document::Image,
         "version = 1\nbase = {name = \"java-run\", top = \"aaaaaaaaaaaaaaaaaaaaaaaaaaaaaaaaaaaaaaaaaaaaaaaaaaaaaaaaaaaaaaaa\", os = \"linux\", arch = \"amd64\"}\nrows = [{role = \"app\", place = \"/\", digest = \"0000000000000000000000000000000000000000000000000000000000000000\"}]",
         "Wrong rows",
     ),
     (
-        Document::Image,
         "version = 1\nbase = {name = \"java-run\", top = \"aaaaaaaaaaaaaaaaaaaaaaaaaaaaaaaaaaaaaaaaaaaaaaaaaaaaaaaaaaaaaaaa\", os = \"linux\", arch = \"amd64\"}\nrows = [{role = \"run\", place = \"/\", digest = \"aaaaaaaaaaaaaaaaaaaaaaaaaaaaaaaaaaaaaaaaaaaaaaaaaaaaaaaaaaaaaaaa\"}, {role = \"app\", place = \"/a\", digest = \"0000000000000000000000000000000000000000000000000000000000000000\"}, {role = \"run\", place = \"/\", digest = \"aaaaaaaaaaaaaaaaaaaaaaaaaaaaaaaaaaaaaaaaaaaaaaaaaaaaaaaaaaaaaaaa\"}]",
         "Wrong rows",
     ),
     (
-        Document::Image,
         "version = 1\nbase = {name = \"java-run\", top = \"aaaaaaaaaaaaaaaaaaaaaaaaaaaaaaaaaaaaaaaaaaaaaaaaaaaaaaaaaaaaaaaa\", os = \"linux\", arch = \"amd64\"}\nrows = [{role = \"run\", place = \"/\", digest = \"aaaaaaaaaaaaaaaaaaaaaaaaaaaaaaaaaaaaaaaaaaaaaaaaaaaaaaaaaaaaaaaa\"}, {role = \"app\", place = \"/a\", digest = \"0000000000000000000000000000000000000000000000000000000000000000\"}, 1]",
         "Wrong rows.2",
     ),
     (
-        Document::Image,
         "version = 1\nbase = {name = \"java-run\", top = \"aaaaaaaaaaaaaaaaaaaaaaaaaaaaaaaaaaaaaaaaaaaaaaaaaaaaaaaaaaaaaaaa\", os = \"linux\", arch = \"amd64\"}\nrows = [{role = \"run\", place = \"/\", digest = \"aaaaaaaaaaaaaaaaaaaaaaaaaaaaaaaaaaaaaaaaaaaaaaaaaaaaaaaaaaaaaaaa\"}]",
         "Missing entrypoint",
     ),
     (
-        Document::Image,
         "version = 1\nbase = {name = \"java-run\", top = \"aaaaaaaaaaaaaaaaaaaaaaaaaaaaaaaaaaaaaaaaaaaaaaaaaaaaaaaaaaaaaaaa\", os = \"linux\", arch = \"amd64\"}\nrows = [{role = \"run\", place = \"/\", digest = \"aaaaaaaaaaaaaaaaaaaaaaaaaaaaaaaaaaaaaaaaaaaaaaaaaaaaaaaaaaaaaaaa\"}]\nentrypoint = \"\"",
         "Name entrypoint",
     ),
     (
-        Document::Image,
         "version = 1\nbase = {name = \"java-run\", top = \"aaaaaaaaaaaaaaaaaaaaaaaaaaaaaaaaaaaaaaaaaaaaaaaaaaaaaaaaaaaaaaaa\", os = \"linux\", arch = \"amd64\"}\nrows = [{role = \"run\", place = \"/\", digest = \"aaaaaaaaaaaaaaaaaaaaaaaaaaaaaaaaaaaaaaaaaaaaaaaaaaaaaaaaaaaaaaaa\"}]\nentrypoint = \"/e\"\n",
         "Missing launch",
     ),
     (
-        Document::Image,
         "version = 1\nbase = {name = \"java-run\", top = \"aaaaaaaaaaaaaaaaaaaaaaaaaaaaaaaaaaaaaaaaaaaaaaaaaaaaaaaaaaaaaaaa\", os = \"linux\", arch = \"amd64\"}\nrows = [{role = \"run\", place = \"/\", digest = \"aaaaaaaaaaaaaaaaaaaaaaaaaaaaaaaaaaaaaaaaaaaaaaaaaaaaaaaaaaaaaaaa\"}]\nentrypoint = \"/e\"\nlabels = [{key = \"\"}]",
         "Wrong labels.0.key",
     ),
     (
-        Document::Image,
         "version = 1\nbase = {name = \"java-run\", top = \"aaaaaaaaaaaaaaaaaaaaaaaaaaaaaaaaaaaaaaaaaaaaaaaaaaaaaaaaaaaaaaaa\", os = \"linux\", arch = \"amd64\"}\nrows = [{role = \"run\", place = \"/\", digest = \"aaaaaaaaaaaaaaaaaaaaaaaaaaaaaaaaaaaaaaaaaaaaaaaaaaaaaaaaaaaaaaaa\"}]\nentrypoint = \"/e\"\nlaunch = {processes = [{type = \"w\", command = [\"c\"]}, {type = \"w\", command = [\"c\"]}]}",
         "Wrong launch.processes.1",
     ),
     (
-        Document::Image,
         "version = 1\nbase = {name = \"java-run\", top = \"aaaaaaaaaaaaaaaaaaaaaaaaaaaaaaaaaaaaaaaaaaaaaaaaaaaaaaaaaaaaaaaa\", os = \"linux\", arch = \"amd64\"}\nrows = [{role = \"run\", place = \"/\", digest = \"aaaaaaaaaaaaaaaaaaaaaaaaaaaaaaaaaaaaaaaaaaaaaaaaaaaaaaaaaaaaaaaa\"}]\nentrypoint = \"/e\"\nlaunch = {}\nlayers = [{id = \"a\", layer = \"l\", digest = \"aaaaaaaaaaaaaaaaaaaaaaaaaaaaaaaaaaaaaaaaaaaaaaaaaaaaaaaaaaaaaaaa\"}, {id = \"a\", layer = \"l\", digest = \"0000000000000000000000000000000000000000000000000000000000000000\"}]",
         "Wrong layers.1",
     ),
     (
-        Document::Image,
         "version = 1\nbase = {name = \"java-run\", top = \"aaaaaaaaaaaaaaaaaaaaaaaaaaaaaaaaaaaaaaaaaaaaaaaaaaaaaaaaaaaaaaaa\", os = \"linux\", arch = \"amd64\"}\nrows = [{role = \"run\", place = \"/\", digest = \"aaaaaaaaaaaaaaaaaaaaaaaaaaaaaaaaaaaaaaaaaaaaaaaaaaaaaaaaaaaaaaaa\"}]\nentrypoint = \"/e\"\nlaunch = {}\nstore = [{id = \"a\"}, {id = \"a\", metadata = 1}]",
         "Wrong store.1.id",
     ),
     (
-        Document::Image,
         "version = 1\nbase = {name = \"java-run\", top = \"aaaaaaaaaaaaaaaaaaaaaaaaaaaaaaaaaaaaaaaaaaaaaaaaaaaaaaaaaaaaaaaa\", os = \"linux\", arch = \"amd64\"}\nrows = [{role = \"run\", place = \"/\", digest = \"aaaaaaaaaaaaaaaaaaaaaaaaaaaaaaaaaaaaaaaaaaaaaaaaaaaaaaaaaaaaaaaa\"}]\nentrypoint = \"/e\"\nlaunch = {}\nstore = [{id = \"a\", metadata = 1}]",
         "Wrong store.0.metadata",
     ),
 ];
 
-#[test]
-fn documents(rt: HostRuntime) -> Result<(), Fail> {
+// Compares what is told of each text with what is wanted.
+fn compare(
+    rt: &(impl Abort + AllocGlobal),
+    document: Document,
+    rows: &[(&str, &str)],
+) -> Result<(), Fail> {
     let alloc = rt.alloc();
-    for (document, text, want) in ROWS {
+    for (text, want) in rows {
         assert_eq!(rt;
             told_document(alloc, document, text.as_bytes())?.as_str(),
-            want,
+            *want,
             "{text}"
         );
     }
     Ok(())
+}
+
+#[test]
+fn run_images(rt: HostRuntime) -> Result<(), Fail> {
+    compare(&rt, Document::Run, &RUN_IMAGES)
+}
+
+#[test]
+fn environments(rt: HostRuntime) -> Result<(), Fail> {
+    compare(&rt, Document::Run, &ENVIRONMENTS)
+}
+
+#[test]
+fn analyzed(rt: HostRuntime) -> Result<(), Fail> {
+    compare(&rt, Document::Analyzed, &ANALYZED)
+}
+
+#[test]
+fn launches(rt: HostRuntime) -> Result<(), Fail> {
+    compare(&rt, Document::Launch, &LAUNCHES)
+}
+
+#[test]
+fn caches(rt: HostRuntime) -> Result<(), Fail> {
+    compare(&rt, Document::Cache, &CACHES)
+}
+
+#[test]
+fn images(rt: HostRuntime) -> Result<(), Fail> {
+    compare(&rt, Document::Image, &IMAGES)
+}
+
+#[test]
+fn images_in_parts(rt: HostRuntime) -> Result<(), Fail> {
+    compare(&rt, Document::Image, &IMAGES_IN_PARTS)
 }
