@@ -1,4 +1,5 @@
 pub mod Nodes
+pub mod Blames
 pub mod Entries
 pub mod Feeding
 pub mod Fit

@@ -14,7 +14,7 @@ use Rattle.std.proofs.lemmas.Slice.Eq.{bytes_eq-Decides}
 use Rattle.std.proofs.lemmas.List.Folds.{list_any-append}
 use Rattle.std.proofs.lemmas.Bool.{and_parts, false_from_ne_true, ltb-true}
 use Rattle.cnb_world.specs.Path.{is_part, is_part_byte, joined}
-use Rattle.cnb_world.specs.Tree.{Tree, item_at, is_folder, is_root, folders_above, folder_made, without}
+use Rattle.cnb_world.specs.Tree.{Tree, IsTree, item_at, is_folder, is_root, folders_above, folder_made, without}
 use Rattle.cnb_world.specs.declared.world.Item.{Item}
 use Rattle.cnb_world.specs.declared.world.Item.TheVariants as item
 use Rattle.cnb_world.proofs.Trees.{get-insert_bytes, same_tree}
@@ -31,9 +31,10 @@ use Rattle.tree_canon.specs.Names.{is_name, is_plain, is_text, is_dots, is_below
 use Rattle.tree_canon.proofs.Equations.{fits_folder}
 use Rattle.tree_canon.proofs.Nodes.{fits_cons}
 use Rattle.tree_store.specs.Laying.{node_laid, entry_laid, entries_laid, folder_laid, folder_over, laid_under, tree_steps}
-use Rattle.tree_store.specs.Overlay.{Given, Giving, folder_at, all_given, give_step, give_entry_step, items_of, items_of_entry, items_under, given_at, is_replaced, stands, with_items, lay, is_other, IsStanding, parts_of, tree_laid}
+use Rattle.tree_store.specs.Overlay.{Given, Giving, folder_at, all_given, give_step, give_entry_step, items_of, items_of_entry, items_under, given_at, is_replaced, stands, with_items, lay, parts_of, tree_laid, IsNotRoot, IsOverlay}
 use Rattle.tree_store.proofs.Laid.{laid_folder, laid_file, laid_link, laid_entry}
-use Rattle.tree_store.proofs.Places.{is_at_or_below, or_parts, or_from, above_child, below_child, not_below, below_below, longer_child, shorter_away, below_length, made_length, name_in, named}
+use Rattle.tree_store.proofs.Standing.{is_other, IsStanding, tree_stands}
+use Rattle.tree_store.proofs.Places.{is_at_or_below, or_parts, or_from, above_child, below_child, child_not_root, not_below, below_below, longer_child, shorter_away, below_length, made_length, name_form, name_in, named, part_form}
 
 -- ---- the items of a node
 
@@ -153,21 +154,6 @@ node_away = ind-Node StaysAway (λ e. StaysAway e.node) away_layer (λ x y is. s
 
 -- ---- names
 
-pub name_form : (name : List ℕ) → is_name name ≡ true → (0 < length name) × (has_slash name ≡ false)
-name_form name h = (ltb-true 0 (length name) (and_parts (nat_lt 0 (length name)) (nat_le (length name) 255) (and_parts _ _ p.0).0).0, plain name (and_parts (is_plain name) (not (is_dots name)) p.1).0)
-  where
-    p : (is_text 255 name ≡ true) × ((is_plain name && not (is_dots name)) ≡ true)
-    p = and_parts (is_text 255 name) (is_plain name && not (is_dots name)) h
-
-    plain : (bytes : List ℕ) → is_plain bytes ≡ true → has_slash bytes ≡ false
-    plain [] h = refl
-    plain (c ∷ cs) h = by (c == 0) (c == 47) (is_plain cs) (plain cs) h
-      where
-        by : (zero slash rest : Bool) → (rest ≡ true → has_slash cs ≡ false) → ((not zero && not slash) && rest) ≡ true → (slash || has_slash cs) ≡ false
-        by true slash rest later e = absurd (cc)
-        by false true rest later e = absurd (cc)
-        by false false rest later e = later e
-
 less_is : (o : Ordering) → is_lt o ≡ true → o ≡ Less
 less_is Less h = refl
 less_is Equal h = absurd (cc)
@@ -278,7 +264,7 @@ folder_step path files ready q = by (item_at files path) refl
     over_other found e other plain =
         get-with_folders (folders_above path ++ path ∷ []) (without path files) q
         ∙ ap (λ v. cond (v && not (is_root q)) (Some item.Folder) (get (without path files) q)) split
-        ∙ ap (cond ((list_any (bytes_eq q) (folders_above path) || (bytes_eq q path || false)) && not (is_root q)) (Some item.Folder)) (get-without path files q)
+        ∙ ap (cond ((list_any (bytes_eq q) (folders_above path) || (bytes_eq q path || false)) && not (is_root q)) (Some item.Folder)) (get-without path files q ∙ ap (λ v. cond (not (v || (bytes_eq q path || starts_with nat_eq q (path ++ 47 ∷ [])))) (get files q) None) (not_root found e plain))
         ∙ by_tests_below (list_any (bytes_eq q) (folders_above path)) (bytes_eq q path) (starts_with nat_eq q (path ++ 47 ∷ [])) (is_root q) (get files q) (root (not_root found e plain)) above
         (λ below. ready.clean path q (at_itself path) (ap is_other (at_path found e other) ∙ other) below)
         ∙ folder_given path q (get files q) (not_root found e plain)
@@ -340,7 +326,7 @@ abbrev IsCleanBehind : Option (List ℕ) → List ℕ → Tree → Type 0
 IsCleanBehind last path files = (n : List ℕ) → 0 < length n → has_slash n ≡ false → follows last n ≡ true → IsClean (joined path n) files
 
 abbrev LaysItems : Node → Type 0
-LaysItems node = (depth : ℕ) (path : List ℕ) (files : Tree) → fits node depth ≡ true → IsReady path files → (q : List ℕ) → get (node_laid node path files) q ≡ laid_at (items_of node path) q (get files q)
+LaysItems node = (depth : ℕ) (path : List ℕ) (files : Tree) → fits node depth ≡ true → is_root path ≡ false → IsReady path files → (q : List ℕ) → get (node_laid node path files) q ≡ laid_at (items_of node path) q (get files q)
 
 abbrev Laid : Type 0
 Laid = (e : Named) × LaysItems e.node
@@ -354,7 +340,7 @@ item_same files now f e = ap (cond (is_root f) (Some item.Folder)) e
 one_laid : (e : Laid) (depth : ℕ) (path : List ℕ) (files : Tree) → is_name e.0.name ≡ true → fits e.0.node depth ≡ true → IsInside path files → IsClean (joined path e.0.name) files → (q : List ℕ) → get (entry_laid e.0 path files) q ≡ laid_at (items_of_entry e.0 path) q (get files q)
 one_laid e depth path files name fit inside clean q =
     ap (λ t. get t q) (laid_entry e.0 path files)
-    ∙ e.1 depth (joined path e.0.name) files fit (record { above = above_inside path e.0.name files (name_form e.0.name name).1 inside; clean = clean }) q
+    ∙ e.1 depth (joined path e.0.name) files fit (child_not_root path e.0.name (name_form e.0.name name).0) (record { above = above_inside path e.0.name files (name_form e.0.name name).1 inside; clean = clean }) q
     ∙ ap (λ g. laid_at g q (get files q)) (sym (items_entry e.0 path))
 
 entry_is_away : (e : Named) (path q : List ℕ) → is_at_or_below (joined path e.name) q ≡ false → IsAway (items_of_entry e path) q
@@ -462,7 +448,7 @@ behind_folder path q rest old away = by (bytes_eq q path) refl
     by false h = ap (laid_at rest q) (nothing_laid (folder_at path) q old (folder_elsewhere path q old h)) ∙ laid_later (folder_at path) rest q old (folder_elsewhere path q old h)
 
 folder_lays : (es : List Laid) → LaysItems (Folder (bare es))
-folder_lays es depth path files fit ready q =
+folder_lays es depth path files fit placed ready q =
     ap (λ t. get t q) (laid_folder (bare es) path files)
     ∙ entries_lay es None (suc depth) path (folder_laid path files) entries (folder_inside path files ready) (λ n some plain after. folder_clean path n files some ready) q
     ∙ ap (laid_at (items_in (bare es) path) q) (folder_step path files ready q)
@@ -473,10 +459,10 @@ folder_lays es depth path files fit ready q =
     entries = (and_parts (nat_lt (length (bare es)) (2 ^ 32)) (entries_fit None (bare es) (suc depth)) (and_parts (nat_le depth 64) _ (sym (fits_folder (bare es) depth) ∙ fit)).1).1
 
 -- a file or a link in place of what stands at a path and below it
-item_laid : (path q : List ℕ) (files : Tree) (x : Item) → is_folder (Some x) ≡ false → get (insert (without path files) path x) q ≡ laid_at ((path, x) ∷ []) q (get files q)
-item_laid path q files x plain =
+item_laid : (path q : List ℕ) (files : Tree) (x : Item) → is_folder (Some x) ≡ false → is_root path ≡ false → get (insert (without path files) path x) q ≡ laid_at ((path, x) ∷ []) q (get files q)
+item_laid path q files x plain placed =
     get-insert_bytes (without path files) path x q
-    ∙ ap (cond (bytes_eq q path) (Some x)) (get-without path files q)
+    ∙ ap (cond (bytes_eq q path) (Some x)) (get-without path files q ∙ ap (λ v. cond (not (v || (bytes_eq q path || starts_with nat_eq q (path ++ 47 ∷ [])))) (get files q) None) placed)
     ∙ by (bytes_eq q path) (starts_with nat_eq q (path ++ 47 ∷ []))
     ∙ ap (λ v. stands (cond (bytes_eq q path) (Some x) None) ((not v && starts_with nat_eq q (path ++ 47 ∷ [])) || false) (get files q)) (sym plain)
   where
@@ -487,10 +473,10 @@ item_laid path q files x plain =
 
 lays_layer : (x : layer.Node-F Node Named) (y : layer.Node-F ((n : Node) × LaysItems n) Laid) → map-Node ((n : Node) × LaysItems n) Laid Node Named (λ e. e.0) (λ e. e.0) y ≡ x → LaysItems (roll-Node x)
 lays_layer x (layer.Folder es) is = subst (λ z. LaysItems (roll-Node z)) is (subst LaysItems (sym (rolls-Folder (bare es))) (folder_lays es))
-lays_layer x (layer.File exec bytes) is = subst (λ z. LaysItems (roll-Node z)) is (subst LaysItems (sym (rolls-File exec bytes)) (λ depth path files fit ready q.
-    ap (λ t. get t q) (laid_file exec bytes path files) ∙ item_laid path q files (item.File exec bytes) refl ∙ ap (λ g. laid_at g q (get files q)) (sym (items_file exec bytes path))))
-lays_layer x (layer.Link target) is = subst (λ z. LaysItems (roll-Node z)) is (subst LaysItems (sym (rolls-Link target)) (λ depth path files fit ready q.
-    ap (λ t. get t q) (laid_link target path files) ∙ item_laid path q files (item.Link target) refl ∙ ap (λ g. laid_at g q (get files q)) (sym (items_link target path))))
+lays_layer x (layer.File exec bytes) is = subst (λ z. LaysItems (roll-Node z)) is (subst LaysItems (sym (rolls-File exec bytes)) (λ depth path files fit placed ready q.
+    ap (λ t. get t q) (laid_file exec bytes path files) ∙ item_laid path q files (item.File exec bytes) refl placed ∙ ap (λ g. laid_at g q (get files q)) (sym (items_file exec bytes path))))
+lays_layer x (layer.Link target) is = subst (λ z. LaysItems (roll-Node z)) is (subst LaysItems (sym (rolls-Link target)) (λ depth path files fit placed ready q.
+    ap (λ t. get t q) (laid_link target path files) ∙ item_laid path q files (item.Link target) refl placed ∙ ap (λ g. laid_at g q (get files q)) (sym (items_link target path))))
 
 pub node_lays : (node : Node) → LaysItems node
 node_lays = ind-Node LaysItems (λ e. LaysItems e.node) lays_layer (λ x y is. subst (λ (z : layer.Named-F Node Named). LaysItems (roll-Named z).node) is y.node.1)
@@ -501,37 +487,18 @@ node_lays = ind-Node LaysItems (λ e. LaysItems e.node) lays_layer (λ x y is. s
 abbrev pub AreParts : List (List ℕ) → Type 0
 AreParts parts = AllByRecursion (λ part. IsTrue (is_part part)) parts
 
-part_form : (part : List ℕ) → IsTrue (is_part part) → (0 < length part) × (has_slash part ≡ false)
-part_form part h = (ltb-true 0 (length part) p.0, plain part p.1)
-  where
-    first : (a b c d e : Bool) → IsTrue ((((a && b) && c) && d) && e) → (a ≡ true) × (e ≡ true)
-    first true true true true true h = (refl, refl)
-    first true true true true false h = absurd (cc)
-    first true true true false e h = absurd (cc)
-    first true true false d e h = absurd (cc)
-    first true false c d e h = absurd (cc)
-    first false b c d e h = absurd (cc)
-
-    p : (nat_lt 0 (length part) ≡ true) × (list_all is_part_byte part ≡ true)
-    p = first (nat_lt 0 (length part)) (nat_le (length part) 255) (not (bytes_eq part (46 ∷ []))) (not (bytes_eq part (46 ∷ 46 ∷ []))) (list_all is_part_byte part) h
-
-    plain : (bytes : List ℕ) → list_all is_part_byte bytes ≡ true → has_slash bytes ≡ false
-    plain [] h = refl
-    plain (c ∷ cs) h = by (c == 47) (c == 0) (list_all is_part_byte cs) (plain cs) h
-      where
-        by : (slash zero rest : Bool) → (rest ≡ true → has_slash cs ≡ false) → ((not slash && not zero) && rest) ≡ true → (slash || has_slash cs) ≡ false
-        by true zero rest later e = absurd (cc)
-        by false true rest later e = absurd (cc)
-        by false false rest later e = later e
-
 under_away : (parts : List (List ℕ)) (node : Node) (path q : List ℕ) → is_at_or_below path q ≡ false → IsAway (items_under node parts path) q
 under_away [] node path q h = node_away node path q h
 under_away (part ∷ parts) node path q h = away_append (folder_at path) (items_under node parts (joined path part)) q (folder_away path q h) (under_away parts node (joined path part) q (below_child path part q h))
 
-pub under_lays : (parts : List (List ℕ)) (node : Node) (path : List ℕ) (files : Tree) → AreParts parts → fits node 0 ≡ true → IsReady path files → (q : List ℕ) → get (laid_under node parts path files) q ≡ laid_at (items_under node parts path) q (get files q)
-under_lays [] node path files are fit ready q = node_lays node 0 path files fit ready q
-under_lays (part ∷ parts) node path files are fit ready q =
-    under_lays parts node (joined path part) (folder_laid path files) are.1 fit (record { above = above_inside path part (folder_laid path files) form.1 (folder_inside path files ready); clean = folder_clean path part files form.0 ready }) q
+is_below : (parts : List (List ℕ)) (path part : List ℕ) → 0 < length part → IsNotRoot parts (joined path part)
+is_below [] path part some = child_not_root path part some
+is_below (p ∷ ps) path part some = tt
+
+pub under_lays : (parts : List (List ℕ)) (node : Node) (path : List ℕ) (files : Tree) → AreParts parts → fits node 0 ≡ true → IsNotRoot parts path → IsReady path files → (q : List ℕ) → get (laid_under node parts path files) q ≡ laid_at (items_under node parts path) q (get files q)
+under_lays [] node path files are fit placed ready q = node_lays node 0 path files fit placed ready q
+under_lays (part ∷ parts) node path files are fit placed ready q =
+    under_lays parts node (joined path part) (folder_laid path files) are.1 fit (is_below parts path part form.0) (record { above = above_inside path part (folder_laid path files) form.1 (folder_inside path files ready); clean = folder_clean path part files form.0 ready }) q
     ∙ ap (laid_at (items_under node parts (joined path part)) q) (folder_step path files ready q)
     ∙ behind_folder path q (items_under node parts (joined path part)) (get files q) (under_away parts node (joined path part) path (shorter_away (joined path part) path (longer_child path part form.0)))
   where
@@ -594,12 +561,17 @@ made_ready root files standing = record { above = above; clean = clean }
         by false h = h
 
 -- laying one item after another, where the folder was made
-pub tree_lays : (root : List ℕ) (parts : List (List ℕ)) (node : Node) (files : Tree) → AreParts parts → fits node 0 ≡ true → IsStanding files → laid_under node parts root (folder_made root files) ≡ lay (items_under node parts root) (folder_made root files)
-tree_lays root parts node files are fit standing = same_tree _ _ (λ q.
-    under_lays parts node root (folder_made root files) are fit (made_ready root files standing) q ∙ sym (get-lay (items_under node parts root) (folder_made root files) q))
+pub tree_lays : (root : List ℕ) (parts : List (List ℕ)) (node : Node) (files : Tree) → AreParts parts → fits node 0 ≡ true → IsNotRoot parts root → IsStanding files → laid_under node parts root (folder_made root files) ≡ lay (items_under node parts root) (folder_made root files)
+tree_lays root parts node files are fit placed standing = same_tree _ _ (λ q.
+    under_lays parts node root (folder_made root files) are fit placed (made_ready root files standing) q ∙ sym (get-lay (items_under node parts root) (folder_made root files) q))
 
 -- the same with the parts of a place, where the files are told
-pub steps_laid : (o : Option Tree) (root place : List ℕ) (node : Node) → AreParts (parts_of place) → fits node 0 ≡ true → IfSome o IsStanding → option_map (tree_steps root place node) o ≡ option_map (tree_laid root place node) o
+pub steps_laid : (o : Option Tree) (root place : List ℕ) (node : Node) → AreParts (parts_of place) → fits node 0 ≡ true → IsNotRoot (parts_of place) root → IfSome o IsTree → option_map (tree_steps root place node) o ≡ option_map (tree_laid root place node) o
 unfolding tree_steps tree_laid
-steps_laid None root place node are fit standing = refl
-steps_laid (Some files) root place node are fit standing = ap Some (tree_lays root (parts_of place) node files are fit standing)
+steps_laid None root place node are fit placed standing = refl
+steps_laid (Some files) root place node are fit placed standing = ap Some (tree_lays root (parts_of place) node files are fit placed (tree_stands (Some files) standing))
+
+pub overlaid : (o o1 : Option Tree) (root place : List ℕ) (node : Node) → o1 ≡ option_map (tree_laid root place node) o → IfSome o (λ old. IfSome o1 (IsOverlay (items_under node (parts_of place) root) (folder_made root old)))
+unfolding tree_laid
+overlaid None o1 root place node is = tt
+overlaid (Some files) o1 root place node is = subst (λ o. IfSome o (IsOverlay (items_under node (parts_of place) root) (folder_made root files))) (sym is) (get-lay (items_under node (parts_of place) root) (folder_made root files))

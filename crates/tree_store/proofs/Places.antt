@@ -1,16 +1,18 @@
 -- Where paths lie: at a path, below it, above it.
 use Rattle.std.proofs.Common.{◌≡◌, ℕ, suc, ◌+◌, ◌≤◌, ◌<◌, Bool, true, false, cond, not, List, [], ◌∷◌, ◌++◌, ◌&&◌, ◌||◌, ◌==◌, refl, sym, ap, ◌∙◌, arith, length, drop, nat_eq, append-nil, append_assoc, length-append}
-use Rattle.std.specs.List.{list_any, starts_with}
+use Rattle.std.specs.Prelude.{IsTrue, nat_le, nat_lt}
+use Rattle.std.specs.List.{list_all, list_any, starts_with}
 use Rattle.std.specs.Str.{bytes_eq}
 use Rattle.std.proofs.lemmas.Slice.Eq.{bytes_eq-Decides}
-use Rattle.std.proofs.lemmas.Bool.{and_parts, false_from_ne_true, eqb-true}
+use Rattle.std.proofs.lemmas.Bool.{and_parts, false_from_ne_true, eqb-true, ltb-true}
 use Rattle.std.proofs.Math.Seq.{take-append_seam, drop-append_seam}
-use Rattle.cnb_world.specs.Path.{joined}
+use Rattle.cnb_world.specs.Path.{is_part, is_part_byte, joined}
 use Rattle.cnb_world.specs.Tree.{is_root, is_within, folders_from, folders_above}
 use Rattle.cnb_world.proofs.Trees.{bytes_eq-same}
 use Rattle.cnb_world.proofs.Folders.{not_longer}
 use Rattle.std.proofs.lemmas.List.Folds.{list_any-append}
 use Rattle.cnb_world.proofs.Parents.{has_slash}
+use Rattle.tree_canon.specs.Names.{is_dots, is_name, is_plain, is_text}
 
 joined_front : (folder name : List ℕ) → joined folder name ≡ joined folder [] ++ name
 joined_front folder name = ap (λ f. f ++ name) (sym (append-nil (cond (bytes_eq folder (47 ∷ [])) folder (folder ++ 47 ∷ []))))
@@ -26,7 +28,7 @@ or_parts false b h = (refl, h)
 pub or_from : (a b : Bool) → a ≡ false → b ≡ false → (a || b) ≡ false
 or_from a b x y = ap (λ v. v || b) x ∙ y
 
-or_right : (a b : Bool) → b ≡ true → (a || b) ≡ true
+pub or_right : (a b : Bool) → b ≡ true → (a || b) ≡ true
 or_right true b h = refl
 or_right false b h = h
 
@@ -149,7 +151,7 @@ joined_length path n = ap length (joined_front path n) ∙ length-append (joined
 pub longer_child : (path n : List ℕ) → 0 < length n → length path < length (joined path n)
 longer_child path n h = let a : length path ≤ length (joined path []) = (front_length path).0 in let b : length (joined path n) ≡ length (joined path []) + length n = joined_length path n in omega arith
 
-child_not_root : (path n : List ℕ) → 0 < length n → bytes_eq (joined path n) (47 ∷ []) ≡ false
+pub child_not_root : (path n : List ℕ) → 0 < length n → bytes_eq (joined path n) (47 ∷ []) ≡ false
 child_not_root path n h = let a : 1 ≤ length (joined path []) = (front_length path).1 in let b : length (joined path n) ≡ length (joined path []) + length n = joined_length path n in not_longer (joined path n) (47 ∷ []) (omega arith)
 
 -- what is shorter than a path is not at or below it
@@ -213,3 +215,43 @@ named path n q some plain h = by (bytes_eq q (joined path n)) refl (ap (λ v. by
     by : (v : Bool) → bytes_eq q (joined path n) ≡ v → (v || starts_with nat_eq q ((joined path n ++ 47 ∷ []) ++ [])) ≡ true → name_in path q ≡ n
     by true e h = ap (λ x. name_in path x) ((bytes_eq-Decides q (joined path n)).0 e ∙ joined_front path n) ∙ ap until_slash (drop-append_seam (joined path []) n) ∙ until_itself n plain
     by false e h = until_name (drop (length (joined path [])) q) n plain (starts_behind q (joined path []) (n ++ 47 ∷ []) (ap (starts_with nat_eq q) (sym is) ∙ h))
+
+-- ---- names of entries, and parts of paths
+
+pub name_form : (name : List ℕ) → is_name name ≡ true → (0 < length name) × (has_slash name ≡ false)
+name_form name h = (ltb-true 0 (length name) (and_parts (nat_lt 0 (length name)) (nat_le (length name) 255) (and_parts _ _ p.0).0).0, plain name (and_parts (is_plain name) (not (is_dots name)) p.1).0)
+  where
+    p : (is_text 255 name ≡ true) × ((is_plain name && not (is_dots name)) ≡ true)
+    p = and_parts (is_text 255 name) (is_plain name && not (is_dots name)) h
+
+    plain : (bytes : List ℕ) → is_plain bytes ≡ true → has_slash bytes ≡ false
+    plain [] h = refl
+    plain (c ∷ cs) h = by (c == 0) (c == 47) (is_plain cs) (plain cs) h
+      where
+        by : (zero slash rest : Bool) → (rest ≡ true → has_slash cs ≡ false) → ((not zero && not slash) && rest) ≡ true → (slash || has_slash cs) ≡ false
+        by true slash rest later e = absurd (cc)
+        by false true rest later e = absurd (cc)
+        by false false rest later e = later e
+
+pub part_form : (part : List ℕ) → IsTrue (is_part part) → (0 < length part) × (has_slash part ≡ false)
+part_form part h = (ltb-true 0 (length part) p.0, plain part p.1)
+  where
+    first : (a b c d e : Bool) → IsTrue ((((a && b) && c) && d) && e) → (a ≡ true) × (e ≡ true)
+    first true true true true true h = (refl, refl)
+    first true true true true false h = absurd (cc)
+    first true true true false e h = absurd (cc)
+    first true true false d e h = absurd (cc)
+    first true false c d e h = absurd (cc)
+    first false b c d e h = absurd (cc)
+
+    p : (nat_lt 0 (length part) ≡ true) × (list_all is_part_byte part ≡ true)
+    p = first (nat_lt 0 (length part)) (nat_le (length part) 255) (not (bytes_eq part (46 ∷ []))) (not (bytes_eq part (46 ∷ 46 ∷ []))) (list_all is_part_byte part) h
+
+    plain : (bytes : List ℕ) → list_all is_part_byte bytes ≡ true → has_slash bytes ≡ false
+    plain [] h = refl
+    plain (c ∷ cs) h = by (c == 47) (c == 0) (list_all is_part_byte cs) (plain cs) h
+      where
+        by : (slash zero rest : Bool) → (rest ≡ true → has_slash cs ≡ false) → ((not slash && not zero) && rest) ≡ true → (slash || has_slash cs) ≡ false
+        by true zero rest later e = absurd (cc)
+        by false true rest later e = absurd (cc)
+        by false false rest later e = later e

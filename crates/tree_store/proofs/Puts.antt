@@ -21,6 +21,8 @@ use Rattle.tree_store.specs.declared.fault.StoreFault.TheVariants.{OddFile, Limi
 use Rattle.tree_store.specs.declared.judging.Judging.{Judging}
 use Rattle.tree_store.specs.Judging.{HasTaken}
 use Rattle.tree_store.specs.Answers.{Reads, Unless, is_free, is_file_kind, is_absent_kind}
+use Rattle.tree_store.specs.Folders.{can_put_read, can_put_folder}
+use Rattle.tree_store.specs.Reading.{tree_in}
 use Rattle.tree_store.specs.Store.{tree_path, left_or_written, kept_or_written, tree_put, IsFree, KeepsOver, Keeps, done_of, Puts, LeavesStore, IsJudgedTree, GetsOf, Gets}
 use Rattle.tree_store.proofs.Kept.{contents}
 
@@ -172,6 +174,10 @@ same_misuse (Some false) a b e = omega (arith, e)
 
 pub no_misuse : (o : Option Tree) (p : Tree → Bool) (a b : ℕ) → b ≡ a → MayMisuse (option_map p o) a b
 no_misuse o p a b e = same_misuse (option_map p o) a b e
+
+pub folder_misuse : (o o1 : Option Tree) (store path : List ℕ) (root : Node) (a b c : ℕ) → o1 ≡ o → b ≡ a → IfSome o (λ files. tree_in path files ≡ Ok root) → MayMisuse (option_map (can_write (tree_path store (sha256 (spelling_of root)))) o1) b c → MayMisuse (option_map (can_put_folder store path) o) a c
+folder_misuse None o1 store path root a b c same before read m = new_misuse None o1 (tree_path store (sha256 (spelling_of root))) a b c same before m
+folder_misuse (Some files) o1 store path root a b c same before read m = subst (λ r. MayMisuse (Some (can_put_read store r files)) a c) (sym read) (new_misuse (Some files) o1 (tree_path store (sha256 (spelling_of root))) a b c same before m)
 
 -- ---- judged bytes
 

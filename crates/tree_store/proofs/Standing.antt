@@ -1,17 +1,24 @@
 -- Where all that stands has a folder above it, nothing stands below anything but a folder.
 use Rattle.std.proofs.Common.{◌≡◌, ℕ, zero, suc, ◌+◌, ◌≤◌, ◌<◌, ◌∙◌, ◌==◌, ◌&&◌, ◌||◌, Bool, true, false, cond, not, List, [], ◌∷◌, ◌++◌, length, drop, nat_eq, refl, sym, ap, subst, arith, Option, Some, None, is_some, ◌⊎◌, inl, inr, append-nil, append_assoc, length-append}
-use Rattle.std.specs.Prelude.{IsTrue}
+use Rattle.std.specs.Prelude.{IfSome, IsTrue}
 use Rattle.std.specs.List.{list_any, starts_with}
 use Rattle.std.specs.Str.{bytes_eq}
 use Rattle.std.specs.FinMap.{get}
 use Rattle.std.proofs.lemmas.List.Folds.{list_any-append}
 use Rattle.cnb_world.specs.Path.{is_path, front_of, parent_of}
-use Rattle.cnb_world.specs.Tree.{Tree, item_at, is_folder, is_root}
+use Rattle.cnb_world.specs.Tree.{Tree, IsTree, StandsRight, item_at, is_folder, is_root}
 use Rattle.cnb_world.specs.declared.world.Item.{Item}
 use Rattle.cnb_world.specs.declared.world.Item.TheVariants as item
 use Rattle.cnb_world.proofs.Folders.{not_longer, parent_shorter}
-use Rattle.tree_store.specs.Overlay.{is_other, IsStanding}
 use Rattle.tree_store.proofs.Places.{below_length, starts_itself, starts_split}
+
+-- neither nothing nor a folder
+abbrev pub is_other : Option Item → Bool
+is_other found = is_some found && not (is_folder found)
+
+-- below anything but a folder is nothing
+pub record IsStanding (files : Tree) : Type 0 where
+  pub clean : (r q : List ℕ) → is_other (get files r) ≡ true → starts_with nat_eq q (r ++ 47 ∷ []) ≡ true → get files q ≡ None
 
 or_true : (v w : Bool) → w ≡ true → (v || w) ≡ true
 or_true true w h = refl
@@ -34,7 +41,7 @@ below_is : (r q : List ℕ) → starts_with nat_eq q (r ++ 47 ∷ []) ≡ true �
 below_is r q h = starts_split q (r ++ 47 ∷ []) h ∙ append_assoc r (47 ∷ []) (drop (length (r ++ 47 ∷ [])) q)
 
 abbrev InFolders : Tree → Type 0
-InFolders files = (path : List ℕ) → IsTrue (is_some (get files path)) → IsTrue (is_path path) × ((is_root path ≡ false) × IsTrue (is_folder (item_at files (parent_of path))))
+InFolders files = (path : List ℕ) → IsTrue (is_some (get files path)) → StandsRight files path
 
 no_folder : (o : Option Item) → is_other o ≡ true → is_folder o ≡ true → ⊥
 no_folder None a b = cc
@@ -55,7 +62,7 @@ nonempty : (r : List ℕ) → bytes_eq r [] ≡ false → 0 < length r
 nonempty [] h = absurd (cc)
 nonempty (c ∷ r) h = omega arith
 
-pub standing_from : (files : Tree) → InFolders files → IsStanding files
+standing_from : (files : Tree) → InFolders files → IsStanding files
 standing_from files all = record { clean = λ r q other below. go r other (length q) q (omega arith) below }
   where
     at_r : (r : List ℕ) → is_other (get files r) ≡ true → is_folder (item_at files r) ≡ true → ⊥
@@ -91,3 +98,7 @@ standing_from files all = record { clean = λ r q other below. go r other (lengt
                 let under : starts_with nat_eq (parent_of q) (r ++ 47 ∷ []) ≡ true = ap (λ p. starts_with nat_eq p (r ++ 47 ∷ [])) parent ∙ is in
                 let gone : get files (parent_of q) ≡ None = shorter (parent_of q) less under in
                 let no : false ≡ true = sym (ap (λ v. is_folder (cond v (Some item.Folder) (get files (parent_of q)))) (plain r (parent_of q) under some_r) ∙ ap is_folder gone) ∙ folder in cc
+
+pub tree_stands : (o : Option Tree) → IfSome o IsTree → IfSome o IsStanding
+tree_stands None is = tt
+tree_stands (Some files) is = standing_from files is.standing

@@ -1,6 +1,7 @@
 -- What a call on trees in files answers.
-use Rattle.std.specs.Prelude.{ℕ, Bool, true, false, ◌≡◌, ◌≤◌, List, Result, Ok, Err}
+use Rattle.std.specs.Prelude.{ℕ, Bool, true, false, ◌≡◌, ◌≤◌, List, Result, Ok, Err, IsTrue}
 use Rattle.cnb_world.specs.Calls.{Rose}
+use Rattle.cnb_world.specs.Tree.{is_within}
 use Rattle.cnb_world.specs.declared.world.FileFault.{FileFault}
 use Rattle.cnb_world.specs.declared.world.Kind.{Kind}
 use Rattle.cnb_world.specs.declared.world.Kind.TheVariants as kind
@@ -49,6 +50,26 @@ IsBlamed path (Limit kind) = ⊥
 IsBlamed path (NoTree digest) = ⊥
 IsBlamed path (Damaged asked found bad) = ⊥
 IsBlamed path (Clash digest) = ⊥
+
+-- `File` carries this path
+abbrev pub BlamesAt : List ℕ → StoreFault → Type 0
+BlamesAt path (File blamed) = blamed ≡ path
+BlamesAt path (OddFile odd) = Unit {0}
+BlamesAt path (Limit kind) = Unit {0}
+BlamesAt path (NoTree digest) = Unit {0}
+BlamesAt path (Damaged asked found bad) = Unit {0}
+BlamesAt path (Clash digest) = Unit {0}
+BlamesAt path Memory = Unit {0}
+
+-- `File` carries this path, or one below it
+abbrev pub BlamesWithin : List ℕ → StoreFault → Type 0
+BlamesWithin path (File blamed) = IsTrue (is_within path blamed)
+BlamesWithin path (OddFile odd) = Unit {0}
+BlamesWithin path (Limit kind) = Unit {0}
+BlamesWithin path (NoTree digest) = Unit {0}
+BlamesWithin path (Damaged asked found bad) = Unit {0}
+BlamesWithin path (Clash digest) = Unit {0}
+BlamesWithin path Memory = Unit {0}
 
 -- a call on a path that failed is a refusal of that path, or memory ran out
 abbrev pub Blames : List ℕ → FileFault → StoreFault → Type 0

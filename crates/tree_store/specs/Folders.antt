@@ -1,12 +1,13 @@
 -- Reading and then putting, and getting and then writing.
-use Rattle.std.specs.Prelude.{◌≡◌, ℕ, List, Option, Some, Result, Ok, Err}
+use Rattle.std.specs.Prelude.{◌≡◌, ℕ, Bool, true, List, Option, Some, Result, Ok, Err}
 use Rattle.sha2.specs.Sha256.{sha256}
 use Rattle.cnb_world.specs.Tree.{Tree}
+use Rattle.cnb_world.specs.Whole.{can_write}
 use Rattle.cnb_world.specs.declared.world.Item.{Item}
 use Rattle.tree_canon.specs.Spelling.{spelling_of}
 use Rattle.tree_canon.specs.declared.node.Node.{Node}
 use Rattle.tree_store.specs.Answers.{Unless, is_free}
-use Rattle.tree_store.specs.Overlay.{IsStanding, tree_laid}
+use Rattle.tree_store.specs.Overlay.{IsNotRoot, parts_of, tree_laid}
 use Rattle.tree_store.specs.Reading.{tree_in}
 use Rattle.tree_store.specs.Store.{Gets, LeavesStore, Puts, tree_path, tree_put}
 use Rattle.tree_store.specs.declared.fault.StoreFault.{StoreFault}
@@ -26,6 +27,14 @@ read_put store (Err fault) files = files
 -- the files with the tree of a folder put into a store
 abbrev pub folder_put : List ℕ → List ℕ → Tree → Tree
 folder_put store path files = read_put store (tree_in path files) files
+
+abbrev pub can_put_read : List ℕ → Result Node StoreFault → Tree → Bool
+can_put_read store (Ok root) files = can_write (tree_path store (sha256 (spelling_of root))) files
+can_put_read store (Err fault) files = true
+
+-- where the tree of a folder may be put: where nothing is to be written too
+abbrev pub can_put_folder : List ℕ → List ℕ → Tree → Bool
+can_put_folder store path files = can_put_read store (tree_in path files) files
 
 abbrev pub LeavesAfter : Result (List ℕ) StoreFault → List ℕ → Option Tree → Option Tree → Type 0
 LeavesAfter (Ok digest) path old new = Unit {0}
@@ -51,5 +60,5 @@ Checks digest found (Err fault) = Gets digest found (Err fault)
 
 -- What laying a stored tree answers and leaves: a refusal of the store changes nothing.
 abbrev pub LaysStored : List ℕ → Option Item → List ℕ → List ℕ → Tree → Option Tree → Result Unit StoreFault → Type 0
-LaysStored digest found root place files new (Ok done) = (tree : Node) × Gets digest found (Ok tree) × (IsStanding files → new ≡ Some (tree_laid root place tree files))
+LaysStored digest found root place files new (Ok done) = (tree : Node) × Gets digest found (Ok tree) × (IsNotRoot (parts_of place) root → new ≡ Some (tree_laid root place tree files))
 LaysStored digest found root place files new (Err fault) = Unless (is_free fault) (Gets digest found (Err fault) × (new ≡ Some files))

@@ -1,5 +1,5 @@
 -- A tree laid over files, path by path: what the tree gives, and what stays of the files.
-use Rattle.std.specs.Prelude.{◌≡◌, ℕ, Bool, true, false, not, is_some, ◌&&◌, ◌==◌, ◌++◌, List, [], ◌∷◌, if◌then◌else◌, nat_eq, Option, Some, None}
+use Rattle.std.specs.Prelude.{◌≡◌, ℕ, Bool, true, false, not, ◌&&◌, ◌==◌, ◌++◌, List, [], ◌∷◌, if◌then◌else◌, nat_eq, Option, Some, None}
 use Rattle.std.specs.List.{list_any, slice_split, starts_with}
 use Rattle.std.specs.Str.{bytes_eq}
 use Rattle.std.specs.FinMap.{get, insert, retain_keys}
@@ -86,10 +86,12 @@ parts_of (c ∷ d ∷ rest) = way_parts (d ∷ rest)
 unfoldable pub tree_laid : List ℕ → List ℕ → Node → Tree → Tree
 tree_laid root place node files = lay (items_under node (parts_of place) root) (folder_made root files)
 
--- neither nothing nor a folder
-abbrev pub is_other : Option Item → Bool
-is_other found = is_some found && not (is_folder found)
+-- the place of these parts under a root isn't `/` itself
+abbrev pub IsNotRoot : List (List ℕ) → List ℕ → Type 0
+IsNotRoot [] root = is_root root ≡ false
+IsNotRoot (part ∷ parts) root = Unit {0}
 
--- Files as they stand: below anything but a folder is nothing.
-pub record IsStanding (files : Tree) : Type 0 where
-  pub clean : (r q : List ℕ) → is_other (get files r) ≡ true → starts_with nat_eq q (r ++ 47 ∷ []) ≡ true → get files q ≡ None
+-- What laying items leaves, path by path: an old item stays exactly where its path isn't given and no path above it is given
+-- a file or a link.
+abbrev pub IsOverlay : List Given → Tree → Tree → Type 0
+IsOverlay given old new = (path : List ℕ) → get new path ≡ stands (given_at given path) (is_replaced given path) (get old path)

@@ -1,7 +1,7 @@
 // Why a tree was not read or written.
 ghost use Rattle.std.specs.Prelude.{◌≡◌, ℕ, IfErr, OnOk, OnErr, IsTrue, is_ok, is_err};
 ghost use Rattle.cnb_world.specs.Calls.{CountsFailed};
-ghost use Rattle.tree_store.specs.Answers.{Blames, CountsStore, is_free, is_odd_file};
+ghost use Rattle.tree_store.specs.Answers.{Blames, BlamesAt, CountsStore, is_free, is_odd_file};
 
 use cnb_world::{FileFault, LimitKind, Memory, Path};
 use std::alloc::{AllocError, Global};
@@ -49,7 +49,8 @@ impl From<AllocError> for StoreFault {
 
 /// The refusal where a call on a path gave no answer.
 pub(crate) fn blamed(alloc: Global, path: &Path, fault: FileFault) -> StoreFault
-    ensures { Blames path.now fault result }
+    ensures refusal { Blames path.now fault result }
+    ensures blames { BlamesAt path.now result }
 {
     match fault {
         FileFault::Failed => match path.copy(alloc) {
@@ -79,6 +80,7 @@ pub(crate) fn or_blame(
     ensures ok { OnOk result (IsTrue (is_ok answer)) }
     ensures err { OnErr result (IsTrue (is_err answer)) }
     ensures free { IfErr result (λ fault. IsTrue (is_free fault)) }
+    ensures blames { IfErr result (BlamesAt path.now) }
     ensures counts { (before now : ℕ) → CountsFailed answer before now → CountsStore result before now }
 {
     match answer {

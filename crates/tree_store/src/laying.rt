@@ -8,8 +8,8 @@ ghost use Rattle.cnb_world.specs.Tree.{folder_made, without};
 ghost use Rattle.tree_canon.specs.declared.node.Node.TheVariants.{File, Link};
 ghost use Rattle.tree_canon.specs.Fits.{fits, entries_fit};
 ghost use Rattle.tree_canon.specs.Names.{is_name};
-ghost use Rattle.tree_store.specs.Answers.{CountsStore, is_free};
-ghost use Rattle.tree_store.specs.Overlay.{IsStanding, parts_of, tree_laid, way_parts};
+ghost use Rattle.tree_store.specs.Answers.{BlamesWithin, CountsStore, is_free};
+ghost use Rattle.tree_store.specs.Overlay.{IsNotRoot, IsOverlay, items_under, parts_of, tree_laid, way_parts};
 ghost use Rattle.tree_store.specs.Laying.{file_set, laid_under, tree_steps, node_laid, entry_laid, entries_laid, folder_by, folder_laid};
 
 use crate::fault::{StoreFault, or_blame};
@@ -58,7 +58,8 @@ fn write_file<W: World>(
 // A file in place of what stands at a path.
 #[tactic(auto, using(crate::proofs::Laid::file_steps))]
 fn lay_file<W: World>(world: &mut W, path: &Path, exec: bool, bytes: &[u8]) -> Result<(), FileFault>
-    ensures ok { OnOk result (W.tree world.new ≡ option_map (node_laid (File exec bytes.now) path.now) (W.tree world.old)) }
+    ensures ok { OnOk result (W.tree world.new ≡ option_map (node_laid (File exec bytes.now) path.now)
+        (W.tree world.old)) }
     ensures files { CountsFailed result (W.file_faults world.old) (W.file_faults world.new) }
     ensures children { W.child_faults world.new ≡ W.child_faults world.old }
     ensures runs { W.runs world.new ≡ W.runs world.old }
@@ -83,7 +84,8 @@ fn lay_link<W: World>(world: &mut W, path: &Path, target: &str) -> Result<(), Fi
 
 // A folder in place of something else.
 fn replace_by_folder<W: World>(world: &mut W, path: &Path) -> Result<(), FileFault>
-    ensures ok { OnOk result (W.tree world.new ≡ option_map (folder_made path.now) (option_map (without path.now) (W.tree world.old))) }
+    ensures ok { OnOk result (W.tree world.new ≡ option_map (folder_made path.now)
+        (option_map (without path.now) (W.tree world.old))) }
     ensures files { CountsFailed result (W.file_faults world.old) (W.file_faults world.new) }
     ensures children { W.child_faults world.new ≡ W.child_faults world.old }
     ensures runs { W.runs world.new ≡ W.runs world.old }
@@ -124,6 +126,7 @@ fn lay_folder<W: World>(world: &mut W, path: &Path) -> Result<(), FileFault>
 }
 
 #[cycle(lay)]
+#[tactic(auto, using(crate::proofs::Blames::at_within))]
 fn lay_node<W: World>(
     alloc: Global,
     world: &mut W,
@@ -135,6 +138,7 @@ fn lay_node<W: World>(
     requires short { length path.now + 256 * (64 - depth) ≤ 32768 }
     ensures ok { OnOk result (W.tree world.new ≡ option_map (node_laid node.now path.now) (W.tree world.old)) }
     ensures free { IfErr result (λ fault. IsTrue (is_free fault)) }
+    ensures blames { IfErr result (BlamesWithin path.now) }
     ensures files { CountsStore result (W.file_faults world.old) (W.file_faults world.new) }
     ensures children { W.child_faults world.new ≡ W.child_faults world.old }
     ensures runs { W.runs world.new ≡ W.runs world.old }
@@ -168,6 +172,7 @@ fn lay_entries<W: World>(
     requires short { length path.now + 256 * (65 - depth) ≤ 32768 }
     ensures ok { OnOk result (W.tree world.new ≡ option_map (entries_laid entries.now path.now) (W.tree world.old)) }
     ensures free { IfErr result (λ fault. IsTrue (is_free fault)) }
+    ensures blames { IfErr result (BlamesWithin path.now) }
     ensures files { CountsStore result (W.file_faults world.old) (W.file_faults world.new) }
     ensures children { W.child_faults world.new ≡ W.child_faults world.old }
     ensures runs { W.runs world.new ≡ W.runs world.old }
@@ -179,6 +184,7 @@ fn lay_entries<W: World>(
 }
 
 #[cycle(lay)]
+#[tactic(auto, using(crate::proofs::Blames::name_within))]
 fn lay_entry<W: World>(
     alloc: Global,
     world: &mut W,
@@ -191,6 +197,7 @@ fn lay_entry<W: World>(
     requires short { length folder.now + 256 * (65 - depth) ≤ 32768 }
     ensures ok { OnOk result (W.tree world.new ≡ option_map (entry_laid entry.now folder.now) (W.tree world.old)) }
     ensures free { IfErr result (λ fault. IsTrue (is_free fault)) }
+    ensures blames { IfErr result (BlamesWithin folder.now) }
     ensures files { CountsStore result (W.file_faults world.old) (W.file_faults world.new) }
     ensures children { W.child_faults world.new ≡ W.child_faults world.old }
     ensures runs { W.runs world.new ≡ W.runs world.old }
@@ -202,14 +209,15 @@ fn lay_entry<W: World>(
 
 // The first part of a way, and the way behind it.
 fn next_part(way: &str) -> Option<(&str, &str)>
-    ensures parts { MatchOption result (way_parts way.now ≡ way.now ∷ []) (λ cut. way_parts way.now ≡ cut.0.now ∷ way_parts cut.1.now) }
+    ensures parts { MatchOption result (way_parts way.now ≡ way.now ∷ [])
+        (λ cut. way_parts way.now ≡ cut.0.now ∷ way_parts cut.1.now) }
     ensures lengths { IfSome result (λ cut. length cut.0.now + (1 + length cut.1.now) ≡ length way.now) }
 {
     way.split_once('/')
 }
 
 // A node at the end of a way below a folder, with folders on it.
-#[tactic(auto, using(crate::proofs::Ways::under_step, crate::proofs::Ways::under_last, crate::proofs::Ways::part_ahead, crate::proofs::Ways::parts_behind, crate::proofs::Ways::last_part, crate::proofs::Ways::joined_short))]
+#[tactic(auto, using(crate::proofs::Ways::under_step, crate::proofs::Ways::under_last, crate::proofs::Ways::part_ahead, crate::proofs::Ways::parts_behind, crate::proofs::Ways::last_part, crate::proofs::Ways::joined_short, crate::proofs::Blames::at_within, crate::proofs::Blames::part_within))]
 fn lay_under<W: World>(
     alloc: Global,
     world: &mut W,
@@ -220,8 +228,10 @@ fn lay_under<W: World>(
     requires parts { IsTrue (list_all is_part (way_parts way.now)) }
     requires fits { fits node.now 0 ≡ true }
     requires short { length folder.now + length way.now ≤ 16383 }
-    ensures ok { OnOk result (W.tree world.new ≡ option_map (laid_under node.now (way_parts way.now) folder.now) (W.tree world.old)) }
+    ensures ok { OnOk result (W.tree world.new ≡ option_map (laid_under node.now (way_parts way.now) folder.now)
+        (W.tree world.old)) }
     ensures free { IfErr result (λ fault. IsTrue (is_free fault)) }
+    ensures blames { IfErr result (BlamesWithin folder.now) }
     ensures files { CountsStore result (W.file_faults world.old) (W.file_faults world.new) }
     ensures children { W.child_faults world.new ≡ W.child_faults world.old }
     ensures runs { W.runs world.new ≡ W.runs world.old }
@@ -252,7 +262,7 @@ fn way_to(place: &Path) -> Option<&str>
 }
 
 // A node at a place under a folder, which is made.
-#[tactic(auto, using(crate::proofs::Ways::at_way, crate::proofs::Ways::at_root))]
+#[tactic(auto, using(crate::proofs::Ways::at_way, crate::proofs::Ways::at_root, crate::proofs::Blames::at_within))]
 fn lay_at<W: World>(
     alloc: Global,
     world: &mut W,
@@ -263,9 +273,11 @@ fn lay_at<W: World>(
     requires fits { fits node.now 0 ≡ true }
     requires root { length root.now ≤ 8192 }
     requires place { length place.now ≤ 8192 }
-    ensures ok { OnOk result (W.tree world.new ≡ option_map (tree_steps root.now place.now node.now) (W.tree world.old)) }
+    ensures ok { OnOk result (W.tree world.new ≡ option_map (tree_steps root.now place.now node.now)
+        (W.tree world.old)) }
     ensures names { OnOk result (IsTrue (list_all is_part (parts_of place.now))) }
     ensures free { IfErr result (λ fault. IsTrue (is_free fault)) }
+    ensures blames { IfErr result (BlamesWithin root.now) }
     ensures files { CountsStore result (W.file_faults world.old) (W.file_faults world.new) }
     ensures children { W.child_faults world.new ≡ W.child_faults world.old }
     ensures runs { W.runs world.new ≡ W.runs world.old }
@@ -295,8 +307,13 @@ pub fn write_tree<W: World>(
 ) -> Result<(), StoreFault>
     requires root { length root.now ≤ 8192 }
     requires place { length place.now ≤ 8192 }
-    ensures laid { OnOk result (IfSome (W.tree world.old) IsStanding → W.tree world.new ≡ option_map (tree_laid root.now place.now tree.now) (W.tree world.old)) }
+    ensures laid { OnOk result (IsNotRoot (parts_of place.now) root.now
+        → W.tree world.new ≡ option_map (tree_laid root.now place.now tree.now) (W.tree world.old)) }
+    ensures overlay { OnOk result (IsNotRoot (parts_of place.now) root.now
+        → IfSome (W.tree world.old) (λ old. IfSome (W.tree world.new)
+        (IsOverlay (items_under tree.now (parts_of place.now) root.now) (folder_made root.now old)))) }
     ensures refused { IfErr result (λ fault. IsTrue (is_free fault)) }
+    ensures blames { IfErr result (BlamesWithin root.now) }
     ensures files { CountsStore result (W.file_faults world.old) (W.file_faults world.new) }
     ensures children { W.child_faults world.new ≡ W.child_faults world.old }
     ensures runs { W.runs world.new ≡ W.runs world.old }

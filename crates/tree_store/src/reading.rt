@@ -8,7 +8,7 @@ ghost use Rattle.cnb_world.specs.declared.world.Kind.TheVariants as kind;
 ghost use Rattle.tree_canon.specs.Fits.{entries_fit};
 ghost use Rattle.tree_canon.specs.Names.{is_name};
 ghost use Rattle.tree_canon.specs.Spelling.{limit, entries_bytes};
-ghost use Rattle.tree_store.specs.Answers.{Reads, CountsStore, is_free};
+ghost use Rattle.tree_store.specs.Answers.{BlamesAt, BlamesWithin, Reads, CountsStore, is_free};
 ghost use Rattle.tree_store.specs.Reading.{room, link_of, node_at, node_of, in_order, tree_in, FitsFrom};
 
 use crate::fault::{StoreFault, blamed, odd};
@@ -41,6 +41,7 @@ pub(crate) fn kind_at<W: World>(
 ) -> Result<Kind, StoreFault>
     ensures told { IfSome (W.tree world.old) (λ files. IfOk result (λ k. k ≡ kind_of (item_at files path.now))) }
     ensures free { IfErr result (λ fault. IsTrue (is_free fault)) }
+    ensures blames { IfErr result (BlamesAt path.now) }
     ensures tree { W.tree world.new ≡ W.tree world.old }
     ensures files { CountsStore result (W.file_faults world.old) (W.file_faults world.new) }
     ensures children { W.child_faults world.new ≡ W.child_faults world.old }
@@ -59,6 +60,7 @@ fn listed<W: World>(alloc: Global, world: &mut W, path: &Path) -> Result<List<Te
     ensures names { IfOk result AreNames }
     ensures told { IfSome (W.tree world.old) (λ files. IfOk result (λ names. names ≡ names_in files path.now)) }
     ensures free { IfErr result (λ fault. IsTrue (is_free fault)) }
+    ensures blames { IfErr result (BlamesAt path.now) }
     ensures tree { W.tree world.new ≡ W.tree world.old }
     ensures files { CountsStore result (W.file_faults world.old) (W.file_faults world.new) }
     ensures children { W.child_faults world.new ≡ W.child_faults world.old }
@@ -82,9 +84,11 @@ fn read_file<W: World>(
 ) -> Result<(Node, u64), StoreFault>
     requires size { size ≤ 1073742081 }
     requires kind { IfSome (W.tree world.old) (λ files. kind.File exec len ≡ kind_of (item_at files path.now)) }
-    ensures reads { IfSome (W.tree world.old) (λ files. (below : _) → Reads result (node_of files path.now below size (item_at files path.now))) }
+    ensures reads { IfSome (W.tree world.old) (λ files. (below : _)
+        → Reads result (node_of files path.now below size (item_at files path.now))) }
     ensures fit { IfOk result (λ read. (depth : ℕ) → depth ≤ 64 → FitsFrom depth size read) }
     ensures few { IfOk result (λ read. read.1 ≤ limit) }
+    ensures blames { IfErr result (BlamesAt path.now) }
     ensures tree { W.tree world.new ≡ W.tree world.old }
     ensures files { CountsStore result (W.file_faults world.old) (W.file_faults world.new) }
     ensures children { W.child_faults world.new ≡ W.child_faults world.old }
@@ -123,6 +127,7 @@ fn link_node(
     ensures reads { Reads result (link_of path.now levels size target) }
     ensures fit { IfOk result (FitsFrom (65 - levels) size) }
     ensures few { IfOk result (λ read. read.1 ≤ limit) }
+    ensures blames { IfErr result (BlamesAt path.now) }
     ensures counts { (n : ℕ) → CountsStore result n n }
 {
     if !is_target(target.as_str().as_bytes()) {
@@ -150,6 +155,7 @@ fn read_link<W: World>(
     ensures reads { IfSome (W.tree world.old) (λ files. Reads result (node_at levels files path.now size)) }
     ensures fit { IfOk result (FitsFrom (65 - levels) size) }
     ensures few { IfOk result (λ read. read.1 ≤ limit) }
+    ensures blames { IfErr result (BlamesAt path.now) }
     ensures tree { W.tree world.new ≡ W.tree world.old }
     ensures files { CountsStore result (W.file_faults world.old) (W.file_faults world.new) }
     ensures children { W.child_faults world.new ≡ W.child_faults world.old }
@@ -179,6 +185,7 @@ fn head_length(name: &Text) -> u64
 
 // The node of a name in a folder.
 #[cycle(read)]
+#[tactic(auto, using(crate::proofs::Blames::part_within))]
 fn read_entry<W: World>(
     alloc: Global,
     world: &mut W,
@@ -191,10 +198,12 @@ fn read_entry<W: World>(
     requires levels { levels ≤ 64 }
     requires size { size ≤ limit }
     requires short { length folder.now + 256 * (levels + 1) ≤ 32768 }
-    ensures reads { IfSome (W.tree world.old) (λ files. Reads result (node_at levels files (joined folder.now name.now) (size + (2 + length name.now)))) }
+    ensures reads { IfSome (W.tree world.old) (λ files. Reads result
+        (node_at levels files (joined folder.now name.now) (size + (2 + length name.now)))) }
     ensures name { is_name name.now ≡ true }
     ensures fit { IfOk result (FitsFrom (65 - levels) (size + (2 + length name.now))) }
     ensures few { IfOk result (λ read. read.1 ≤ limit) }
+    ensures blames { IfErr result (BlamesWithin folder.now) }
     ensures tree { W.tree world.new ≡ W.tree world.old }
     ensures files { CountsStore result (W.file_faults world.old) (W.file_faults world.new) }
     ensures children { W.child_faults world.new ≡ W.child_faults world.old }
@@ -221,10 +230,12 @@ fn read_entries<W: World>(
     requires levels { levels ≤ 64 }
     requires size { size ≤ limit }
     requires short { length folder.now + 256 * (levels + 1) ≤ 32768 }
-    ensures reads { IfSome (W.tree world.old) (λ files. Reads result (in_order (λ name. node_at levels files (joined folder.now name)) names.now size)) }
+    ensures reads { IfSome (W.tree world.old) (λ files. Reads result
+        (in_order (λ name. node_at levels files (joined folder.now name)) names.now size)) }
     ensures fit { IfOk result (λ read. entries_fit None read.0 (65 - levels) ≡ true) }
     ensures bytes { IfOk result (λ read. read.1 ≡ size + length (entries_bytes read.0)) }
     ensures few { IfOk result (λ read. read.1 ≤ limit) }
+    ensures blames { IfErr result (BlamesWithin folder.now) }
     ensures tree { W.tree world.new ≡ W.tree world.old }
     ensures files { CountsStore result (W.file_faults world.old) (W.file_faults world.new) }
     ensures children { W.child_faults world.new ≡ W.child_faults world.old }
@@ -243,6 +254,7 @@ fn read_entries<W: World>(
 
 // The folder at a path as a node, below which so many levels may stand.
 #[cycle(read)]
+#[tactic(auto, using(crate::proofs::Blames::at_within))]
 fn read_folder<W: World>(
     alloc: Global,
     world: &mut W,
@@ -254,9 +266,12 @@ fn read_folder<W: World>(
     requires size { size ≤ 1073742081 }
     requires short { length path.now + 256 * (levels + 1) ≤ 32768 }
     requires kind { IfSome (W.tree world.old) (λ files. kind.Folder ≡ kind_of (item_at files path.now)) }
-    ensures reads { IfSome (W.tree world.old) (λ files. Reads result (node_of files path.now (λ name. node_at levels files (joined path.now name)) size (item_at files path.now))) }
+    ensures reads { IfSome (W.tree world.old) (λ files. Reads result
+        (node_of files path.now (λ name. node_at levels files (joined path.now name)) size
+        (item_at files path.now))) }
     ensures fit { IfOk result (FitsFrom (64 - levels) size) }
     ensures few { IfOk result (λ read. read.1 ≤ limit) }
+    ensures blames { IfErr result (BlamesWithin path.now) }
     ensures tree { W.tree world.new ≡ W.tree world.old }
     ensures files { CountsStore result (W.file_faults world.old) (W.file_faults world.new) }
     ensures children { W.child_faults world.new ≡ W.child_faults world.old }
@@ -271,6 +286,7 @@ fn read_folder<W: World>(
 
 // The node at a path, of which so many levels may stand.
 #[cycle(read)]
+#[tactic(auto, using(crate::proofs::Blames::at_within))]
 fn read_node<W: World>(
     alloc: Global,
     world: &mut W,
@@ -284,6 +300,7 @@ fn read_node<W: World>(
     ensures reads { IfSome (W.tree world.old) (λ files. Reads result (node_at levels files path.now size)) }
     ensures fit { IfOk result (FitsFrom (65 - levels) size) }
     ensures few { IfOk result (λ read. read.1 ≤ limit) }
+    ensures blames { IfErr result (BlamesWithin path.now) }
     ensures tree { W.tree world.new ≡ W.tree world.old }
     ensures files { CountsStore result (W.file_faults world.old) (W.file_faults world.new) }
     ensures children { W.child_faults world.new ≡ W.child_faults world.old }
@@ -312,9 +329,11 @@ fn read_node<W: World>(
 /// The tree of the folder at a path. `OddFile` is the first path, a folder before its names and names ascending, that is
 /// neither a folder nor a file nor a link whose target a tree can have, or the path itself where it is no folder;
 /// `Limit` is the first node that lies too deep, or with which the spelling is too long. Of these the first decides.
+#[tactic(auto, using(crate::proofs::Blames::at_within))]
 pub fn read_tree<W: World>(alloc: Global, world: &mut W, path: &Path) -> Result<Tree, StoreFault>
     requires { length path.now ≤ 8192 }
     ensures reads { IfSome (W.tree world.old) (λ files. Reads result (tree_in path.now files)) }
+    ensures blames { IfErr result (BlamesWithin path.now) }
     ensures tree { W.tree world.new ≡ W.tree world.old }
     ensures files { CountsStore result (W.file_faults world.old) (W.file_faults world.new) }
     ensures children { W.child_faults world.new ≡ W.child_faults world.old }

@@ -7,7 +7,7 @@ ghost use Rattle.cnb_world.specs.Path.{is_path, beside};
 ghost use Rattle.cnb_world.specs.Tree.{item_at, is_file, is_file_or_absent, is_root, bytes_of};
 ghost use Rattle.cnb_world.specs.Whole.{can_write, written, LeavesPart};
 ghost use Rattle.tree_canon.specs.Spelling.{spelling_of};
-ghost use Rattle.tree_store.specs.Answers.{Reads, CountsStore, is_free, is_file_kind, is_absent_kind};
+ghost use Rattle.tree_store.specs.Answers.{BlamesAt, Reads, CountsStore, is_free, is_file_kind, is_absent_kind};
 ghost use Rattle.tree_store.specs.Store.{tree_path, tree_put, kept_or_written, Gets, IsJudgedTree, Keeps, Puts, LeavesStore};
 
 use crate::fault::{StoreFault, blamed};
@@ -66,7 +66,9 @@ pub fn has<W: World>(
     digest: &Digest,
 ) -> Result<bool, StoreFault>
     requires { length store.now ≤ 8192 }
-    ensures reads { IfSome (W.tree world.old) (λ files. Reads result (Ok (is_file (item_at files (tree_path store.now digest.now))))) }
+    ensures reads { IfSome (W.tree world.old) (λ files. Reads result
+        (Ok (is_file (item_at files (tree_path store.now digest.now))))) }
+    ensures blames { IfErr result (BlamesAt (tree_path store.now digest.now)) }
     ensures tree { W.tree world.new ≡ W.tree world.old }
     ensures files { CountsStore result (W.file_faults world.old) (W.file_faults world.new) }
     ensures children { W.child_faults world.new ≡ W.child_faults world.old }
@@ -85,14 +87,18 @@ fn read_piece<W: World>(
     path: &Path,
     at: u64,
 ) -> Result<Bytes, StoreFault>
-    ensures told { IfSome (W.tree world.old) (λ files. IfOk result (λ piece. piece ≡ take 65536 (drop at (bytes_of (item_at files path.now))))) }
+    ensures told { IfSome (W.tree world.old) (λ files. IfOk result
+        (λ piece. piece ≡ take 65536 (drop at (bytes_of (item_at files path.now))))) }
     ensures file { IfSome (W.tree world.old) (λ files. OnOk result (IsTrue (is_file (item_at files path.now)))) }
     ensures free { IfErr result (λ fault. IsTrue (is_free fault)) }
+    ensures blames { IfErr result (BlamesAt path.now) }
     ensures tree { W.tree world.new ≡ W.tree world.old }
     ensures files { CountsStore result (W.file_faults world.old) (W.file_faults world.new) }
     ensures children { W.child_faults world.new ≡ W.child_faults world.old }
     ensures runs { W.runs world.new ≡ W.runs world.old }
-    ensures misused { MayMisuse (option_map (λ t. is_file (item_at t path.now)) (W.tree world.old)) (W.misused world.old) (W.misused world.new) }
+    ensures misused { MayMisuse (option_map (λ t. is_file (item_at t path.now)) (W.tree world.old))
+        (W.misused world.old)
+        (W.misused world.new) }
 {
     match world.read(path, at, PIECE) {
         Ok(piece) => Ok(piece),
@@ -120,14 +126,18 @@ fn has_bytes<W: World>(
     path: &Path,
     bytes: &[u8],
 ) -> Result<bool, StoreFault>
-    ensures told { IfSome (W.tree world.old) (λ files. IfOk result (λ same. IsTrue same ↔ (bytes_of (item_at files path.now) ≡ bytes.now))) }
+    ensures told { IfSome (W.tree world.old) (λ files. IfOk result
+        (λ same. IsTrue same ↔ (bytes_of (item_at files path.now) ≡ bytes.now))) }
     ensures file { IfSome (W.tree world.old) (λ files. OnOk result (IsTrue (is_file (item_at files path.now)))) }
     ensures free { IfErr result (λ fault. IsTrue (is_free fault)) }
+    ensures blames { IfErr result (BlamesAt path.now) }
     ensures tree { W.tree world.new ≡ W.tree world.old }
     ensures files { CountsStore result (W.file_faults world.old) (W.file_faults world.new) }
     ensures children { W.child_faults world.new ≡ W.child_faults world.old }
     ensures runs { W.runs world.new ≡ W.runs world.old }
-    ensures misused { MayMisuse (option_map (λ t. is_file (item_at t path.now)) (W.tree world.old)) (W.misused world.old) (W.misused world.new) }
+    ensures misused { MayMisuse (option_map (λ t. is_file (item_at t path.now)) (W.tree world.old))
+        (W.misused world.old)
+        (W.misused world.new) }
 {
     for number in 0..bytes.len() / PIECE as usize + 1 {
         let at = number * PIECE as usize;
@@ -142,8 +152,10 @@ fn has_bytes<W: World>(
 // Whether nothing stands at a path.
 #[tactic(auto, using(crate::proofs::Puts::absent_told))]
 fn is_absent_at<W: World>(alloc: Global, world: &mut W, path: &Path) -> Result<bool, StoreFault>
-    ensures told { IfSome (W.tree world.old) (λ files. IfOk result (λ absent. absent ≡ not (is_some (item_at files path.now)))) }
+    ensures told { IfSome (W.tree world.old) (λ files. IfOk result
+        (λ absent. absent ≡ not (is_some (item_at files path.now)))) }
     ensures free { IfErr result (λ fault. IsTrue (is_free fault)) }
+    ensures blames { IfErr result (BlamesAt path.now) }
     ensures tree { W.tree world.new ≡ W.tree world.old }
     ensures files { CountsStore result (W.file_faults world.old) (W.file_faults world.new) }
     ensures children { W.child_faults world.new ≡ W.child_faults world.old }
@@ -163,11 +175,14 @@ fn compare<W: World>(
     digest: &Digest,
 ) -> Result<(), StoreFault>
     ensures keeps { IfSome (W.tree world.old) (λ files. Keeps digest.now bytes.now (item_at files path.now) result) }
+    ensures blames { IfErr result (BlamesAt path.now) }
     ensures tree { W.tree world.new ≡ W.tree world.old }
     ensures files { CountsStore result (W.file_faults world.old) (W.file_faults world.new) }
     ensures children { W.child_faults world.new ≡ W.child_faults world.old }
     ensures runs { W.runs world.new ≡ W.runs world.old }
-    ensures misused { MayMisuse (option_map (λ t. is_file (item_at t path.now)) (W.tree world.old)) (W.misused world.old) (W.misused world.new) }
+    ensures misused { MayMisuse (option_map (λ t. is_file (item_at t path.now)) (W.tree world.old))
+        (W.misused world.old)
+        (W.misused world.new) }
 {
     if has_bytes(alloc, world, path, bytes)? {
         Ok(())
@@ -188,10 +203,12 @@ fn write_new<W: World>(
     ensures ok { OnOk result (W.tree world.new ≡ option_map (written path.now bytes.now) (W.tree world.old)) }
     ensures err { OnErr result (LeavesPart (W.tree world.old) (W.tree world.new) path.now) }
     ensures free { IfErr result (λ fault. IsTrue (is_free fault)) }
+    ensures blames { IfErr result (BlamesAt path.now) }
     ensures files { CountsStore result (W.file_faults world.old) (W.file_faults world.new) }
     ensures children { W.child_faults world.new ≡ W.child_faults world.old }
     ensures runs { W.runs world.new ≡ W.runs world.old }
-    ensures misused { MayMisuse (option_map (can_write path.now) (W.tree world.old)) (W.misused world.old) (W.misused world.new) }
+    ensures misused { MayMisuse (option_map (can_write path.now) (W.tree world.old)) (W.misused world.old)
+        (W.misused world.new) }
 {
     match write_whole(alloc, world, path, bytes) {
         Ok(()) => Ok(()),
@@ -212,10 +229,12 @@ fn keep<W: World>(
     ensures keeps { IfSome (W.tree world.old) (λ files. Keeps digest.now bytes.now (item_at files path.now) result) }
     ensures ok { OnOk result (W.tree world.new ≡ option_map (kept_or_written path.now bytes.now) (W.tree world.old)) }
     ensures err { IfErr result (λ fault. LeavesStore fault path.now (W.tree world.old) (W.tree world.new)) }
+    ensures blames { IfErr result (BlamesAt path.now) }
     ensures files { CountsStore result (W.file_faults world.old) (W.file_faults world.new) }
     ensures children { W.child_faults world.new ≡ W.child_faults world.old }
     ensures runs { W.runs world.new ≡ W.runs world.old }
-    ensures misused { MayMisuse (option_map (can_write path.now) (W.tree world.old)) (W.misused world.old) (W.misused world.new) }
+    ensures misused { MayMisuse (option_map (can_write path.now) (W.tree world.old)) (W.misused world.old)
+        (W.misused world.new) }
 {
     if is_absent_at(alloc, world, path)? {
         write_new(alloc, world, path, bytes)?;
@@ -237,11 +256,15 @@ pub fn put<W: World>(
     ensures digest { IfOk result (λ digest. digest ≡ sha256 (spelling_of tree.now)) }
     ensures puts { IfSome (W.tree world.old) (λ files. Puts store.now tree.now files result) }
     ensures ok { OnOk result (W.tree world.new ≡ option_map (tree_put store.now tree.now) (W.tree world.old)) }
-    ensures err { IfErr result (λ fault. LeavesStore fault (tree_path store.now (sha256 (spelling_of tree.now))) (W.tree world.old) (W.tree world.new)) }
+    ensures err { IfErr result (λ fault. LeavesStore fault (tree_path store.now (sha256 (spelling_of tree.now)))
+        (W.tree world.old) (W.tree world.new)) }
+    ensures blames { IfErr result (BlamesAt (tree_path store.now (sha256 (spelling_of tree.now)))) }
     ensures files { CountsStore result (W.file_faults world.old) (W.file_faults world.new) }
     ensures children { W.child_faults world.new ≡ W.child_faults world.old }
     ensures runs { W.runs world.new ≡ W.runs world.old }
-    ensures misused { MayMisuse (option_map (can_write (tree_path store.now (sha256 (spelling_of tree.now)))) (W.tree world.old)) (W.misused world.old) (W.misused world.new) }
+    ensures misused { MayMisuse (option_map (can_write (tree_path store.now (sha256 (spelling_of tree.now))))
+        (W.tree world.old))
+        (W.misused world.old) (W.misused world.new) }
 {
     let bytes = encode(alloc, tree)?;
     let digest = Digest::of(bytes.as_slice());
@@ -271,11 +294,14 @@ fn read_kept<W: World>(
     requires len { IfSome (W.tree world.old) (λ files. length (bytes_of (item_at files path.now)) ≤ len) }
     requires stands { IfSome (W.tree world.old) (λ files. IsTrue (is_some (item_at files path.now))) }
     ensures gets { IfSome (W.tree world.old) (λ files. Gets digest.now (item_at files path.now) result) }
+    ensures blames { IfErr result (BlamesAt path.now) }
     ensures tree { W.tree world.new ≡ W.tree world.old }
     ensures files { CountsStore result (W.file_faults world.old) (W.file_faults world.new) }
     ensures children { W.child_faults world.new ≡ W.child_faults world.old }
     ensures runs { W.runs world.new ≡ W.runs world.old }
-    ensures misused { MayMisuse (option_map (λ t. is_file (item_at t path.now)) (W.tree world.old)) (W.misused world.old) (W.misused world.new) }
+    ensures misused { MayMisuse (option_map (λ t. is_file (item_at t path.now)) (W.tree world.old))
+        (W.misused world.old)
+        (W.misused world.new) }
 {
     let mut judging = Judging::new(alloc)?;
     for number in 0..len / PIECE + 1 {
@@ -295,12 +321,15 @@ pub fn get<W: World>(
     digest: &Digest,
 ) -> Result<Tree, StoreFault>
     requires { length store.now ≤ 8192 }
-    ensures gets { IfSome (W.tree world.old) (λ files. Gets digest.now (item_at files (tree_path store.now digest.now)) result) }
+    ensures gets { IfSome (W.tree world.old) (λ files. Gets digest.now
+        (item_at files (tree_path store.now digest.now)) result) }
+    ensures blames { IfErr result (BlamesAt (tree_path store.now digest.now)) }
     ensures tree { W.tree world.new ≡ W.tree world.old }
     ensures files { CountsStore result (W.file_faults world.old) (W.file_faults world.new) }
     ensures children { W.child_faults world.new ≡ W.child_faults world.old }
     ensures runs { W.runs world.new ≡ W.runs world.old }
-    ensures misused { MayMisuse (option_map (λ t. is_file_or_absent (item_at t (tree_path store.now digest.now))) (W.tree world.old)) (W.misused world.old) (W.misused world.new) }
+    ensures misused { MayMisuse (option_map (λ t. is_file_or_absent (item_at t (tree_path store.now digest.now)))
+        (W.tree world.old)) (W.misused world.old) (W.misused world.new) }
 {
     let path = tree_file(alloc, store, digest)?;
     match kind_at(alloc, world, &path)? {

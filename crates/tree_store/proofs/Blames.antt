@@ -1,0 +1,63 @@
+-- Which path a refusal carries.
+use Rattle.std.proofs.Common.{◌≡◌, ℕ, ◌<◌, Bool, true, false, cond, List, [], ◌∷◌, ◌++◌, ◌||◌, refl, sym, ap, ◌∙◌, length, nat_eq, append_assoc}
+use Rattle.std.specs.Prelude.{IsTrue}
+use Rattle.std.specs.List.{starts_with}
+use Rattle.std.specs.Str.{bytes_eq}
+use Rattle.std.proofs.lemmas.Slice.Eq.{bytes_eq-Decides}
+use Rattle.cnb_world.specs.Path.{is_part, joined}
+use Rattle.cnb_world.specs.Tree.{is_root, is_under, is_within}
+use Rattle.cnb_world.proofs.Trees.{bytes_eq-same}
+use Rattle.tree_canon.specs.Names.{is_name}
+use Rattle.tree_store.specs.declared.fault.StoreFault.{StoreFault}
+use Rattle.tree_store.specs.declared.fault.StoreFault.TheVariants.{OddFile, Limit, File, NoTree, Damaged, Clash, Memory}
+use Rattle.tree_store.specs.Answers.{BlamesAt, BlamesWithin}
+use Rattle.tree_store.proofs.Places.{child_not_root, longer_front, name_form, or_right, part_form, starts_itself}
+
+within_itself : (path : List ℕ) → is_within path path ≡ true
+within_itself path = by (is_root path)
+  where
+    by : (v : Bool) → (v || is_under path path) ≡ true
+    by true = refl
+    by false = ap (λ v. v || starts_with nat_eq path (path ++ 47 ∷ [])) (bytes_eq-same path)
+
+-- what is within a name in a folder is within the folder
+within_child : (folder name q : List ℕ) → 0 < length name → is_within (joined folder name) q ≡ true → is_within folder q ≡ true
+within_child folder name q some h = by (is_root folder) refl
+  where
+    front : List ℕ
+    front = folder ++ 47 ∷ []
+
+    begins : joined folder name ≡ front ++ name → (v : Bool) → bytes_eq q (joined folder name) ≡ v → (v || starts_with nat_eq q (joined folder name ++ 47 ∷ [])) ≡ true → starts_with nat_eq q front ≡ true
+    begins is true e h = ap (λ x. starts_with nat_eq x front) ((bytes_eq-Decides q (joined folder name)).0 e ∙ is) ∙ starts_itself front name
+    begins is false e h = longer_front q front (name ++ 47 ∷ []) (ap (starts_with nat_eq q) (sym (ap (λ x. x ++ 47 ∷ []) is ∙ append_assoc front name (47 ∷ []))) ∙ h)
+
+    under : is_under (joined folder name) q ≡ true
+    under = ap (λ v. v || is_under (joined folder name) q) (sym (child_not_root folder name some)) ∙ h
+
+    by : (v : Bool) → is_root folder ≡ v → (v || is_under folder q) ≡ true
+    by true e = refl
+    by false e = or_right (bytes_eq q folder) (starts_with nat_eq q front) (begins (ap (λ v. cond v folder front ++ name) e) (bytes_eq q (joined folder name)) refl under)
+
+pub at_within : (path : List ℕ) (fault : StoreFault) → BlamesAt path fault → BlamesWithin path fault
+at_within path (File blamed) is = ap (is_within path) is ∙ within_itself path
+at_within path (OddFile odd) is = tt
+at_within path (Limit kind) is = tt
+at_within path (NoTree digest) is = tt
+at_within path (Damaged asked found bad) is = tt
+at_within path (Clash digest) is = tt
+at_within path Memory is = tt
+
+child_within : (folder name path : List ℕ) (fault : StoreFault) → path ≡ joined folder name → 0 < length name → BlamesWithin path fault → BlamesWithin folder fault
+child_within folder name path (File blamed) is some h = within_child folder name blamed some (ap (λ p. is_within p blamed) (sym is) ∙ h)
+child_within folder name path (OddFile odd) is some h = tt
+child_within folder name path (Limit kind) is some h = tt
+child_within folder name path (NoTree digest) is some h = tt
+child_within folder name path (Damaged asked found bad) is some h = tt
+child_within folder name path (Clash digest) is some h = tt
+child_within folder name path Memory is some h = tt
+
+pub part_within : (folder name path : List ℕ) (fault : StoreFault) → path ≡ joined folder name → IsTrue (is_part name) → BlamesWithin path fault → BlamesWithin folder fault
+part_within folder name path fault is part h = child_within folder name path fault is (part_form name part).0 h
+
+pub name_within : (folder name path : List ℕ) (fault : StoreFault) → path ≡ joined folder name → is_name name ≡ true → BlamesWithin path fault → BlamesWithin folder fault
+name_within folder name path fault is name_is h = child_within folder name path fault is (name_form name name_is).0 h
