@@ -491,14 +491,14 @@ under_away : (parts : List (List ℕ)) (node : Node) (path q : List ℕ) → is_
 under_away [] node path q h = node_away node path q h
 under_away (part ∷ parts) node path q h = away_append (folder_at path) (items_under node parts (joined path part)) q (folder_away path q h) (under_away parts node (joined path part) q (below_child path part q h))
 
-is_below : (parts : List (List ℕ)) (path part : List ℕ) → 0 < length part → IsNotRoot parts (joined path part)
-is_below [] path part some = child_not_root path part some
-is_below (p ∷ ps) path part some = tt
+never_root : (parts : List (List ℕ)) (path part : List ℕ) → 0 < length part → IsNotRoot parts (joined path part)
+never_root [] path part some = child_not_root path part some
+never_root (p ∷ ps) path part some = tt
 
 pub under_lays : (parts : List (List ℕ)) (node : Node) (path : List ℕ) (files : Tree) → AreParts parts → fits node 0 ≡ true → IsNotRoot parts path → IsReady path files → (q : List ℕ) → get (laid_under node parts path files) q ≡ laid_at (items_under node parts path) q (get files q)
 under_lays [] node path files are fit placed ready q = node_lays node 0 path files fit placed ready q
 under_lays (part ∷ parts) node path files are fit placed ready q =
-    under_lays parts node (joined path part) (folder_laid path files) are.1 fit (is_below parts path part form.0) (record { above = above_inside path part (folder_laid path files) form.1 (folder_inside path files ready); clean = folder_clean path part files form.0 ready }) q
+    under_lays parts node (joined path part) (folder_laid path files) are.1 fit (never_root parts path part form.0) (record { above = above_inside path part (folder_laid path files) form.1 (folder_inside path files ready); clean = folder_clean path part files form.0 ready }) q
     ∙ ap (laid_at (items_under node parts (joined path part)) q) (folder_step path files ready q)
     ∙ behind_folder path q (items_under node parts (joined path part)) (get files q) (under_away parts node (joined path part) path (shorter_away (joined path part) path (longer_child path part form.0)))
   where
