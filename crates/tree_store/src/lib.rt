@@ -7,8 +7,6 @@ mod judging;
 mod laying;
 mod reading;
 mod store;
-#[cfg(test)]
-mod tests;
 
 pub use fault::StoreFault;
 pub use folders::{check_tree, lay_stored, put_folder};
