@@ -167,8 +167,18 @@ fn the_world_runs_children(rt: HostRuntime) -> Result<(), Fail> {
         fs::read_to_string(&rt, "app/told")?.as_str(),
         "ONE=1 =\0TWO=\02a b\n"
     );
+    leave_folder(&rt)
+}
+
+#[test]
+fn the_world_counts_a_program_that_is_not_there(rt: HostRuntime) -> Result<(), Fail> {
+    enter_folder(&rt)?;
+    fs::create_dir(&rt, "app")?;
     let mut job = child_of(&rt, "exit 0")?;
     job.program = Text::of(rt.alloc(), path_to(&rt, "no_program")?.as_str())?;
-    assert_eq!(rt; world.run(&job).err(), Some(ChildFault::Failed));
+    assert_eq!(rt;
+        HostWorld::new(rt).run(&job).err(),
+        Some(ChildFault::Failed)
+    );
     leave_folder(&rt)
 }

@@ -12,45 +12,36 @@ const DIGEST: [u8; 32] = [0xab; 32];
 const TREE: &str = "cache/trees/abababababababababababababababababababababababababababababababab";
 
 #[test]
-fn a_folder_keeps_rows_and_trees(rt: HostRuntime) -> Result<(), Fail> {
+fn a_folder_keeps_rows(rt: HostRuntime) -> Result<(), Fail> {
     enter_folder(&rt)?;
     let mut shelf = FolderShelf::new(rt, path_to(&rt, "cache")?);
     assert_eq!(rt; shelf.rows()?.as_slice().len(), 0);
-    assert_eq!(rt; shelf.has(&DIGEST)?, false);
-    assert_eq!(rt; shelf.get(&DIGEST)?.is_some(), false);
-    assert_eq!(rt; fs::exists(&rt, "cache")?, false);
-    for text in ["longer", "text"] {
-        shelf.set_rows(text.as_bytes())?;
-        shelf.put(&DIGEST, text.as_bytes())?;
-        assert_eq!(rt; shelf.rows()?.as_slice(), text.as_bytes());
-        assert_eq!(rt; shelf.has(&DIGEST)?, true);
-        let tree = shelf.get(&DIGEST)?.ok_or(ShelfFault::Failed)?;
-        assert_eq!(rt; tree.as_slice(), text.as_bytes());
-        assert_eq!(rt; fs::read_to_string(&rt, TREE)?.as_str(), text);
-    }
-    assert_eq!(rt; fs::exists(&rt, "cache/rows.toml.new")?, false);
+    shelf.set_rows(b"longer")?;
+    shelf.set_rows(b"text")?;
+    assert_eq!(rt; shelf.rows()?.as_slice(), b"text".as_slice());
     leave_folder(&rt)
 }
 
 #[test]
-fn a_folder_counts_wrong_kinds(rt: HostRuntime) -> Result<(), Fail> {
+fn a_folder_keeps_trees(rt: HostRuntime) -> Result<(), Fail> {
     enter_folder(&rt)?;
-    fs::create_dir_all(&rt, "cache/rows.toml")?;
-    fs::create_dir_all(&rt, TREE)?;
     let mut shelf = FolderShelf::new(rt, path_to(&rt, "cache")?);
-    for kind in ["folder", "link"] {
-        if kind == "link" {
-            for path in ["cache/rows.toml", TREE] {
-                fs::remove_dir(&rt, path)?;
-                symlink(&rt, "/etc/hostname", path)?;
-            }
-        }
-        let failed = Some(ShelfFault::Failed);
-        assert_eq!(rt; shelf.rows().err(), failed, "rows {kind}");
-        assert_eq!(rt; shelf.set_rows(b"x").err(), failed, "set_rows {kind}");
-        assert_eq!(rt; shelf.has(&DIGEST).err(), failed, "has {kind}");
-        assert_eq!(rt; shelf.get(&DIGEST).err(), failed, "get {kind}");
-        assert_eq!(rt; shelf.put(&DIGEST, b"x").err(), failed, "put {kind}");
-    }
+    assert_eq!(rt; shelf.has(&DIGEST)?, false);
+    shelf.put(&DIGEST, b"text")?;
+    assert_eq!(rt; shelf.has(&DIGEST)?, true);
+    let tree = shelf.get(&DIGEST)?.ok_or(ShelfFault::Failed)?;
+    assert_eq!(rt; tree.as_slice(), b"text".as_slice());
+    assert_eq!(rt; fs::read_to_string(&rt, TREE)?.as_str(), "text");
+    leave_folder(&rt)
+}
+
+#[test]
+fn a_folder_follows_no_link(rt: HostRuntime) -> Result<(), Fail> {
+    enter_folder(&rt)?;
+    fs::create_dir(&rt, "cache")?;
+    symlink(&rt, "/etc/hostname", "cache/rows.toml")?;
+    let mut shelf = FolderShelf::new(rt, path_to(&rt, "cache")?);
+    assert_eq!(rt; shelf.rows().err(), Some(ShelfFault::Failed));
+    assert_eq!(rt; shelf.set_rows(b"x").err(), Some(ShelfFault::Failed));
     leave_folder(&rt)
 }
