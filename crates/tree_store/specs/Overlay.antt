@@ -91,7 +91,7 @@ abbrev pub IsNotRoot : List (List ℕ) → List ℕ → Type 0
 IsNotRoot [] root = is_root root ≡ false
 IsNotRoot (part ∷ parts) root = Unit {0}
 
--- What laying items leaves, path by path: an old item stays exactly where its path isn't given and no path above it is given
--- a file or a link.
+-- What laying items leaves, path by path: the item that is given there; else what stood there, unless a file or a link now
+-- stands on its way.
 abbrev pub IsOverlay : List Given → Tree → Tree → Type 0
 IsOverlay given old new = (path : List ℕ) → get new path ≡ stands (given_at given path) (is_replaced given path) (get old path)
