@@ -1,6 +1,6 @@
 -- What the calls make of a tree is a tree again: all stands at paths other than `/`, in folders.
-use Rattle.std.proofs.Common.{◌≡◌, ◌≢◌, ℕ, ◌+◌, ◌≤◌, ◌<◌, Bool, true, false, not, cond, List, [], ◌∷◌, ◌++◌, ◌&&◌, ◌||◌, ◌==◌, ◌⊎◌, inl, inr, zero, suc, refl, sym, ap, subst, ◌∙◌, Option, Some, None, is_some, IsTrue, Result, Ok, Err, OnOk, OnErr, length, drop, append_assoc, append-nil, length-append, arith}
-use Rattle.std.specs.Prelude.{nat_eq, nat_le, IfSome}
+use Rattle.std.proofs.Common.{◌≡◌, ℕ, ◌≤◌, ◌<◌, Bool, true, false, not, cond, List, [], ◌∷◌, ◌++◌, ◌&&◌, ◌||◌, ◌==◌, ◌⊎◌, inl, inr, zero, suc, refl, sym, ap, subst, ◌∙◌, Option, Some, None, is_some, Result, Ok, Err, OnOk, OnErr, length, drop, append_assoc, append-nil, length-append, arith}
+use Rattle.std.specs.Prelude.{nat_eq, nat_le}
 use Rattle.std.specs.List.{list_all, starts_with}
 use Rattle.std.specs.Str.{bytes_eq}
 use Rattle.std.specs.Option.{option_map}
@@ -8,7 +8,7 @@ use Rattle.std.specs.Ordering.{nat_cmp}
 use Rattle.std.specs.Cmp.Lexicographic.{slice_cmp}
 use Rattle.std.specs.FinMap.{empty, get, insert, remove, get-empty}
 use Rattle.std.proofs.lemmas.Slice.Eq.{bytes_eq-Decides, starts_is}
-use Rattle.std.proofs.lemmas.Bool.{false≢true, eqb-true, false_from_ne_true}
+use Rattle.std.proofs.lemmas.Bool.{eqb-true, false_from_ne_true}
 use Rattle.std.proofs.lemmas.Bool.Decides.{Decides-eqb}
 use Rattle.cnb_world.specs.declared.world.Item.{Item}
 use Rattle.cnb_world.specs.declared.world.Item.TheVariants.{Folder, File, Link, Odd}
@@ -16,12 +16,15 @@ use Rattle.cnb_world.specs.declared.world.Placed.{Placed}
 use Rattle.cnb_world.specs.Path.{is_path, is_part, front_of, parent_of}
 use Rattle.cnb_world.specs.Tree.{Tree, IsTree, StandsRight, item_at, is_root, is_folder, is_file, is_file_or_absent, is_exec, bytes_of, is_under, is_within, without, folders_from, folders_above, with_folders, folder_made, created, appended, renamed, moved, linked, can_create, can_read, can_rename, can_make_link}
 use Rattle.cnb_world.specs.declared.memory.change.Change.{Change}
-use Rattle.cnb_world.specs.Memory.{tree_of, laid, placed, all_without}
+use Rattle.cnb_world.specs.declared.memory.change.Change.TheVariants.{Ran}
+use Rattle.cnb_world.specs.declared.memory.play.ChildRun.{ChildRun}
+use Rattle.cnb_world.specs.Memory.{HavePaths, tree_of, laid, placed, all_placed, all_without}
 use Rattle.cnb_world.specs.Effects.{is_slashed}
-use Rattle.cnb_world.proofs.Parents.{has_slash, both_true, length-front_of, parent_is_path}
-use Rattle.cnb_world.proofs.Trees.{get-insert_bytes, get-remove_bytes, bytes_eq-same}
+use Rattle.cnb_world.proofs.Parents.{has_slash, both_true, parent_is_path}
+use Rattle.cnb_world.proofs.Trees.{get-insert_bytes, get-remove_bytes}
 use Rattle.cnb_world.proofs.Folders.{get-without, folder_stands}
 use Rattle.cnb_world.proofs.EffectLemmas.{within_more}
+use Rattle.cnb_world.proofs.ChangeLemmas.{tree_after_last}
 use Rattle.cnb_world.proofs.FolderLemmas.{with_folders-append}
 
 same_bytes : (a b : List ℕ) → bytes_eq a b ≡ true → a ≡ b
@@ -398,8 +401,13 @@ nothing_stands_yet changes none = made_of (tree_of changes) empty (ap tree_of no
 pub placed_keeps : (p : Placed) (old new : Tree) → is_path p.path ≡ true → new ≡ placed p old → IsTree old → IsTree new
 placed_keeps p old new fits e is = made_of new (placed p old) e (tree_placed p old fits is.standing)
 
-pub all_without_keeps : (paths : List (List ℕ)) (old new : Tree) → new ≡ all_without paths old → IsTree old → IsTree new
-all_without_keeps paths old new e is = made_of new (all_without paths old) e (all_without_stand paths old is.standing)
+all_placed_stand : (ps : List Placed) (tree : Tree) → HavePaths ps → AllStand tree → AllStand (all_placed ps tree)
+all_placed_stand [] tree fits is = is
+all_placed_stand (p ∷ ps) tree fits is = all_placed_stand ps (placed p tree) fits.1 (tree_placed p tree fits.0 is)
+
+pub played_keeps : (old new : List Change) (run : ChildRun) → new ≡ old ++ Ran run ∷ [] → HavePaths run.leaves → IsTree (tree_of old) → IsTree (tree_of new)
+played_keeps old new run e fits is =
+    made_of (tree_of new) (all_placed run.leaves (all_without run.removes (tree_of old))) (tree_after_last new old (Ran run) e) (all_placed_stand run.leaves _ fits (all_without_stand run.removes (tree_of old) is.standing))
 
 either : {T E : Type 0} (r : Result T E) (a b : List Change) (step : Tree) → OnOk r (tree_of b ≡ step) → OnErr r (b ≡ a) → IsTree (tree_of a) → AllStand step → IsTree (tree_of b)
 either (Ok x) a b step ok err is steps = made_of (tree_of b) step ok steps

@@ -1,16 +1,17 @@
 // A tree in memory, as the changes that made it.
-ghost use Rattle.std.specs.Prelude.{◌≡◌, ◌+◌, ◌≤◌, ◌<◌, ◌^◌, ◌++◌, ◌∷◌, [], IfOk, OnOk, OnErr, IsTrue, length, take, drop, is_some, Some, not, ◌||◌, false, slice_index};
+ghost use Rattle.std.specs.Prelude.{◌≡◌, ◌+◌, ◌≤◌, ◌<◌, ◌^◌, ◌++◌, ◌∷◌, [], IfOk, OnOk, OnErr, length, map, take, drop, is_some, not, ◌||◌, vec_len, vec_capacity};
 ghost use Rattle.std.specs.FinMap.{get, insert};
-ghost use Rattle.cnb_world.specs.Tree.{IsTree, item_at, kind_of, bytes_of, is_folder, is_file, is_file_or_absent, can_make_folder, folders_from, folders_above, with_folders, folder_made, appended, is_link, renamed, target_of, without, Lists};
+ghost use Rattle.cnb_world.specs.Tree.{IsTree, Tree, item_at, kind_of, bytes_of, is_folder, is_file, is_file_or_absent, can_make_folder, folders_above, folder_made, appended, is_link, renamed, target_of, without, Lists};
 ghost use Rattle.cnb_world.specs.Calls.{AreNames};
-ghost use Rattle.cnb_world.specs.Names.{AddsStanding};
-ghost use Rattle.cnb_world.specs.Memory.{tree_of, changed, bytes_written, length_of_change, length_of_item, placed, all_placed, all_without, laid, Extends};
+ghost use Rattle.cnb_world.specs.Names.{AddsOne, AddsOnWay, AddsStanding};
+ghost use Rattle.cnb_world.specs.Memory.{HavePaths, tree_of, changed, bytes_written, length_of_change, length_of_items, placed, all_placed, end_of_run, row_of, rows_of, run_of, runs_of, targets, way_to, ways_to};
 
-use crate::memory::change::{Change, copy_changes};
-use crate::memory::effect::{gather, kind_after, target_after};
+use crate::memory::change::{Change, item_len, items_len};
+use crate::memory::effect::{ends_folder, gather, kind_after, target_after};
 use crate::memory::names::{add_name, name_in};
+use crate::memory::play::ChildRun;
 use crate::path::Path;
-use crate::values::{Bytes, List, Memory, Text};
+use crate::values::{Bytes, Memory, Text};
 use crate::world::{Item, Kind, Placed};
 use std::alloc::Global;
 
@@ -33,29 +34,6 @@ impl Changes {
             list: Vec::new(alloc),
             written: 0,
         }
-    }
-
-    /// The changes once more, as a list.
-    pub fn copied(&self) -> Result<List<Change>, Memory>
-        ensures { IfOk result (λ copy. copy ≡ self.now.list.items) }
-    {
-        copy_changes(self.alloc, &self.list)
-    }
-
-    /// The changes with those that a child makes behind them.
-    #[tactic(auto, using(crate::proofs::Standing::all_without_keeps))]
-    pub fn after(&self, removes: &[Path], leaves: Vec<Placed>) -> Result<Changes, Memory>
-        ensures tree { IfOk result (λ after. tree_of after.list.items ≡ all_placed leaves.items (all_without removes.now (tree_of self.now.list.items))) }
-        ensures standing { IfOk result (λ after. IsTree (tree_of self.now.list.items) → IsTree (tree_of after.list.items)) }
-    {
-        let mut after = Changes {
-            alloc: self.alloc,
-            list: self.copied()?.into_vec(),
-            written: self.written,
-        };
-        after.empty_all(removes)?;
-        after.place_all(leaves)?;
-        Ok(after)
     }
 
     /// What stands at a path.
@@ -134,6 +112,17 @@ impl Changes {
         }
     }
 
+    /// The children that ran, in order.
+    pub fn runs(&self) -> Result<Vec<&ChildRun>, Memory>
+        ensures { IfOk result (λ rows. map row_of rows.items ≡ map end_of_run (runs_of self.now.list.items)) }
+    {
+        let mut rows = Vec::new(self.alloc);
+        for change in &self.list {
+            add_row(change, &mut rows)?;
+        }
+        Ok(rows)
+    }
+
     /// The names of what stands in a folder, ascending.
     pub fn names(&self, folder: &str) -> Result<Vec<Text>, Memory>
         ensures names { IfOk result (λ names. AreNames names.items) }
@@ -141,16 +130,86 @@ impl Changes {
     {
         let mut names = Vec::new(self.alloc);
         for change in &self.list {
-            self.add_standing(folder, change.target(), &mut names)?;
+            self.add_names(folder, change, &mut names)?;
         }
         Ok(names)
+    }
+
+    // Adds the names of paths where a change may have let something stand.
+    fn add_names(&self, folder: &str, change: &Change, names: &mut Vec<Text>) -> Result<(), Memory>
+        ensures names { OnOk result (AreNames names.old.items → AreNames names.new.items) }
+        ensures adds { OnOk result (AddsStanding (tree_of self.now.list.items) folder.now (targets change.now) names.old.items names.new.items) }
+    {
+        match change {
+            Change::Set { path, .. } => self.add_way(folder, path.as_str(), names),
+            Change::Appended { path, .. } => self.add_way(folder, path.as_str(), names),
+            Change::Renamed { new, .. } => self.add_way(folder, new.as_str(), names),
+            Change::Made { path } => self.add_way(folder, path.as_str(), names),
+            Change::Emptied { path } => self.add_way(folder, path.as_str(), names),
+            Change::Put { next } => self.add_way(folder, next.path.as_str(), names),
+            Change::Ran { run } => self.add_ways(folder, run.leaves.as_slice(), names),
+        }
+    }
+
+    #[tactic(auto, using(crate::proofs::ListingLemmas::adding))]
+    fn add_ways(&self, folder: &str, items: &[Placed], names: &mut Vec<Text>) -> Result<(), Memory>
+        ensures names { OnOk result (AreNames names.old.items → AreNames names.new.items) }
+        ensures adds { OnOk result (AddsStanding (tree_of self.now.list.items) folder.now (ways_to items.now) names.old.items names.new.items) }
+    {
+        let Some((first, later)) = items.split_first() else {
+            return Ok(());
+        };
+        self.add_way(folder, first.path.as_str(), names)?;
+        self.add_ways(folder, later, names)?;
+        Ok(())
+    }
+
+    // Adds the names of a path and of the folders above it.
+    #[tactic(auto, using(crate::proofs::ListingLemmas::adding))]
+    fn add_way(&self, folder: &str, path: &str, names: &mut Vec<Text>) -> Result<(), Memory>
+        ensures names { OnOk result (AreNames names.old.items → AreNames names.new.items) }
+        ensures adds { OnOk result (AddsStanding (tree_of self.now.list.items) folder.now (way_to path.now) names.old.items names.new.items) }
+    {
+        self.add_above(folder, path, names)?;
+        self.add_standing(folder, path, names)?;
+        Ok(())
+    }
+
+    fn add_above(&self, folder: &str, path: &str, names: &mut Vec<Text>) -> Result<(), Memory>
+        ensures names { OnOk result (AreNames names.old.items → AreNames names.new.items) }
+        ensures adds { OnOk result (AddsStanding (tree_of self.now.list.items) folder.now (folders_above path.now) names.old.items names.new.items) }
+    {
+        for place in 0..path.len() {
+            self.add_at(folder, path, place, names)?;
+        }
+        Ok(())
+    }
+
+    // Adds the name of the folder above a path whose own path ends at this place.
+    #[tactic(auto, using(crate::proofs::ListingLemmas::adding_on))]
+    fn add_at(
+        &self,
+        folder: &str,
+        path: &str,
+        place: usize,
+        names: &mut Vec<Text>,
+    ) -> Result<(), Memory>
+        requires { place < length path.now }
+        ensures names { OnOk result (AreNames names.old.items → AreNames names.new.items) }
+        ensures adds { OnOk result (AddsOnWay (tree_of self.now.list.items) folder.now path.now place names.old.items names.new.items) }
+    {
+        if !ends_folder(path.as_bytes(), place) {
+            return Ok(());
+        }
+        self.add_standing(folder, &path[..place], names)?;
+        Ok(())
     }
 
     // Adds the name of a path of this folder where something stands.
     #[tactic(auto, using(crate::proofs::ListingLemmas::standing))]
     fn add_standing(&self, folder: &str, path: &str, names: &mut Vec<Text>) -> Result<(), Memory>
         ensures names { OnOk result (AreNames names.old.items → AreNames names.new.items) }
-        ensures adds { OnOk result (AddsStanding (tree_of self.now.list.items) folder.now path.now names.old.items names.new.items) }
+        ensures adds { OnOk result (AddsOne (tree_of self.now.list.items) folder.now path.now names.old.items names.new.items) }
     {
         let Some(name) = name_in(folder, path) else {
             return Ok(());
@@ -163,103 +222,61 @@ impl Changes {
     }
 
     pub fn set(&mut self, path: &str, item: Item) -> Result<(), Memory>
-        ensures tree { OnOk result (tree_of self.new.list.items ≡ insert (tree_of self.old.list.items) path.now item) }
-        ensures ok { OnOk result (self.new.list.items ≡ self.old.list.items ++ Change.Set path.now item ∷ []) }
+        ensures ok { OnOk result (tree_of self.new.list.items ≡ insert (tree_of self.old.list.items) path.now item) }
         ensures err { OnErr result (self.new.list.items ≡ self.old.list.items) }
+        ensures runs { runs_of self.new.list.items ≡ runs_of self.old.list.items }
     {
         let path = Text::of(self.alloc, path)?;
         let len = item_len(&item);
-        self.push(Change::Set { path, item }, len)?;
-        Ok(())
+        self.push(Change::Set { path, item }, len)
     }
 
     pub fn append(&mut self, path: &str, bytes: &[u8]) -> Result<(), Memory>
         ensures ok { OnOk result (tree_of self.new.list.items ≡ appended path.now bytes.now (tree_of self.old.list.items)) }
         ensures err { OnErr result (self.new.list.items ≡ self.old.list.items) }
+        ensures runs { runs_of self.new.list.items ≡ runs_of self.old.list.items }
     {
         let path = Text::of(self.alloc, path)?;
         let len = bytes.len() as u64;
         let bytes = Bytes::of(self.alloc, bytes)?;
-        self.push(Change::Appended { path, bytes }, len)?;
-        Ok(())
+        self.push(Change::Appended { path, bytes }, len)
     }
 
     pub fn rename(&mut self, old: &str, new: &str) -> Result<(), Memory>
         ensures ok { OnOk result (tree_of self.new.list.items ≡ renamed old.now new.now (tree_of self.old.list.items)) }
         ensures err { OnErr result (self.new.list.items ≡ self.old.list.items) }
+        ensures runs { runs_of self.new.list.items ≡ runs_of self.old.list.items }
     {
         let old = Text::of(self.alloc, old)?;
         let new = Text::of(self.alloc, new)?;
-        self.push(Change::Renamed { old, new }, 0)?;
-        Ok(())
+        self.push(Change::Renamed { old, new }, 0)
     }
 
-    /// Makes a folder and those above it, or changes nothing.
+    /// Makes a folder and those above it.
     pub fn make_folder(&mut self, path: &str) -> Result<(), Memory>
         ensures ok { OnOk result (tree_of self.new.list.items ≡ folder_made path.now (tree_of self.old.list.items)) }
         ensures err { OnErr result (self.new.list.items ≡ self.old.list.items) }
+        ensures runs { runs_of self.new.list.items ≡ runs_of self.old.list.items }
     {
-        let before = self.list.len();
-        match self.make_folders_to(path) {
-            Ok(()) => Ok(()),
-            Err(fault) => {
-                self.list.truncate(before);
-                Err(fault)
-            }
-        }
+        let path = Text::of(self.alloc, path)?;
+        self.push(Change::Made { path }, 0)
     }
 
-    #[tactic(auto, using(crate::proofs::FolderLemmas::folders))]
-    fn make_folders_to(&mut self, path: &str) -> Result<(), Memory>
-        ensures ok { OnOk result (tree_of self.new.list.items ≡ folder_made path.now (tree_of self.old.list.items)) }
-        ensures extends { Extends self.old.list.items self.new.list.items }
+    /// Takes away what stands at a path and below it.
+    pub fn empty(&mut self, path: &str) -> Result<(), Memory>
+        ensures ok { OnOk result (tree_of self.new.list.items ≡ without path.now (tree_of self.old.list.items)) }
+        ensures err { OnErr result (self.new.list.items ≡ self.old.list.items) }
+        ensures runs { runs_of self.new.list.items ≡ runs_of self.old.list.items }
     {
-        self.make_folders_above(path)?;
-        self.set_folder(path)?;
-        Ok(())
+        let path = Text::of(self.alloc, path)?;
+        self.push(Change::Emptied { path }, 0)
     }
 
-    #[tactic(auto, using(crate::proofs::FolderLemmas::extends_further))]
-    fn make_folders_above(&mut self, path: &str) -> Result<(), Memory>
-        ensures ok { OnOk result (tree_of self.new.list.items ≡ with_folders (folders_above path.now) (tree_of self.old.list.items)) }
-        ensures extends { Extends self.old.list.items self.new.list.items }
-    {
-        for place in 0..path.len() {
-            self.make_folder_at(path, place)?;
-        }
-        Ok(())
-    }
-
-    // Makes the folder above a path whose own path ends at this place.
-    #[tactic(auto, using(crate::proofs::FolderLemmas::ways))]
-    fn make_folder_at(&mut self, path: &str, place: usize) -> Result<(), Memory>
-        requires { place < length path.now }
-        ensures ok { OnOk result (with_folders (folders_from (take (place + 1) path.now) (drop (place + 1) path.now)) (tree_of self.new.list.items) ≡ with_folders (folders_from (take place path.now) (drop place path.now)) (tree_of self.old.list.items)) }
-        ensures extends { Extends self.old.list.items self.new.list.items }
-    {
-        if !ends_folder(path.as_bytes(), place) {
-            return Ok(());
-        }
-        self.set_folder(&path[..place])?;
-        Ok(())
-    }
-
-    #[tactic(auto, using(crate::proofs::FolderLemmas::folders))]
-    fn set_folder(&mut self, path: &str) -> Result<(), Memory>
-        ensures ok { OnOk result (tree_of self.new.list.items ≡ with_folders (path.now ∷ []) (tree_of self.old.list.items)) }
-        ensures extends { Extends self.old.list.items self.new.list.items }
-    {
-        if path == "/" {
-            return Ok(());
-        }
-        self.set(path, Item::Folder)?;
-        Ok(())
-    }
-
-    /// Places items in order.
+    /// Places items in order, each with folders at the paths above it.
     pub fn place_all(&mut self, items: Vec<Placed>) -> Result<(), Memory>
         ensures tree { OnOk result (tree_of self.new.list.items ≡ all_placed items.items (tree_of self.old.list.items)) }
         ensures standing { OnOk result (IsTree (tree_of self.old.list.items) → IsTree (tree_of self.new.list.items)) }
+        ensures runs { runs_of self.new.list.items ≡ runs_of self.old.list.items }
     {
         for next in items {
             self.place(next)?;
@@ -267,60 +284,76 @@ impl Changes {
         Ok(())
     }
 
-    /// Lays an item at its path, with folders at the paths above it.
     #[tactic(auto, using(crate::proofs::Standing::placed_keeps))]
-    pub fn place(&mut self, next: Placed) -> Result<(), Memory>
+    fn place(&mut self, next: Placed) -> Result<(), Memory>
         ensures tree { OnOk result (tree_of self.new.list.items ≡ placed next (tree_of self.old.list.items)) }
         ensures standing { OnOk result (IsTree (tree_of self.old.list.items) → IsTree (tree_of self.new.list.items)) }
+        ensures runs { runs_of self.new.list.items ≡ runs_of self.old.list.items }
     {
         let _path = next.path.as_str();
-        self.lay_with_folders(next)?;
-        Ok(())
+        let len = item_len(&next.item);
+        self.push(Change::Put { next }, len)
     }
 
-    fn lay_with_folders(&mut self, next: Placed) -> Result<(), Memory>
-        ensures { OnOk result (tree_of self.new.list.items ≡ placed next (tree_of self.old.list.items)) }
-    {
-        let Placed { path, item } = next;
-        if path.as_str() == "/" {
-            return Ok(());
-        }
-        self.make_folders_above(path.as_str())?;
-        self.lay(path.as_str(), item)?;
-        Ok(())
-    }
-
-    #[tactic(auto, using(crate::proofs::FolderLemmas::lays))]
-    fn lay(&mut self, path: &str, item: Item) -> Result<(), Memory>
-        ensures { OnOk result (tree_of self.new.list.items ≡ laid item path.now (tree_of self.old.list.items)) }
-    {
-        if is_folder_item(&item) {
-            self.set(path, item)?;
-            return Ok(());
-        }
-        self.empty(path)?;
-        self.set(path, item)?;
-        Ok(())
-    }
-
-    /// Takes away what stands at a path and below it.
-    pub fn empty(&mut self, path: &str) -> Result<(), Memory>
-        ensures tree { OnOk result (tree_of self.new.list.items ≡ without path.now (tree_of self.old.list.items)) }
-        ensures ok { OnOk result (self.new.list.items ≡ self.old.list.items ++ Change.Emptied path.now ∷ []) }
+    #[tactic(auto, using(crate::proofs::ChangeLemmas::pushes))]
+    fn push(&mut self, change: Change, len: u64) -> Result<(), Memory>
+        requires fits { length_of_change change ≤ len }
+        requires no_run { (tree : Tree) → run_of change tree ≡ [] }
+        ensures ok { OnOk result (tree_of self.new.list.items ≡ changed change (tree_of self.old.list.items)) }
         ensures err { OnErr result (self.new.list.items ≡ self.old.list.items) }
+        ensures runs { runs_of self.new.list.items ≡ runs_of self.old.list.items }
     {
-        let path = Text::of(self.alloc, path)?;
-        self.push(Change::Emptied { path }, 0)?;
+        self.make_room(len)?;
+        self.add(change);
         Ok(())
     }
 
-    fn empty_all(&mut self, paths: &[Path]) -> Result<(), Memory>
-        ensures { OnOk result (tree_of self.new.list.items ≡ all_without paths.now (tree_of self.old.list.items)) }
+    /// Makes room for a change that leaves these items.
+    pub fn make_room_for(&mut self, items: &[Placed]) -> Result<(), Memory>
+        ensures list { self.new.list.items ≡ self.old.list.items }
+        ensures room { OnOk result (vec_len self.new.list < vec_capacity self.new.list) }
+        ensures counted { OnOk result (bytes_written self.new.list.items + length_of_items items.now ≤ self.new.written) }
+        ensures paths { OnOk result (HavePaths items.now) }
     {
-        for path in paths {
-            self.empty(path.as_str())?;
-        }
+        let Some(len) = items_len(items) else {
+            return Err(Memory);
+        };
+        self.make_room(len)
+    }
+
+    fn make_room(&mut self, len: u64) -> Result<(), Memory>
+        ensures list { self.new.list.items ≡ self.old.list.items }
+        ensures room { OnOk result (vec_len self.new.list < vec_capacity self.new.list) }
+        ensures counted { OnOk result (bytes_written self.new.list.items + len ≤ self.new.written) }
+    {
+        let Some(written) = self.written.checked_add(len) else {
+            return Err(Memory);
+        };
+        self.list.reserve(1)?;
+        self.written = written;
         Ok(())
+    }
+
+    /// Adds the change of a child that ran, for which there is room.
+    pub fn add_run(&mut self, run: ChildRun)
+        requires room { vec_len self.old.list < vec_capacity self.old.list }
+        requires counted { bytes_written self.old.list.items + length_of_items run.leaves ≤ self.old.written }
+        ensures list { self.new.list.items ≡ self.old.list.items ++ Change.Ran run ∷ [] }
+    {
+        self.add(Change::Ran { run });
+    }
+
+    #[tactic(auto, using(crate::proofs::ChangeLemmas::bytes_after_last))]
+    fn add(&mut self, change: Change)
+        requires room { vec_len self.old.list < vec_capacity self.old.list }
+        requires counted { bytes_written self.old.list.items + length_of_change change ≤ self.old.written }
+        ensures list { self.new.list.items ≡ self.old.list.items ++ change ∷ [] }
+    {
+        let _written = self.written;
+        match self.list.push(change) {
+            Ok(()) => {}
+            Err(_) => unreachable!(),
+        }
     }
 
     /// Whether nothing but folders, or nothing, stands at a path and above it.
@@ -343,50 +376,15 @@ impl Changes {
             Kind::File { .. } | Kind::Link | Kind::Odd => false,
         }
     }
-
-    #[tactic(auto, using(crate::proofs::ChangeLemmas::bytes_after_last, crate::proofs::ChangeLemmas::tree_after_last))]
-    fn push(&mut self, change: Change, len: u64) -> Result<(), Memory>
-        requires { length_of_change change ≤ len }
-        ensures ok { OnOk result (self.new.list.items ≡ self.old.list.items ++ change ∷ []) }
-        ensures tree { OnOk result (tree_of self.new.list.items ≡ changed change (tree_of self.old.list.items)) }
-        ensures err { OnErr result (self.new.list.items ≡ self.old.list.items) }
-    {
-        let Some(written) = self.written.checked_add(len) else {
-            return Err(Memory);
-        };
-        self.list.push(change)?;
-        self.written = written;
-        Ok(())
-    }
 }
 
-// Whether the path of a folder above a path ends at this place.
-#[tactic(auto, using(crate::proofs::FolderLemmas::steps))]
-fn ends_folder(path: &[u8], place: usize) -> bool
-    requires { place < length path.now }
-    ensures slash { IsTrue result → slice_index path.now place ≡ 47 }
-    ensures yes { IsTrue result → folders_from (take place path.now) (drop place path.now) ≡ take place path.now ∷ folders_from (take (place + 1) path.now) (drop (place + 1) path.now) }
-    ensures no { result ≡ false → folders_from (take place path.now) (drop place path.now) ≡ folders_from (take (place + 1) path.now) (drop (place + 1) path.now) }
+fn add_row<'a>(change: &'a Change, rows: &mut Vec<&'a ChildRun>) -> Result<(), Memory>
+    ensures { OnOk result (map row_of rows.new.items ≡ map row_of rows.old.items ++ rows_of change.now) }
 {
-    place > 0 && path[place] == b'/'
-}
-
-fn is_folder_item(item: &Item) -> bool
-    ensures { result ≡ is_folder (Some item.now) }
-{
-    match item {
-        Item::Folder => true,
-        Item::File { .. } | Item::Link { .. } | Item::Odd => false,
+    if let Change::Ran { run } = change {
+        rows.push(run)?;
     }
-}
-
-fn item_len(item: &Item) -> u64
-    ensures { result ≡ length_of_item item.now }
-{
-    match item {
-        Item::File { bytes, .. } => bytes.as_slice().len() as u64,
-        Item::Folder | Item::Link { .. } | Item::Odd => 0,
-    }
+    Ok(())
 }
 
 fn part(bytes: &[u8], at: u64, max: u64) -> &[u8]

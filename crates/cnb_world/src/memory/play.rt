@@ -3,7 +3,6 @@ ghost use Rattle.std.specs.Prelude.{◌≡◌, ◌≤◌, IfOk, length};
 ghost use Rattle.cnb_world.specs.Memory.{end_of};
 
 use crate::child::{ChildJob, End};
-use crate::memory::change::Change;
 use crate::memory::cut::{MAX_READ, first_bytes};
 use crate::path::Path;
 use crate::values::{Bytes, List, Memory, Text};
@@ -37,11 +36,11 @@ impl Play {
     }
 }
 
-/// A child that ran, how it ended, and the changes that had made the tree which it found and the one which it left.
+/// A child that ran, how it ended, and what it did: it removed paths with all below them, and left items.
 #[derive(Drop)]
 pub struct ChildRun {
     pub job: ChildJob,
     pub end: End,
-    pub(crate) found: List<Change>,
-    pub(crate) left: List<Change>,
+    pub removes: List<Path>,
+    pub leaves: List<Placed>,
 }

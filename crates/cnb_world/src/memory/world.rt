@@ -1,9 +1,9 @@
 // A world in memory, with the calls that fail.
-ghost use Rattle.std.specs.Prelude.{◌≡◌, ◌&&◌, ◌++◌, ◌∷◌, Some, [], IfOk, OnOk, OnErr};
+ghost use Rattle.std.specs.Prelude.{◌≡◌, ◌&&◌, ◌<◌, Some, [], IfOk, IfSome, length, map};
 ghost use Rattle.std.specs.FinMap.{empty};
 ghost use Rattle.cnb_world.specs.Tree.{IsTree, can_create, can_make_link, can_rename};
 ghost use Rattle.cnb_world.specs.Calls.{Rose};
-ghost use Rattle.cnb_world.specs.Memory.{tree_of, all_placed, all_ran_over};
+ghost use Rattle.cnb_world.specs.Memory.{tree_of, all_placed, end_of_run, row_of, runs_of};
 
 use crate::child::{ChildFault, ChildJob, End};
 use crate::memory::changes::Changes;
@@ -20,7 +20,6 @@ pub struct MemWorld {
     alloc: Global,
     changes: Changes,
     script: Vec<Play>,
-    ran: Vec<ChildRun>,
     numbers: Numbers,
     file_faults: u64,
     child_faults: u64,
@@ -48,7 +47,6 @@ impl MemWorld {
             alloc,
             changes,
             script: script.into_vec(),
-            ran: Vec::new(alloc),
             numbers: Numbers::new(faulty),
             file_faults: 0,
             child_faults: 0,
@@ -56,18 +54,17 @@ impl MemWorld {
         })
     }
 
-    /// The children that ran, in order.
-    pub fn runs(&self) -> &[ChildRun]
-        ensures { ⟦<MemWorld as World>⟧.runs self.now ≡ all_ran_over result.now }
+    /// The children that ran, in order, with what they did.
+    pub fn runs(&self) -> Result<Vec<&ChildRun>, Memory>
+        ensures { IfOk result (λ rows. map row_of rows.items ≡ map end_of_run (⟦<MemWorld as World>⟧.runs self.now)) }
     {
-        self.ran.as_slice()
+        self.changes.runs()
     }
 
     // Counts a fault of the outside.
     fn fault(&mut self) -> FileFault
         ensures fault { result ≡ FileFault.Failed }
         ensures changes { self.new.changes ≡ self.old.changes }
-        ensures ran { self.new.ran ≡ self.old.ran }
         ensures children { self.new.child_faults ≡ self.old.child_faults }
         ensures misused { self.new.misused ≡ self.old.misused }
         ensures files { Rose self.old.file_faults self.new.file_faults }
@@ -80,7 +77,6 @@ impl MemWorld {
     fn misuse(&mut self) -> FileFault
         ensures fault { result ≡ FileFault.Failed }
         ensures changes { self.new.changes ≡ self.old.changes }
-        ensures ran { self.new.ran ≡ self.old.ran }
         ensures children { self.new.child_faults ≡ self.old.child_faults }
         ensures misused { Rose self.old.misused self.new.misused }
         ensures files { Rose self.old.file_faults self.new.file_faults }
@@ -94,25 +90,12 @@ impl MemWorld {
     fn child_fault(&mut self) -> ChildFault
         ensures fault { result ≡ ChildFault.Failed }
         ensures changes { self.new.changes ≡ self.old.changes }
-        ensures ran { self.new.ran ≡ self.old.ran }
         ensures files { self.new.file_faults ≡ self.old.file_faults }
         ensures misused { self.new.misused ≡ self.old.misused }
         ensures children { Rose self.old.child_faults self.new.child_faults }
     {
         self.child_faults = raised(self.child_faults);
         ChildFault::Failed
-    }
-
-    fn add_row(&mut self, row: ChildRun) -> Result<(), Memory>
-        ensures ok { OnOk result (self.new.ran.items ≡ self.old.ran.items ++ row ∷ []) }
-        ensures err { OnErr result (self.new.ran.items ≡ self.old.ran.items) }
-        ensures changes { self.new.changes ≡ self.old.changes }
-        ensures files { self.new.file_faults ≡ self.old.file_faults }
-        ensures children { self.new.child_faults ≡ self.old.child_faults }
-        ensures misused { self.new.misused ≡ self.old.misused }
-    {
-        self.ran.push(row)?;
-        Ok(())
     }
 
     fn can_create(&self, path: &str) -> bool
@@ -145,7 +128,7 @@ impl World for MemWorld {
 
     ghost misused = { λ w. w.misused };
 
-    ghost runs = { λ w. all_ran_over w.ran.items };
+    ghost runs = { λ w. runs_of w.changes.list.items };
 
     ghost standing = { λ w. w.standing };
 
@@ -269,38 +252,39 @@ impl World for MemWorld {
         Ok(())
     }
 
+    #[tactic(auto, using(crate::proofs::Standing::played_keeps, crate::proofs::ChangeLemmas::one_run))]
     fn run(&mut self, job: &ChildJob) -> Result<End, ChildFault> {
         if self.numbers.is_next_faulty() {
             return Err(self.child_fault());
         }
-        let Some(play) = take_play(&mut self.script, job.program.as_str()) else {
+        let Some(place) = place_of(&self.script, job.program.as_str()) else {
             return Err(self.child_fault());
         };
-        let end = play.end_of(self.alloc, job)?;
+        let end = self.script[place].end_of(self.alloc, job)?;
+        let kept = end.copy(self.alloc)?;
+        let job = job.copy(self.alloc)?;
+        self.changes
+            .make_room_for(self.script[place].leaves.as_slice())?;
         let Play {
             removes,
             leaves,
             ..
-        } = play;
-        let left = self.changes.after(removes.as_slice(), leaves.into_vec())?;
-        let row = ChildRun {
-            job: job.copy(self.alloc)?,
-            end: end.copy(self.alloc)?,
-            found: self.changes.copied()?,
-            left: left.copied()?,
-        };
-        self.add_row(row)?;
-        self.changes = left;
+        } = self.script.remove(place);
+        self.changes.add_run(ChildRun {
+            job,
+            end: kept,
+            removes,
+            leaves,
+        });
         Ok(end)
     }
 }
 
-// Takes the first play of a program out of a script.
-fn take_play(script: &mut Vec<Play>, program: &str) -> Option<Play> {
-    for place in 0..script.len() {
-        if script[place].program.as_str() == program {
-            return Some(script.remove(place));
-        }
-    }
-    None
+// The place of the first play of a program in a script.
+fn place_of(script: &[Play], program: &str) -> Option<usize>
+    ensures { IfSome result (λ place. place < length script.now) }
+{
+    script
+        .iter()
+        .position(|play| play.program.as_str() == program)
 }
