@@ -1,2 +1,3 @@
+pub mod Side
 pub mod Spawned
 pub mod System

@@ -40,7 +40,7 @@ pub fn child_command(alloc: Global, job: &ChildJob) -> Result<Command, AllocErro
     Ok(command)
 }
 
-fn add_arguments(command: &mut Command, args: &[Text]) -> Result<(), AllocError>
+pub(crate) fn add_arguments(command: &mut Command, args: &[Text]) -> Result<(), AllocError>
     requires { command_args command.old ≡ [] }
     ensures args { OnOk result (command_args command.new ≡ args.now) }
     ensures program { OnOk result (command_program command.new ≡ command_program command.old) }

@@ -12,6 +12,7 @@ mod kept;
 mod names;
 mod process;
 mod shelf;
+mod side;
 mod sink;
 mod spawner;
 mod world;
@@ -22,6 +23,3 @@ pub use shelf::FolderShelf;
 pub use sink::StdoutSink;
 pub use spawner::HostSpawner;
 pub use world::HostWorld;
-
-#[cfg(test)]
-mod tests;

@@ -9,6 +9,7 @@ use crate::fault::HostFault;
 use crate::files::{kind_at, link_target, make_folders, make_link_at, read_part, remove_at};
 use crate::kept::KeptFile;
 use crate::names::names_in;
+use crate::side::run_side;
 use cnb_world::{Bytes, ChildFault, ChildJob, End, FileFault, Kind, List, Path, Text, World};
 use std::marker::Model;
 use std::os::unix::fs::FileExt;
@@ -100,6 +101,8 @@ impl<R: Files + Processes + AllocGlobal + Clone + Drop> HostWorld<R> {
 
     // Takes the memory for the child's row before the child starts.
     fn run_job(&mut self, job: &ChildJob) -> Result<End, HostFault>
+    where
+        R::File: FileExt,
         ensures ok { IfOk result (λ end. self.new.runs ≡ self.old.runs ++ record { job = job.now; end = end } ∷ []) }
         ensures bound { IfOk result (λ end. length end.side ≤ 1048577) }
         ensures side { job.now.side ≡ false → IfOk result (λ end. end.side ≡ []) }
@@ -196,11 +199,13 @@ where
 
 // Runs the child and waits for it. A child that a signal ended has no code.
 fn run_child<R: Files + Processes + AllocGlobal>(rt: &R, job: &ChildJob) -> Result<End, HostFault>
+where
+    R::File: FileExt,
     ensures bound { IfOk result (λ end. length end.side ≤ 1048577) }
     ensures side { job.now.side ≡ false → IfOk result (λ end. end.side ≡ []) }
 {
     if job.side {
-        return Err(HostFault::Failed);
+        return run_side(rt, job);
     }
     let status = child_command(rt.alloc(), job)?.status(rt)?;
     Ok(End {
