@@ -1,5 +1,5 @@
 -- What steps leave alone.
-use Rattle.std.proofs.Common.{◌≡◌, ◌∙◌, refl, sym, ap, subst, ℕ, ◌++◌, ◌||◌, ◌&&◌, List, [], ◌∷◌, Bool, true, false, not, cond, Option, Some, None, Result, Ok, Err, inl, inr, ◌⊎◌, append_assoc, append-nil}
+use Rattle.std.proofs.Common.{◌≡◌, ◌∙◌, refl, sym, ap, subst, ℕ, ◌++◌, ◌||◌, ◌&&◌, List, [], ◌∷◌, Bool, true, false, not, cond, Option, Some, None, Result, Ok, Err, inl, inr, ◌⊎◌, append_assoc, append-nil, take}
 use Rattle.std.specs.List.{AllByRecursion, list_any}
 use Rattle.std.specs.Str.{bytes_eq}
 use Rattle.std.specs.Option.{option_map}
@@ -10,13 +10,13 @@ use Rattle.cnb_world.specs.declared.world.Item.TheVariants.{Folder, File}
 use Rattle.cnb_world.specs.Path.{parent_of, beside}
 use Rattle.cnb_world.specs.Runs.{Run}
 use Rattle.cnb_world.specs.Tree.{Tree, item_at, is_root, folder_made}
-use Rattle.cnb_world.specs.Whole.{written, left_of, LeavesPart}
+use Rattle.cnb_world.specs.Whole.{Progress, Unbegun, FolderMade, PartBeside, written, left_of, LeavesPart}
 use Rattle.cnb_world.proofs.Trees.{get-insert_bytes, get-remove_bytes}
 use Rattle.cnb_world.proofs.Folders.{get-with_folders}
 use Rattle.steps.specs.Causes.{Cause}
 use Rattle.steps.specs.Frames.{folder_paths, touched, is_free, standing, Keeps, Spares}
 use Rattle.steps.specs.Outside.{Seen}
-use Rattle.steps.specs.Steps.{Same, ◌>>=◌, gives, map_err, reads, makes_folder, runs_child, writes, yields}
+use Rattle.steps.specs.Steps.{LeavesSome, Same, ◌>>=◌, gives, map_err, reads, makes_folder, runs_child, writes, yields}
 
 neither : (a b : Bool) → not (a || b) ≡ true → (a ≡ false) × (b ≡ false)
 neither true b h = absurd (cc)
@@ -45,8 +45,8 @@ written_free t p q bytes free =
     ∙ get-remove_bytes made (beside p) q ∙ ap (λ b. cond b None (get made q)) second.0
     ∙ made_get t (parent_of p) q second.1)
 
-pub left_free : (made : Bool) (part : Option (List ℕ)) (t : Tree) (p q : List ℕ) → is_free (touched p) q ≡ true → item_at (left_of made part p t) q ≡ item_at t q
-left_free made part t p q free = by made part
+pub left_free : (progress : Progress) (bytes : List ℕ) (t : Tree) (p q : List ℕ) → is_free (touched p) q ≡ true → item_at (left_of progress p bytes t) q ≡ item_at t q
+left_free progress bytes t p q free = by progress
   where
     rest : list_any (bytes_eq q) (beside p ∷ folder_paths (parent_of p)) ≡ false
     rest = (neither (bytes_eq q p) (list_any (bytes_eq q) (beside p ∷ folder_paths (parent_of p))) free).1
@@ -60,11 +60,10 @@ left_free made part t p q free = by made part
     beside_it : (u : Tree) (bytes : List ℕ) → get (insert u (beside p) (File false bytes)) q ≡ get u q
     beside_it u bytes = get-insert_bytes u (beside p) (File false bytes) q ∙ ap (λ b. cond b (Some (File false bytes)) (get u q)) second.0
 
-    by : (made : Bool) (part : Option (List ℕ)) → item_at (left_of made part p t) q ≡ item_at t q
-    by true None = at_get _ t q folder
-    by false None = refl
-    by true (Some bytes) = at_get _ t q (beside_it (folder_made (parent_of p) t) bytes ∙ folder)
-    by false (Some bytes) = at_get _ t q (beside_it t bytes)
+    by : (progress : Progress) → item_at (left_of progress p bytes t) q ≡ item_at t q
+    by Unbegun = refl
+    by FolderMade = at_get _ t q folder
+    by (PartBeside count) = at_get _ t q (beside_it (folder_made (parent_of p) t) (take count bytes) ∙ folder)
 
 -- a step after which a path is as it was, but for what children did
 abbrev pub Preserves : {E A : Type 0} → List ℕ → (Seen → Result A E → Seen → Type 0) → Type 0
@@ -122,11 +121,18 @@ pub step_at : (o o1 : Option Tree) (step : Tree → Tree) (q : List ℕ) → ((t
 step_at None o1 step q same e = ap (λ o. standing o q) e
 step_at (Some t) o1 step q same e = ap (λ o. standing o q) e ∙ ap Some (same t)
 
+-- a path that a write doesn't touch is as it was, where the write was refused
+pub part_left : (o o1 : Option Tree) (p q bytes : List ℕ) → is_free (touched p) q ≡ true → LeavesPart o o1 p bytes → standing o1 q ≡ standing o q
+part_left o o1 p q bytes free (progress, fits, e) = step_at o o1 (left_of progress p bytes) q (λ t. left_free progress bytes t p q free) e
+
+pub some_left : (o o1 : Option Tree) (p q : List ℕ) (Says : List ℕ → Type 0) → is_free (touched p) q ≡ true → LeavesSome p Says o o1 → standing o1 q ≡ standing o q
+some_left o o1 p q Says free (inl same) = ap (λ files. standing files q) same
+some_left o o1 p q Says free (inr (bytes, says, part)) = part_left o o1 p q bytes free part
+
 pub keeps_writes : {E : Type 0} (path : List ℕ) (cause_of : E → Cause) (at : List ℕ) (Says : List ℕ → Type 0) → is_free (touched at) path ≡ true → Preserves path (writes cause_of at Says)
 unfolding writes
 keeps_writes path cause_of at Says free old new (Ok done) h = keeps_same path old new h.runs (step_at old.files new.files (written at h.bytes) path (λ t. written_free t at path h.bytes free) h.files)
-keeps_writes path cause_of at Says free old new (Err fault) h =
-    let part = h.1.files in keeps_same path old new h.1.runs (step_at old.files new.files (left_of part.0 part.1 at) path (λ t. left_free part.0 part.1 t at path free) part.2)
+keeps_writes path cause_of at Says free old new (Err fault) h = keeps_same path old new h.1.runs (some_left old.files new.files at path Says free h.1.files)
 
 pub keeps_makes_folder : {E : Type 0} (path : List ℕ) (cause_of : E → Cause) (at : List ℕ) → is_free (folder_paths at) path ≡ true → Preserves path (makes_folder cause_of at)
 unfolding makes_folder

@@ -55,12 +55,12 @@ answers cause_of first next a result is h = subst (λ f. IsAnswer cause_of resul
 refused : {E A B : Type 0} (cause_of : E → Cause) (first : Result A E) (next : A → Result B E) (fault : E) → IsAnswer cause_of (Err fault) first → IsAnswer cause_of (Err fault) (results.and_then (first) next)
 refused cause_of first next fault h = where_map (cause_of fault) (first ≡ Err fault) ((results.and_then (first) next) ≡ Err fault) (λ e. ap (λ f. results.and_then f next) e) h
 
-answers_where : {E A B : Type 0} (cause_of : E → Cause) (o o1 : Option Tree) (first : Tree → Result A E) (next : A → Tree → Result B E) (a : A) (result : Result B E) → o1 ≡ o
+pub answers_where : {E A B : Type 0} (cause_of : E → Cause) (o o1 : Option Tree) (first : Tree → Result A E) (next : A → Tree → Result B E) (a : A) (result : Result B E) → o1 ≡ o
     → IfSome o (λ t. IsAnswer cause_of (Ok a) (first t)) → IfSome o1 (λ t. IsAnswer cause_of result (next a t)) → IfSome o (λ t. IsAnswer cause_of result (results.and_then (first t) (λ b. next b t)))
 answers_where cause_of None o1 first next a result e h k = tt
 answers_where cause_of (Some t) o1 first next a result e h k = answers cause_of (first t) (λ b. next b t) a result h (subst (λ v. IfSome v (λ t. IsAnswer cause_of result (next a t))) e k)
 
-refused_where : {E A B : Type 0} (cause_of : E → Cause) (o : Option Tree) (first : Tree → Result A E) (next : A → Tree → Result B E) (fault : E)
+pub refused_where : {E A B : Type 0} (cause_of : E → Cause) (o : Option Tree) (first : Tree → Result A E) (next : A → Tree → Result B E) (fault : E)
     → IfSome o (λ t. IsAnswer cause_of (Err fault) (first t)) → IfSome o (λ t. IsAnswer cause_of (Err fault) (results.and_then (first t) (λ b. next b t)))
 refused_where cause_of None first next fault h = tt
 refused_where cause_of (Some t) first next fault h = refused cause_of (first t) (λ b. next b t) fault h

@@ -1,6 +1,6 @@
 -- Steps that go on, and steps that end.
 use Rattle.std.proofs.Common.{◌≡◌, ◌∙◌, refl, sym, ap, subst, arith, ℕ, List, Bool, true, false, Option, Some, None, Result, Ok, Err, inl, inr, ◌⊎◌}
-use Rattle.std.specs.Prelude.{IfErr, IfSome}
+use Rattle.std.specs.Prelude.{IfErr, IfSome, IsTrue}
 use Rattle.std.specs.Option.{option_map}
 use Rattle.cnb_world.specs.Calls.{MayMisuse}
 use Rattle.cnb_world.specs.Tree.{Tree}
@@ -66,31 +66,24 @@ allowed_by fits (Some t) before now e = by (fits t)
     by true = e
     by false = omega (arith, e)
 
-same_map : (o : Option Tree) → o ≡ option_map (λ t. t) o
-same_map None = refl
-same_map (Some t) = refl
-
 -- a write that wasn't begun
-pub unwritten : (o o1 : Option Tree) (path : List ℕ) → o1 ≡ o → LeavesPart o o1 path
-unwritten o o1 path e = (false, None, e ∙ same_map o)
-
 pub not_begun : {E : Type 0} (cause_of : E → Cause) (path : List ℕ) (Says : List ℕ → Type 0) (old : Seen) (fault : E) → cause_of fault ≡ OutOfMemory → writes cause_of path Says old (Err fault) old
 unfolding writes
 not_begun cause_of path Says old fault is =
-    (subst (IsWriteCause path) (sym is) tt, record { files = unwritten old.files old.files path refl; runs = refl; allows = allowed_by (can_write path) old.files old.misused old.misused refl })
+    (subst (IsWriteCause path) (sym is) tt, record { files = inl refl; runs = refl; allows = allowed_by (can_write path) old.files old.misused old.misused refl })
 
 -- a document that was written, and one whose write was refused
 pub written_so : {W E : Type 0} (ghosts : world.Ghosts W) (cause_of : E → Cause) (path : List ℕ) (Says : List ℕ → Type 0) (bytes : List ℕ) (old new : W)
-    → Says bytes → ghosts.tree new ≡ option_map (written path bytes) (ghosts.tree old) → ghosts.runs new ≡ ghosts.runs old
+    → Says bytes → ghosts.tree new ≡ option_map (written path bytes) (ghosts.tree old) → IfSome (ghosts.tree old) (λ files. IsTrue (can_write path files)) → ghosts.runs new ≡ ghosts.runs old
     → MayMisuse (option_map (can_write path) (ghosts.tree old)) (ghosts.misused old) (ghosts.misused new) → writes cause_of path Says (seen ghosts old) (Ok tt) (seen ghosts new)
 unfolding writes
-written_so ghosts cause_of path Says bytes old new says files runs allows = record { bytes = bytes; says = says; files = files; runs = runs; allows = allows }
+written_so ghosts cause_of path Says bytes old new says files fits runs allows = record { bytes = bytes; says = says; files = files; fits = fits; runs = runs; allows = allows }
 
-pub write_refused : {W E : Type 0} (ghosts : world.Ghosts W) (cause_of : E → Cause) (path : List ℕ) (Says : List ℕ → Type 0) (fault : E) (old new : W)
-    → IsWriteCause path (cause_of fault) → LeavesPart (ghosts.tree old) (ghosts.tree new) path → ghosts.runs new ≡ ghosts.runs old
+pub write_refused : {W E : Type 0} (ghosts : world.Ghosts W) (cause_of : E → Cause) (path : List ℕ) (Says : List ℕ → Type 0) (bytes : List ℕ) (fault : E) (old new : W)
+    → IsWriteCause path (cause_of fault) → Says bytes → LeavesPart (ghosts.tree old) (ghosts.tree new) path bytes → ghosts.runs new ≡ ghosts.runs old
     → MayMisuse (option_map (can_write path) (ghosts.tree old)) (ghosts.misused old) (ghosts.misused new) → writes cause_of path Says (seen ghosts old) (Err fault) (seen ghosts new)
 unfolding writes
-write_refused ghosts cause_of path Says fault old new cause files runs allows = (cause, record { files = files; runs = runs; allows = allows })
+write_refused ghosts cause_of path Says bytes fault old new cause says files runs allows = (cause, record { files = inr (bytes, says, files); runs = runs; allows = allows })
 
 -- files that were read
 pub read_so : {W E A : Type 0} (ghosts : world.Ghosts W) (cause_of : E → Cause) (fits : Tree → Bool) (want : Tree → Result A E) (result : Result A E) (old new : W)

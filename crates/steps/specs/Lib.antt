@@ -1,5 +1,6 @@
 pub mod Asking
 pub mod Causes
+pub mod Each
 pub mod Frames
 pub mod Outside
 pub mod Results

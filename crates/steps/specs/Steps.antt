@@ -1,9 +1,9 @@
 -- Steps, one after another: each from what is seen before, by an answer, to what is seen after.
-use Rattle.std.specs.Prelude.{ℕ, Bool, ◌≡◌, ◌⊎◌, ◌++◌, List, [], ◌∷◌, Option, Result, Ok, Err, IfErr, IfSome}
+use Rattle.std.specs.Prelude.{ℕ, Bool, not, ◌≡◌, ◌⊎◌, ◌++◌, List, [], ◌∷◌, Option, Result, Ok, Err, IfErr, IfSome, IsTrue}
 use Rattle.std.specs.Option.{option_map}
-use Rattle.cnb_world.specs.Calls.{MayMisuse}
+use Rattle.cnb_world.specs.Calls.{MayMisuse, RemovesSome}
 use Rattle.cnb_world.specs.Runs.{Run}
-use Rattle.cnb_world.specs.Tree.{Tree, folder_made, can_make_folder}
+use Rattle.cnb_world.specs.Tree.{Tree, folder_made, can_make_folder, is_root, without}
 use Rattle.cnb_world.specs.Whole.{written, can_write, LeavesPart}
 use Rattle.cnb_world.specs.declared.child.ChildJob.{ChildJob}
 use Rattle.cnb_world.specs.declared.child.End.{End}
@@ -61,18 +61,23 @@ pub record Writes (path : List ℕ) (Says : List ℕ → Type 0) (old new : Seen
   pub bytes : List ℕ
   pub says : Says bytes
   pub files : new.files ≡ option_map (written path bytes) old.files
+  pub fits : IfSome old.files (λ files. IsTrue (can_write path files))
   pub runs : new.runs ≡ old.runs
   pub allows : Allows (can_write path) old new
 
-pub record LeavesUnwritten (path : List ℕ) (old new : Seen) : Type 0 where
-  pub files : LeavesPart old.files new.files path
+-- all is as it was, or a part of bytes of which this holds stands beside the path
+abbrev pub LeavesSome : List ℕ → (List ℕ → Type 0) → Option Tree → Option Tree → Type 0
+LeavesSome path Says old new = (new ≡ old) ⊎ ((bytes : List ℕ) × Says bytes × LeavesPart old new path bytes)
+
+pub record LeavesUnwritten (path : List ℕ) (Says : List ℕ → Type 0) (old new : Seen) : Type 0 where
+  pub files : LeavesSome path Says old.files new.files
   pub runs : new.runs ≡ old.runs
   pub allows : Allows (can_write path) old new
 
 -- a document is written whole, with bytes of which this holds
 unfoldable pub writes : {E : Type 0} → (E → Cause) → List ℕ → (List ℕ → Type 0) → Seen → Result (Unit {0}) E → Seen → Type 0
 writes cause_of path Says old (Ok done) new = Writes path Says old new
-writes cause_of path Says old (Err fault) new = IsWriteCause path (cause_of fault) × LeavesUnwritten path old new
+writes cause_of path Says old (Err fault) new = IsWriteCause path (cause_of fault) × LeavesUnwritten path Says old new
 
 pub record MakesFolder (path : List ℕ) (old new : Seen) : Type 0 where
   pub files : new.files ≡ option_map (folder_made path) old.files
@@ -82,6 +87,20 @@ pub record MakesFolder (path : List ℕ) (old new : Seen) : Type 0 where
 unfoldable pub makes_folder : {E : Type 0} → (E → Cause) → List ℕ → Seen → Result (Unit {0}) E → Seen → Type 0
 makes_folder cause_of path old (Ok done) new = MakesFolder path old new × Allows (λ files. can_make_folder files path) old new
 makes_folder cause_of path old (Err fault) new = IsWriteCause path (cause_of fault) × Same old new × Allows (λ files. can_make_folder files path) old new
+
+pub record Removes (path : List ℕ) (old new : Seen) : Type 0 where
+  pub files : new.files ≡ option_map (without path) old.files
+  pub runs : new.runs ≡ old.runs
+
+pub record RemovesPart (path : List ℕ) (old new : Seen) : Type 0 where
+  pub files : RemovesSome old.files new.files path
+  pub runs : new.runs ≡ old.runs
+
+-- what stands at a path, and below it, is removed
+unfoldable pub removes : {E : Type 0} → (E → Cause) → List ℕ → Seen → Result (Unit {0}) E → Seen → Type 0
+removes cause_of path old (Ok done) new = Removes path old new × Allows (λ files. not (is_root path)) old new
+removes cause_of path old (Err fault) new =
+    IsWriteCause path (cause_of fault) × RemovesPart path old new × Allows (λ files. not (is_root path)) old new
 
 -- a child runs: it finds the files as they then are, and what it leaves stands
 unfoldable pub runs_child : {E : Type 0} → (E → Cause) → ChildJob → Seen → Result End E → Seen → Type 0
