@@ -14,8 +14,6 @@ mod node;
 mod reader;
 mod rules;
 mod spelling;
-#[cfg(test)]
-mod tests;
 mod tree;
 
 pub use decoder::{Decoder, decode};
