@@ -8,8 +8,6 @@
 mod export;
 mod flags;
 mod restore;
-#[cfg(test)]
-mod tests;
 
 pub use export::{ExportRow, export_row};
 pub use flags::Flags;
