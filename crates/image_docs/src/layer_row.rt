@@ -95,7 +95,8 @@ impl<const CACHED: bool> WrittenRow for LayerTable<CACHED> {
     ghost within = { layer_row_within CACHED };
 }
 
-fn layer_key(alloc: Global, row: &LayerRow) -> Result<LayerKey, Memory>
+/// The key of a layer.
+pub fn layer_key(alloc: Global, row: &LayerRow) -> Result<LayerKey, Memory>
     ensures { IfOk result (λ key. key ≡ layer_key row.now) }
 {
     let id = row.id.copy(alloc)?;

@@ -13,15 +13,13 @@ mod layer_row;
 mod row;
 mod run_image;
 mod store_row;
-#[cfg(test)]
-mod tests;
 
 pub use analyzed::{Analyzed, read_analyzed, write_analyzed};
 pub use base::Base;
 pub use cache_rows::{CacheDoc, read_cache, write_cache};
 pub use image::{ImageDoc, read_image, write_image};
 pub use launch_doc::{LaunchDoc, read_launch_doc, write_launch_doc};
-pub use layer_row::LayerRow;
+pub use layer_row::{LayerKey, LayerRow, layer_key};
 pub use row::{Role, Row};
 pub use run_image::{RunDoc, read_run, write_run};
 pub use store_row::StoreRow;
