@@ -18,7 +18,7 @@ finds old places digest found held answer new numbers standing gone n s is left 
 pub leaves : (old : List ShelfState) (places digest : List ℕ) (found : Result (Option (List ℕ)) Memory) (new : List ShelfState) (numbers standing : List ℕ) (n : ℕ) → Searches old places digest found new numbers n → standing ≡ take n numbers → LeavesSame old places new standing
 leaves old places digest found new numbers standing n s left = record { turns = s.turns; gone = drop n numbers; drops = subst (λ x. Drops s.turns old new places x (drop n numbers)) (sym left) s.drops; same = s.same }
 
-pub again : (old : List ShelfState) (given places digest : List ℕ) (found : Result (Option (List ℕ)) Memory) (new : List ShelfState) (numbers standing : List ℕ) (n : ℕ) → Searches old given digest found new numbers n → AreStanding places old → given ≡ places → standing ≡ take n numbers → AreStanding standing new
-again old given places digest found new numbers standing n s ready is left =
+pub again : (old : List ShelfState) (given digest : List ℕ) (found : Result (Option (List ℕ)) Memory) (new : List ShelfState) (numbers standing : List ℕ) (n : ℕ) → Searches old given digest found new numbers n → standing ≡ take n numbers → AreStanding standing new
+again old given digest found new numbers standing n s left =
     let d : Drops s.turns old new given standing (drop n numbers) = subst (λ x. Drops s.turns old new given x (drop n numbers)) (sym left) s.drops in
-    standing_again s.turns old new given standing (drop n numbers) d (subst (λ p. AreStanding p old) (sym is) ready)
+    standing_again s.turns old new given standing (drop n numbers) d

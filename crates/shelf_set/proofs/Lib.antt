@@ -3,3 +3,7 @@ pub mod TurnLemmas
 pub mod SearchLemmas
 pub mod FindLemmas
 pub mod StoreLemmas
+pub mod GatherLemmas
+pub mod CountLemmas
+pub mod CacheLemmas
+pub mod CachingLemmas

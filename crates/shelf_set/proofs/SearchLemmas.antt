@@ -9,7 +9,7 @@ use Rattle.cnb_world.specs.declared.shelf.ShelfFault.{ShelfFault}
 use Rattle.cnb_world.specs.declared.shelf.ShelfFault.TheVariants as shelf
 use Rattle.cnb_world.specs.declared.values.Memory.{Memory}
 use Rattle.shelf_set.specs.ShelfState.{ShelfState}
-use Rattle.shelf_set.specs.Dropping.{Turn, after_of, left_of, AreCounting}
+use Rattle.shelf_set.specs.Dropping.{Turn, after_of, left_of}
 use Rattle.shelf_set.specs.Turns.{TakesTurn, is_failed}
 use Rattle.shelf_set.specs.Finding.{TellsSame, IsFirst, holds_first}
 use Rattle.shelf_set.specs.Searching.{Asks, Lacks, Searching, Searches}
@@ -44,15 +44,15 @@ begin old places digest h = record { turns = []; goes = none_yet old places h; s
 same_still : (rest : List ShelfState) (later : List ℕ) → AllByRecursion TellsSame (still rest later)
 same_still rest later = all_still TellsSame (λ n s. (refl, refl)) rest later
 
-module _ (old now new : List ShelfState) (places numbers later digest : List ℕ) (at asked next : ℕ) (lt : asked < length places) (counting : AreCounting (take (length places) old)) (s : Searching old now places numbers digest at asked) where
+module _ (old now new : List ShelfState) (places numbers later digest : List ℕ) (at asked next : ℕ) (lt : asked < length places) (s : Searching old now places numbers digest at asked) where
   -- the next shelf gives this answer
   abbrev Answers : Result (Option (List ℕ)) ShelfFault → Type 0
   Answers result = TakesTurn now numbers at (Asks digest result) (is_failed result) new later next
 
   next_turn : (result : Result (Option (List ℕ)) ShelfFault) → Answers result → OneMore s.turns old new places later next (Asks digest result) (is_failed result)
   next_turn result k =
-      one_more s.turns old now places numbers at (Asks digest result) (is_failed result) new later next (subst (λ n. n < length places) (sym s.count) lt) counting
-      (λ b a asks low. counted result b.faults a.faults low asks.faults) s.goes k
+      one_more s.turns old now places numbers at (Asks digest result) (is_failed result) new later next (subst (λ n. n < length places) (sym s.count) lt)
+      (λ b a asks. counted result b.faults a.faults asks.faults) s.goes k
 
   same_more : (result : Result (Option (List ℕ)) ShelfFault) → (m : OneMore s.turns old new places later next (Asks digest result) (is_failed result)) → AllByRecursion TellsSame (s.turns ++ m.turn ∷ [])
   same_more result m = all_both TellsSame s.turns (m.turn ∷ []) s.same ((m.does.held, m.does.rows), tt)

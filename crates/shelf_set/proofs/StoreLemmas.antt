@@ -14,11 +14,11 @@ use Rattle.cnb_world.specs.declared.values.Memory.{Memory}
 use Rattle.shelf_set.specs.ShelfState.{ShelfState}
 use Rattle.shelf_set.specs.Dropping.{Turn, has_failed, Drops, AreStanding}
 use Rattle.shelf_set.specs.Turns.{TakesTurn, is_failed}
-use Rattle.shelf_set.specs.Storing.{with_trees, HasEither, IsStored, MayBeStored}
+use Rattle.shelf_set.specs.Storing.{with_trees, HasEither, IsStored, MayBeStored, StoresSome}
 use Rattle.shelf_set.specs.StoringEach.{Puts, SetsRows, Putting, Stores, Storing, StoresEach}
 use Rattle.shelf_set.specs.declared.storing.TreeBytes.{TreeBytes}
 use Rattle.shelf_set.proofs.Lists.{all_both}
-use Rattle.shelf_set.proofs.TurnLemmas.{counted, OneMore, one_more, still, all_still, none_yet, finish, ends_at, standing_again}
+use Rattle.shelf_set.proofs.TurnLemmas.{counted, OneMore, one_more, still, all_still, none_yet, finish, ends_at, standing_again, standing_of}
 
 -- ---- one shelf
 
@@ -95,17 +95,17 @@ untouched : (trees : List TreeBytes) (rows : List ℕ) (rest : List ShelfState) 
 untouched trees rows rest later = all_still (MayBeStored trees rows) (λ n s. inl ((0, omega arith, none_put s.held), refl)) rest later
 
 pub begin : (trees : List TreeBytes) (rows : List ℕ) (old : List ShelfState) (places : List ℕ) → AreStanding places old → Storing trees rows old old places places 0 0
-begin trees rows old places ready = record { turns = []; goes = none_yet old places ready.there; stored = tt; count = refl }
+begin trees rows old places ready = record { turns = []; goes = none_yet old places ready; stored = tt; count = refl }
 
-module _ (trees : List TreeBytes) (rows : List ℕ) (old now new : List ShelfState) (places numbers later : List ℕ) (at asked next : ℕ) (lt : asked < length places) (ready : AreStanding places old) (s : Storing trees rows old now places numbers at asked) where
+module _ (trees : List TreeBytes) (rows : List ℕ) (old now new : List ShelfState) (places numbers later : List ℕ) (at asked next : ℕ) (lt : asked < length places) (s : Storing trees rows old now places numbers at asked) where
   -- the next shelf gives this answer
   abbrev Answers : Result Unit ShelfFault → Type 0
   Answers result = TakesTurn now numbers at (Stores trees rows result) (is_failed result) new later next
 
   next_turn : (result : Result Unit ShelfFault) → Answers result → OneMore s.turns old new places later next (Stores trees rows result) (is_failed result)
   next_turn result k =
-      one_more s.turns old now places numbers at (Stores trees rows result) (is_failed result) new later next (subst (λ n. n < length places) (sym s.count) lt) ready.counting
-      (λ b a does low. counted result b.faults a.faults low does.faults) s.goes k
+      one_more s.turns old now places numbers at (Stores trees rows result) (is_failed result) new later next (subst (λ n. n < length places) (sym s.count) lt)
+      (λ b a does. counted result b.faults a.faults does.faults) s.goes k
 
   count_more : (t : Turn) → length (s.turns ++ t ∷ []) ≡ asked + 1
   count_more t = length-append s.turns (t ∷ []) ∙ ap (λ k. k + 1) s.count
@@ -176,7 +176,20 @@ everywhere trees rows old new places numbers at asked done s all =
     no_later (r ∷ rest) (n ∷ later) h = absurd (omega (arith, h))
 
 -- the list is as the next call asks for
-pub again : (trees : List TreeBytes) (rows : List ℕ) (old : List ShelfState) (given places : List ℕ) (memory : Result Unit Memory) (new : List ShelfState) (numbers standing : List ℕ) (n : ℕ) → StoresEach trees rows old given memory new numbers n → AreStanding places old → given ≡ places → standing ≡ take n numbers → AreStanding standing new
-again trees rows old given places memory new numbers standing n s ready is left =
+pub again : (trees : List TreeBytes) (rows : List ℕ) (old : List ShelfState) (given : List ℕ) (memory : Result Unit Memory) (new : List ShelfState) (numbers standing : List ℕ) (n : ℕ) → StoresEach trees rows old given memory new numbers n → standing ≡ take n numbers → AreStanding standing new
+again trees rows old given memory new numbers standing n s left =
     let d : Drops s.turns old new given standing (drop n numbers) = subst (λ x. Drops s.turns old new given x (drop n numbers)) (sym left) s.drops in
-    standing_again s.turns old new given standing (drop n numbers) d (subst (λ p. AreStanding p old) (sym is) ready)
+    standing_again s.turns old new given standing (drop n numbers) d
+
+-- where nothing was stored, each shelf has what it had
+pub unstored : (trees : List TreeBytes) (rows : List ℕ) (old : List ShelfState) (places : List ℕ) → AreStanding places old → StoresSome trees rows old places old places
+unstored trees rows old places ready =
+    let g = none_yet old places ready in
+    let stands : length places ≡ 0 + length g.later = let e = standing_of [] old old places places 0 g in omega (arith, e) in
+    let all : take (length places) places ≡ places = take_all (length places) places (omega arith) in
+    record {
+      turns = still g.rest g.later;
+      gone = drop (length places) places;
+      drops = subst (λ left. Drops (still g.rest g.later) old old places left (drop (length places) places)) all (finish [] old old places places 0 (length places) g stands);
+      may_be = untouched trees rows g.rest g.later;
+    }

@@ -1,38 +1,23 @@
 -- Shelves that have their turns one after another, of all calls of this crate.
 use Rattle.std.proofs.Common.{◌≡◌, ℕ, ◌+◌, ◌-◌, ◌^◌, ◌<◌, ◌≤◌, Bool, true, false, cond, not, List, [], ◌∷◌, ◌++◌, map, length, take, drop, refl, sym, ap, subst, ◌∙◌, arith, zero, suc, append_assoc, Result, Ok, Err, min, append-nil}
-use Rattle.std.specs.Prelude.{nat_lt}
 use Rattle.std.specs.List.{AllByRecursion}
-use Rattle.std.proofs.lemmas.Bool.{ltb-false}
-use Rattle.std.proofs.lemmas.Bool.Decides.{nat_tests}
 use Rattle.std.proofs.Math.Seq.{take-append_seam, drop-append_seam}
 use Rattle.std.proofs.lemmas.List.{length-append, map-append, length-map, length-take-le, take-append-drop}
 use Rattle.std.proofs.lemmas.List.Elements.{filter-append}
-use Rattle.cnb_world.specs.Calls.{CountsShelf, Rose}
+use Rattle.cnb_world.specs.Calls.{CountsShelf}
 use Rattle.cnb_world.specs.declared.shelf.ShelfFault.{ShelfFault}
 use Rattle.cnb_world.specs.declared.shelf.ShelfFault.TheVariants as shelf
 use Rattle.shelf_set.specs.ShelfState.{ShelfState}
-use Rattle.shelf_set.specs.Dropping.{Turn, has_failed, number_of, before_of, after_of, failed_of, left_of, AreCounting, AreStanding, Drops}
+use Rattle.shelf_set.specs.Dropping.{Turn, has_failed, number_of, before_of, after_of, failed_of, left_of, Counted, IsCounted, AreStanding, Drops}
 use Rattle.shelf_set.specs.Turns.{Replaces, Goes, Settles, TakesTurn, is_failed}
-use Rattle.shelf_set.proofs.Lists.{same_split, SameSplit, moved, regroup2, regroup3, map-last, onto}
+use Rattle.shelf_set.proofs.Lists.{same_split, SameSplit, moved, regroup2, regroup3, map-last, onto, all_both}
 
 -- ---- counts
 
-lt_same : (b a : ℕ) → a ≡ b → nat_lt b a ≡ false
-lt_same b a e = grind (arith, nat_tests, e)
-
-lt_rose : (b a : ℕ) → b < 2 ^ 64 - 1 → Rose b a → nat_lt b a ≡ true
-lt_rose b a h r = let up : min (b + 1) (2 ^ 64 - 1) ≤ a = r.up in let lt : b < a = omega arith in grind (arith, nat_tests, lt)
-
-pub counted : {T : Type 0} (r : Result T ShelfFault) (b a : ℕ) → b < 2 ^ 64 - 1 → CountsShelf r b a → nat_lt b a ≡ is_failed r
-counted (Ok value) b a h c = lt_same b a c
-counted (Err shelf.Failed) b a h c = lt_rose b a h c
-counted (Err shelf.Memory) b a h c = lt_same b a c
-
-counting_at : (xs : List ShelfState) (s : ShelfState) (ys : List ShelfState) (n : ℕ) → length xs < n → AreCounting (take n (xs ++ s ∷ ys)) → s.faults < 2 ^ 64 - 1
-counting_at [] s ys zero lt all = absurd (omega (arith, lt))
-counting_at [] s ys (suc n) lt all = all.0
-counting_at (x ∷ xs) s ys zero lt all = absurd (omega (arith, lt))
-counting_at (x ∷ xs) s ys (suc n) lt all = counting_at xs s ys n (omega (arith, lt)) all.1
+pub counted : {T : Type 0} (r : Result T ShelfFault) (b a : ℕ) → CountsShelf r b a → Counted (is_failed r) b a
+counted (Ok value) b a c = c
+counted (Err shelf.Failed) b a c = c
+counted (Err shelf.Memory) b a c = c
 
 -- ---- one more turn
 
@@ -55,10 +40,9 @@ pub record OneMore (turns : List Turn) (old new : List ShelfState) (places numbe
   pub failing : has_failed turn ≡ fails
 
 module _ (turns : List Turn) (old now : List ShelfState) (places numbers : List ℕ) (at : ℕ) (Does : ShelfState → ShelfState → Type 0) (fails : Bool) (new : List ShelfState) (later : List ℕ) (next : ℕ) where
-  pub one_more : length turns < length places → AreCounting (take (length places) old)
-      → ((before after : ShelfState) → Does before after → before.faults < 2 ^ 64 - 1 → nat_lt before.faults after.faults ≡ fails)
+  pub one_more : length turns < length places → ((before after : ShelfState) → Does before after → Counted fails before.faults after.faults)
       → Goes turns old now places numbers at → TakesTurn now numbers at Does fails new later next → OneMore turns old new places later next Does fails
-  one_more lt counting counts g k = by g.rest g.later g.paired g.entry g.exit g.first g.now
+  one_more lt counts g k = by g.rest g.later g.paired g.entry g.exit g.first g.now
     where
       by : (rest : List ShelfState) (more : List ℕ) → length rest ≡ length more → old ≡ map before_of turns ++ (rest ++ g.earlier) → now ≡ map after_of (left_of turns) ++ (rest ++ (g.earlier ++ map after_of (failed_of turns)))
           → places ≡ map number_of turns ++ more → numbers ≡ map number_of (left_of turns) ++ (more ++ map number_of (failed_of turns)) → OneMore turns old new places later next Does fails
@@ -67,9 +51,7 @@ module _ (turns : List Turn) (old now : List ShelfState) (places numbers : List 
       by (s ∷ ss) [] pair entry exit first here = absurd (omega (arith, pair))
       by (s ∷ ss) (n ∷ ns) pair entry exit first here =
           let does : Does s k.after = subst (λ b. Does b k.after) split.item k.does in
-          let low : s.faults < 2 ^ 64 - 1 = counting_at (map before_of turns) s (ss ++ g.earlier) (length places) (omega (arith, lt, length-map turns before_of)) (subst (λ o. AreCounting (take (length places) o)) entry counting) in
-          let failing : has_failed t ≡ fails = counts s k.after does low in
-          record { turn = t; goes = settle fails failing k.settled; does = does; failing = failing }
+          record { turn = t; goes = settle fails refl k.settled (counts s k.after does); does = does; failing = refl }
         where
           A : List ShelfState
           A = map after_of (left_of turns)
@@ -78,7 +60,7 @@ module _ (turns : List Turn) (old now : List ShelfState) (places numbers : List 
           F = map after_of (failed_of turns)
 
           t : Turn
-          t = record { number = n; before = s; after = k.after }
+          t = record { number = n; before = s; after = k.after; failed = fails }
 
           r : Replaces now at k.before k.after k.between
           r = k.replaced
@@ -89,8 +71,9 @@ module _ (turns : List Turn) (old now : List ShelfState) (places numbers : List 
           whole : k.between ≡ A ++ k.after ∷ (ss ++ (g.earlier ++ F))
           whole = r.exit ∙ ap (λ f. f ++ k.after ∷ r.back) split.front ∙ ap (λ b. A ++ k.after ∷ b) split.back
 
-          settle : (v : Bool) → has_failed t ≡ v → Settles v k.between numbers at new later next → Goes (turns ++ t ∷ []) old new places later next
-          settle false e (same, nums, place) = record {
+          settle : (v : Bool) → has_failed t ≡ v → Settles v k.between numbers at new later next → IsCounted t → Goes (turns ++ t ∷ []) old new places later next
+          settle false e (same, nums, place) counts = record {
+            counted = all_both IsCounted turns (t ∷ []) g.counted (counts, tt);
             rest = ss;
             later = ns;
             earlier = g.earlier;
@@ -103,7 +86,8 @@ module _ (turns : List Turn) (old now : List ShelfState) (places numbers : List 
                 ∙ ap (λ m. m ++ (ns ++ map number_of (failed_of turns))) (map-last number_of (left_of turns) t) ∙ onto (map number_of (left_of turns)) n (ns ++ map number_of (failed_of turns)));
             place = place ∙ ap (λ k. k + 1) g.place ∙ sym (ap length (left-kept turns t e) ∙ length-append (left_of turns) (t ∷ []));
           }
-          settle true e (m, mn, place) = record {
+          settle true e (m, mn, place) counts = record {
+            counted = all_both IsCounted turns (t ∷ []) g.counted (counts, tt);
             rest = ss;
             later = ns;
             earlier = g.earlier;
@@ -124,7 +108,7 @@ module _ (turns : List Turn) (old now : List ShelfState) (places numbers : List 
 abbrev pub still : List ShelfState → List ℕ → List Turn
 still [] ns = []
 still (s ∷ ss) [] = []
-still (s ∷ ss) (n ∷ ns) = record { number = n; before = s; after = s } ∷ still ss ns
+still (s ∷ ss) (n ∷ ns) = record { number = n; before = s; after = s; failed = false } ∷ still ss ns
 
 pub record Stills (ss : List ShelfState) (ns : List ℕ) : Type 0 where
   pub before : map before_of (still ss ns) ≡ ss
@@ -139,17 +123,16 @@ stills [] (n ∷ ns) h = absurd (omega (arith, h))
 stills (s ∷ ss) [] h = absurd (omega (arith, h))
 stills (s ∷ ss) (n ∷ ns) h =
     let r = stills ss ns (omega (arith, h)) in
-    let t : Turn = record { number = n; before = s; after = s } in
-    let no : nat_lt s.faults s.faults ≡ false = lt_same s.faults s.faults refl in
+    let t : Turn = record { number = n; before = s; after = s; failed = false } in
     record {
       before = ap (λ l. s ∷ l) r.before;
       after = ap (λ l. s ∷ l) r.after;
       number = ap (λ l. n ∷ l) r.number;
-      stand = ap (λ v. cond (not v) (t ∷ left_of (still ss ns)) (left_of (still ss ns))) no ∙ ap (λ l. t ∷ l) r.stand;
-      none = ap (λ v. cond v (t ∷ failed_of (still ss ns)) (failed_of (still ss ns))) no ∙ r.none;
+      stand = ap (λ l. t ∷ l) r.stand;
+      none = r.none;
     }
 
-pub all_still : (P : Turn → Type 0) → ((n : ℕ) (s : ShelfState) → P (record { number = n; before = s; after = s })) → (ss : List ShelfState) (ns : List ℕ) → AllByRecursion P (still ss ns)
+pub all_still : (P : Turn → Type 0) → ((n : ℕ) (s : ShelfState) → P (record { number = n; before = s; after = s; failed = false })) → (ss : List ShelfState) (ns : List ℕ) → AllByRecursion P (still ss ns)
 all_still P p [] ns = tt
 all_still P p (s ∷ ss) [] = tt
 all_still P p (s ∷ ss) (n ∷ ns) = (p n s, all_still P p ss ns)
@@ -158,6 +141,7 @@ all_still P p (s ∷ ss) (n ∷ ns) = (p n s, all_still P p ss ns)
 
 pub none_yet : (old : List ShelfState) (places : List ℕ) → length places ≤ length old → Goes [] old old places places 0
 none_yet old places h = record {
+  counted = tt;
   rest = take (length places) old;
   later = places;
   earlier = drop (length places) old;
@@ -184,6 +168,7 @@ finish turns old new places numbers at standing g stands =
     let split : numbers ≡ N ++ G = g.now ∙ sym (append_assoc (map number_of (left_of turns)) g.later G) in
     let size : standing ≡ length N = stands ∙ ap (λ k. k + length g.later) (g.place ∙ sym (length-map (left_of turns) number_of)) ∙ sym (length-append (map number_of (left_of turns)) g.later) in
     record {
+      counted = all_both IsCounted turns q g.counted (all_still IsCounted (λ n s. refl) g.rest g.later);
       earlier = g.earlier;
       entry = g.entry ∙ sym (append_assoc (map before_of turns) g.rest g.earlier) ∙ sym (ap (λ m. m ++ g.earlier) (map-append before_of turns q ∙ ap (λ l. map before_of turns ++ l) r.before));
       exit = g.exit ∙ sym (append_assoc (map after_of (left_of turns)) g.rest (g.earlier ++ map after_of (failed_of turns)))
@@ -216,27 +201,11 @@ ends_at turns old new places numbers at asked standing g count total =
 
 -- ---- the next call
 
-counting_before : (turns : List Turn) (rest : List ShelfState) (n : ℕ) → n ≡ length turns → AreCounting (take n (map before_of turns ++ rest)) → AreCounting (map before_of turns)
-counting_before [] rest n e all = tt
-counting_before (t ∷ ts) rest zero e all = absurd (omega (arith, e))
-counting_before (t ∷ ts) rest (suc n) e all = (all.0, counting_before ts rest n (omega (arith, e)) all.1)
-
-counting_left : (turns : List Turn) → AreCounting (map before_of turns) → AreCounting (map after_of (left_of turns))
-counting_left [] all = tt
-counting_left (t ∷ ts) all = by (has_failed t) refl (counting_left ts all.1)
-  where
-    by : (b : Bool) → has_failed t ≡ b → AreCounting (map after_of (left_of ts)) → AreCounting (map after_of (cond (not b) (t ∷ left_of ts) (left_of ts)))
-    by true e later = later
-    by false e later = (let le : t.after.faults ≤ t.before.faults = ltb-false t.before.faults t.after.faults e in let low = all.0 in omega (arith, le, low), later)
-
 -- a call leaves the shelves as the next one asks for
-pub standing_again : (turns : List Turn) (old new : List ShelfState) (places standing gone : List ℕ) → Drops turns old new places standing gone → AreStanding places old → AreStanding standing new
-standing_again turns old new places standing gone d ready =
+pub standing_again : (turns : List Turn) (old new : List ShelfState) (places standing gone : List ℕ) → Drops turns old new places standing gone → AreStanding standing new
+standing_again turns old new places standing gone d =
     let L : List ShelfState = map after_of (left_of turns) in
     let R : List ShelfState = d.earlier ++ map after_of (failed_of turns) in
-    let count : length places ≡ length turns = ap length d.numbers ∙ length-map turns number_of in
     let size : length standing ≡ length L = ap length d.left ∙ length-map (left_of turns) number_of ∙ sym (length-map (left_of turns) after_of) in
-    let front : take (length standing) new ≡ L = ap (λ n. take n new) size ∙ ap (take (length L)) d.exit ∙ take-append_seam L R in
-    let before : AreCounting (map before_of turns) = counting_before turns d.earlier (length places) count (subst (λ o. AreCounting (take (length places) o)) d.entry ready.counting) in
     let total = ap length d.exit ∙ length-append L R in
-    record { there = omega (arith, size, total); counting = subst AreCounting (sym front) (counting_left turns before) }
+    omega (arith, size, total)

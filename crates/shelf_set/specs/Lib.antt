@@ -1,7 +1,12 @@
+pub mod Caches
+pub mod CacheSteps
 pub mod ShelfState
 pub mod Dropping
 pub mod Turns
 pub mod Finding
+pub mod Gathering
+pub mod Giving
 pub mod Searching
 pub mod Storing
+pub mod Caching
 pub mod StoringEach

@@ -1,9 +1,10 @@
 -- Shelves one after another, which private calls alone speak of.
 use Rattle.std.specs.Prelude.{ℕ, Bool, true, false, ◌≡◌, ◌+◌, ◌++◌, List, [], ◌∷◌, length, map, Result, Ok, Err}
+use Rattle.std.specs.List.{AllByRecursion}
 use Rattle.cnb_world.specs.declared.shelf.ShelfFault.{ShelfFault}
 use Rattle.cnb_world.specs.declared.shelf.ShelfFault.TheVariants as shelf
 use Rattle.shelf_set.specs.ShelfState.{ShelfState}
-use Rattle.shelf_set.specs.Dropping.{Turn, number_of, before_of, after_of, failed_of, left_of}
+use Rattle.shelf_set.specs.Dropping.{Turn, number_of, before_of, after_of, failed_of, left_of, IsCounted}
 
 -- whether an answer is that of a shelf that failed
 abbrev pub is_failed : {T : Type 0} → Result T ShelfFault → Bool
@@ -44,6 +45,7 @@ pub record TakesTurn (old : List ShelfState) (numbers : List ℕ) (at : ℕ) (Do
 
 -- these shelves had their turns, and the next one stands at this place
 pub record Goes (turns : List Turn) (old new : List ShelfState) (places numbers : List ℕ) (at : ℕ) : Type 0 where
+  pub counted : AllByRecursion IsCounted turns
   pub rest : List ShelfState
   pub later : List ℕ
   pub earlier : List ShelfState

@@ -4,12 +4,15 @@
 #![tactic(auto)]
 
 mod ask;
+mod caching;
 mod finding;
+mod gathering;
+mod giving;
 mod searching;
 mod storing;
-#[cfg(test)]
-mod tests;
 mod turns;
 
+pub use caching::store_all;
 pub use finding::{Found, Search, find};
+pub use gathering::{Gathered, gather};
 pub use turns::Shelves;

@@ -1,0 +1,53 @@
+// Storing the layers that a cache keeps.
+ghost use Rattle.std.specs.Prelude.{◌≡◌, IfOk, OnErr, map};
+ghost use Rattle.shelf_set.specs.Caching.{digest_of_row, digest_of_tree, spelled, StoresRows, StoresSomeRows};
+ghost use Rattle.shelf_set.specs.Dropping.{AreStanding};
+ghost use Rattle.shelf_set.specs.ShelfState.{state_of};
+
+use crate::storing::{TreeBytes, put_all};
+use crate::turns::Shelves;
+use cnb_world::{List, Memory};
+use image_docs::{CacheDoc, LayerRow, write_cache};
+use std::alloc::Global;
+use tree_canon::{Tree, encode};
+
+// The bytes of trees, under the digests that their rows give.
+fn spell(alloc: Global, rows: &[LayerRow], trees: &[Tree]) -> Result<Vec<TreeBytes>, Memory>
+    requires { map digest_of_row rows.now ≡ map digest_of_tree trees.now }
+    ensures { IfOk result (λ all. all.items ≡ map spelled trees.now) }
+{
+    let mut all = Vec::with_capacity(alloc, trees.len())?;
+    for (number, tree) in trees.iter().enumerate() {
+        all.push(TreeBytes {
+            digest: rows[number].digest,
+            bytes: encode(alloc, tree)?,
+        })?;
+    }
+    Ok(all)
+}
+
+/// Puts the trees of the layers that a cache keeps on each shelf that stands, in order, and then their rows. `trees` has
+/// the trees of the layers, in their order. Answers the numbers of the shelves that were dropped. Where memory runs out,
+/// some shelves may have been changed.
+pub fn store_all(
+    alloc: Global,
+    shelves: &mut Shelves,
+    places: &mut List<u32>,
+    layers: &CacheDoc,
+    trees: &List<Tree>,
+) -> Result<List<u32>, Memory>
+    requires standing { AreStanding places.old
+        (map (λ s. state_of (held s) (rows s) (faults s)) shelves.old.items) }
+    requires trees { map digest_of_row layers.now ≡ map digest_of_tree trees.now }
+    ensures stores { IfOk result (λ gone. StoresRows layers.now trees.now
+        (map (λ s. state_of (held s) (rows s) (faults s)) shelves.old.items) places.old
+        (map (λ s. state_of (held s) (rows s) (faults s)) shelves.new.items) places.new gone) }
+    ensures memory { OnErr result (StoresSomeRows layers.now trees.now
+        (map (λ s. state_of (held s) (rows s) (faults s)) shelves.old.items) places.old
+        (map (λ s. state_of (held s) (rows s) (faults s)) shelves.new.items) places.new) }
+    ensures again { AreStanding places.new (map (λ s. state_of (held s) (rows s) (faults s)) shelves.new.items) }
+{
+    let document = write_cache(alloc, layers)?;
+    let spelled = spell(alloc, layers.as_slice(), trees.as_slice())?;
+    put_all(alloc, shelves, places, &spelled, document.as_slice())
+}
