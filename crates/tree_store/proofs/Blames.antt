@@ -13,7 +13,7 @@ use Rattle.tree_store.specs.declared.fault.StoreFault.TheVariants.{OddFile, Limi
 use Rattle.tree_store.specs.Answers.{BlamesAt, BlamesWithin}
 use Rattle.tree_store.proofs.Places.{child_not_root, longer_front, name_form, or_right, part_form, starts_itself}
 
-within_itself : (path : List ℕ) → is_within path path ≡ true
+pub within_itself : (path : List ℕ) → is_within path path ≡ true
 within_itself path = by (is_root path)
   where
     by : (v : Bool) → (v || is_under path path) ≡ true
@@ -21,7 +21,7 @@ within_itself path = by (is_root path)
     by false = ap (λ v. v || starts_with nat_eq path (path ++ 47 ∷ [])) (bytes_eq-same path)
 
 -- what is within a name in a folder is within the folder
-within_child : (folder name q : List ℕ) → 0 < length name → is_within (joined folder name) q ≡ true → is_within folder q ≡ true
+pub within_child : (folder name q : List ℕ) → 0 < length name → is_within (joined folder name) q ≡ true → is_within folder q ≡ true
 within_child folder name q some h = by (is_root folder) refl
   where
     front : List ℕ

@@ -1,6 +1,5 @@
 -- Bytes that are hashed and decoded as they come.
-use Rattle.std.proofs.Common.{◌≡◌, ℕ, ◌+◌, ◌∙◌, List, ◌++◌, refl, sym, ap, subst, append_assoc, Option, Some, None, Result, Ok, Err, ◌⊎◌, inl, inr}
-use Rattle.sha2.specs.Sha256.{sha256}
+use Rattle.std.proofs.Common.{◌≡◌, ℕ, ◌∙◌, List, ◌++◌, sym, ap, subst, append_assoc, Result, Ok, Err, inl, inr}
 use Rattle.tree_canon.specs.declared.fault.DecodeFault.{DecodeFault}
 use Rattle.tree_canon.specs.declared.fault.DecodeFault.TheVariants as faults
 use Rattle.tree_canon.specs.declared.fault.Reason.{Reason}

@@ -10,16 +10,16 @@ use Rattle.tree_store.specs.Reading as reading
 use Rattle.std.specs.Ordering.{nat_cmp, is_lt}
 use Rattle.std.specs.Cmp.Lexicographic.{slice_cmp}
 use Rattle.std.specs.declared.cmp.Ordering.TheVariants.{Less}
-use Rattle.std.proofs.lemmas.Bool.{and_parts, and_from, lt-ltb, le-leb}
+use Rattle.std.proofs.lemmas.Bool.{and_from, lt-ltb, le-leb}
 use Rattle.cnb_world.specs.Path.{is_part, is_part_byte}
 use Rattle.cnb_world.specs.Calls.{AreNames}
-use Rattle.tree_canon.specs.CutTree.{last_from, last_name}
+use Rattle.tree_canon.specs.CutTree.{last_name}
 use Rattle.tree_canon.specs.declared.node.Node.{Node}
 use Rattle.tree_canon.specs.declared.node.Named.{Named}
 use Rattle.tree_canon.specs.declared.node.Node.TheVariants.{Folder, File, Link}
-use Rattle.tree_canon.specs.Fits.{fits, entries_fit, name_fits}
-use Rattle.tree_canon.specs.Names.{is_name, is_text, is_plain, is_dots, is_target, is_below, follows}
-use Rattle.tree_canon.specs.Spelling.{limit, magic, node_bytes, entry_bytes, entries_bytes, spelling_of}
+use Rattle.tree_canon.specs.Fits.{fits, entries_fit}
+use Rattle.tree_canon.specs.Names.{is_name, is_plain, is_dots, is_target, follows}
+use Rattle.tree_canon.specs.Spelling.{limit, magic, node_bytes, entry_bytes, entries_bytes}
 use Rattle.tree_canon.specs.Writing.{IsMeasured}
 use Rattle.tree_canon.proofs.Equations.{fits_folder, fits_file, fits_link}
 use Rattle.tree_canon.proofs.Keeps.{entries_fit_push}

@@ -1,6 +1,6 @@
 -- The bytes of a tree's file, piece by piece.
-use Rattle.std.proofs.Common.{◌≡◌, ◌≢◌, ℕ, ◌+◌, ◌*◌, ◌/◌, ◌<◌, ◌≤◌, ◌∙◌, Bool, true, false, not, List, [], ◌++◌, length, take, drop, refl, sym, ap, subst, arith, Option, Some, None, Result, Ok, Err, is_some}
-use Rattle.std.specs.Prelude.{IfOk, IfSome, IsTrue, ◌↔◌}
+use Rattle.std.proofs.Common.{◌≡◌, ◌≢◌, ℕ, ◌+◌, ◌*◌, ◌/◌, ◌<◌, ◌∙◌, Bool, true, false, not, List, [], ◌++◌, length, take, drop, refl, sym, ap, subst, arith, Option, Some, None}
+use Rattle.std.specs.Prelude.{IfSome, IsTrue, ◌↔◌}
 use Rattle.std.specs.Option.{option_map}
 use Rattle.std.specs.Str.{bytes_eq}
 use Rattle.std.proofs.lemmas.Slice.Eq.{bytes_eq-Decides}
@@ -9,7 +9,7 @@ use Rattle.std.proofs.lemmas.List.{take_all, length-take}
 use Rattle.cnb_world.specs.Calls.{MayMisuse}
 use Rattle.tree_store.specs.declared.judging.Judging.{Judging}
 use Rattle.tree_store.specs.Judging.{HasTaken}
-use Rattle.cnb_world.specs.Tree.{Tree, item_at, is_file, is_file_or_absent, bytes_of}
+use Rattle.cnb_world.specs.Tree.{Tree, item_at, is_file, bytes_of}
 
 -- ---- lists read in pieces
 

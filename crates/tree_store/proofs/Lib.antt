@@ -1,5 +1,7 @@
 pub mod Nodes
+pub mod Around
 pub mod Blames
+pub mod CallSteps
 pub mod Entries
 pub mod Feeding
 pub mod Fit
@@ -10,6 +12,7 @@ pub mod Overlays
 pub mod Places
 pub mod Pieces
 pub mod Puts
+pub mod Right
 pub mod Roots
 pub mod Standing
 pub mod StorePaths

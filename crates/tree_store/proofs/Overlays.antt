@@ -1,6 +1,6 @@
 -- Laying a node one item after another lays its items over the files.
-use Rattle.std.proofs.Common.{◌≡◌, ◌≢◌, ℕ, suc, ◌+◌, ◌^◌, ◌≤◌, ◌<◌, Bool, true, false, cond, not, List, [], ◌∷◌, ◌++◌, ◌&&◌, ◌||◌, ◌==◌, refl, sym, ap, subst, ◌∙◌, arith, Option, Some, None, is_some, length, nat_eq, map}
-use Rattle.std.specs.Prelude.{nat_le, nat_lt, IsTrue, IfSome}
+use Rattle.std.proofs.Common.{◌≡◌, ◌≢◌, ℕ, suc, ◌+◌, ◌^◌, ◌≤◌, ◌<◌, Bool, true, false, cond, not, List, [], ◌∷◌, ◌++◌, ◌&&◌, ◌||◌, refl, sym, ap, subst, ◌∙◌, arith, Option, Some, None, Result, Ok, Err, length, nat_eq, map}
+use Rattle.std.specs.Prelude.{nat_le, nat_lt, IsTrue, IfSome, OnOk}
 use Rattle.std.specs.Option.{option_or, option_map}
 use Rattle.std.specs.List.{list_all, list_any, starts_with, AllByRecursion}
 use Rattle.std.specs.Str.{bytes_eq}
@@ -12,8 +12,8 @@ use Rattle.std.specs.FinMap.{get, insert, retain_keys, get-retain_keys, slice_cm
 use Rattle.std.proofs.lemmas.Cmp.{nat_list_cmp_total, tied_itself}
 use Rattle.std.proofs.lemmas.Slice.Eq.{bytes_eq-Decides}
 use Rattle.std.proofs.lemmas.List.Folds.{list_any-append}
-use Rattle.std.proofs.lemmas.Bool.{and_parts, false_from_ne_true, ltb-true}
-use Rattle.cnb_world.specs.Path.{is_part, is_part_byte, joined}
+use Rattle.std.proofs.lemmas.Bool.{and_parts, false_from_ne_true}
+use Rattle.cnb_world.specs.Path.{is_part, joined}
 use Rattle.cnb_world.specs.Tree.{Tree, IsTree, item_at, is_folder, is_root, folders_above, folder_made, without}
 use Rattle.cnb_world.specs.declared.world.Item.{Item}
 use Rattle.cnb_world.specs.declared.world.Item.TheVariants as item
@@ -27,14 +27,15 @@ use Rattle.tree_canon.specs.declared.node.Node.TheOpen as layer
 use Rattle.tree_canon.specs.declared.node.Node.TheViews.{roll-Node, roll-Named}
 use Rattle.tree_canon.specs.declared.node.Node.TheFolds.{map-Node, ind-Node, fold-roll-Node, fold_out-Named}
 use Rattle.tree_canon.specs.Fits.{fits, entries_fit}
-use Rattle.tree_canon.specs.Names.{is_name, is_plain, is_text, is_dots, is_below, follows}
+use Rattle.tree_canon.specs.Names.{is_name, is_below, follows}
 use Rattle.tree_canon.proofs.Equations.{fits_folder}
 use Rattle.tree_canon.proofs.Nodes.{fits_cons}
 use Rattle.tree_store.specs.Laying.{node_laid, entry_laid, entries_laid, folder_laid, folder_over, laid_under, tree_steps}
-use Rattle.tree_store.specs.Overlay.{Given, Giving, folder_at, all_given, give_step, give_entry_step, items_of, items_of_entry, items_under, given_at, is_replaced, stands, with_items, lay, parts_of, tree_laid, IsNotRoot, IsOverlay}
+use Rattle.tree_store.specs.Overlay.{Given, Giving, folder_at, all_given, give_step, give_entry_step, items_of, items_of_entry, items_under, given_at, is_replaced, stands, with_items, lay, parts_of, tree_laid, IsPlaced, IsOverlay, can_stand, folder_step as is_folder_step, is_folder_node}
 use Rattle.tree_store.proofs.Laid.{laid_folder, laid_file, laid_link, laid_entry}
 use Rattle.tree_store.proofs.Standing.{is_other, IsStanding, tree_stands}
-use Rattle.tree_store.proofs.Places.{is_at_or_below, or_parts, or_from, above_child, below_child, child_not_root, not_below, below_below, longer_child, shorter_away, below_length, made_length, name_form, name_in, named, part_form}
+use Rattle.tree_store.proofs.Ways.{all_parts}
+use Rattle.tree_store.proofs.Places.{is_at_or_below, or_parts, above_child, below_child, child_not_root, not_below, below_below, longer_child, shorter_away, below_length, made_length, name_form, name_in, named, part_form}
 
 -- ---- the items of a node
 
@@ -326,10 +327,41 @@ abbrev IsCleanBehind : Option (List ℕ) → List ℕ → Tree → Type 0
 IsCleanBehind last path files = (n : List ℕ) → 0 < length n → has_slash n ≡ false → follows last n ≡ true → IsClean (joined path n) files
 
 abbrev LaysItems : Node → Type 0
-LaysItems node = (depth : ℕ) (path : List ℕ) (files : Tree) → fits node depth ≡ true → is_root path ≡ false → IsReady path files → (q : List ℕ) → get (node_laid node path files) q ≡ laid_at (items_of node path) q (get files q)
+LaysItems node = (depth : ℕ) (path : List ℕ) (files : Tree) → fits node depth ≡ true → can_stand node path ≡ true → IsReady path files → (q : List ℕ) → get (node_laid node path files) q ≡ laid_at (items_of node path) q (get files q)
 
 abbrev Laid : Type 0
 Laid = (e : Named) × LaysItems e.node
+
+file_plain : (exec : Bool) (bytes : List ℕ) → is_folder_node (File exec bytes) ≡ false
+file_plain exec bytes = ap is_folder_node (sym (rolls-File exec bytes)) ∙ fold-roll-Node Bool Bool is_folder_step (λ e. e.node) (layer.File exec bytes)
+
+link_plain : (target : List ℕ) → is_folder_node (Link target) ≡ false
+link_plain target = ap is_folder_node (sym (rolls-Link target)) ∙ fold-roll-Node Bool Bool is_folder_step (λ e. e.node) (layer.Link target)
+
+folder_is_one : (es : List Named) → is_folder_node (Folder es) ≡ true
+folder_is_one es = ap is_folder_node (sym (rolls-Folder es)) ∙ fold-roll-Node Bool Bool is_folder_step (λ e. e.node) (layer.Folder es)
+
+-- a folder stands anywhere, and anything but at `/`
+pub folder_placed : (node : Node) (es : List Named) (path : List ℕ) → node ≡ Folder es → can_stand node path ≡ true
+folder_placed node es path is = ap (λ n. can_stand n path) is ∙ by (not (is_root path)) (is_folder_node (Folder es)) (folder_is_one es)
+  where
+    by : (v w : Bool) → w ≡ true → (v || w) ≡ true
+    by true w h = refl
+    by false w h = h
+
+pub plain_placed : (node : Node) (path : List ℕ) → is_root path ≡ false → can_stand node path ≡ true
+plain_placed node path h = ap (λ v. not v || is_folder_node node) h
+
+stands_below : (node : Node) (path n : List ℕ) → 0 < length n → can_stand node (joined path n) ≡ true
+stands_below node path n some = plain_placed node (joined path n) (child_not_root path n some)
+
+plain_root : (path : List ℕ) (folder : Bool) → folder ≡ false → (not (is_root path) || folder) ≡ true → is_root path ≡ false
+plain_root path folder is h = by (is_root path) folder is h
+  where
+    by : (v w : Bool) → w ≡ false → (not v || w) ≡ true → v ≡ false
+    by false w e h = refl
+    by true true e h = absurd (cc)
+    by true false e h = absurd (cc)
 
 abbrev bare : List Laid → List Named
 bare es = map (λ e. e.0) es
@@ -340,7 +372,7 @@ item_same files now f e = ap (cond (is_root f) (Some item.Folder)) e
 one_laid : (e : Laid) (depth : ℕ) (path : List ℕ) (files : Tree) → is_name e.0.name ≡ true → fits e.0.node depth ≡ true → IsInside path files → IsClean (joined path e.0.name) files → (q : List ℕ) → get (entry_laid e.0 path files) q ≡ laid_at (items_of_entry e.0 path) q (get files q)
 one_laid e depth path files name fit inside clean q =
     ap (λ t. get t q) (laid_entry e.0 path files)
-    ∙ e.1 depth (joined path e.0.name) files fit (child_not_root path e.0.name (name_form e.0.name name).0) (record { above = above_inside path e.0.name files (name_form e.0.name name).1 inside; clean = clean }) q
+    ∙ e.1 depth (joined path e.0.name) files fit (stands_below e.0.node path e.0.name (name_form e.0.name name).0) (record { above = above_inside path e.0.name files (name_form e.0.name name).1 inside; clean = clean }) q
     ∙ ap (λ g. laid_at g q (get files q)) (sym (items_entry e.0 path))
 
 entry_is_away : (e : Named) (path q : List ℕ) → is_at_or_below (joined path e.name) q ≡ false → IsAway (items_of_entry e path) q
@@ -474,9 +506,9 @@ item_laid path q files x plain placed =
 lays_layer : (x : layer.Node-F Node Named) (y : layer.Node-F ((n : Node) × LaysItems n) Laid) → map-Node ((n : Node) × LaysItems n) Laid Node Named (λ e. e.0) (λ e. e.0) y ≡ x → LaysItems (roll-Node x)
 lays_layer x (layer.Folder es) is = subst (λ z. LaysItems (roll-Node z)) is (subst LaysItems (sym (rolls-Folder (bare es))) (folder_lays es))
 lays_layer x (layer.File exec bytes) is = subst (λ z. LaysItems (roll-Node z)) is (subst LaysItems (sym (rolls-File exec bytes)) (λ depth path files fit placed ready q.
-    ap (λ t. get t q) (laid_file exec bytes path files) ∙ item_laid path q files (item.File exec bytes) refl placed ∙ ap (λ g. laid_at g q (get files q)) (sym (items_file exec bytes path))))
+    ap (λ t. get t q) (laid_file exec bytes path files) ∙ item_laid path q files (item.File exec bytes) refl (plain_root path (is_folder_node (File exec bytes)) (file_plain exec bytes) placed) ∙ ap (λ g. laid_at g q (get files q)) (sym (items_file exec bytes path))))
 lays_layer x (layer.Link target) is = subst (λ z. LaysItems (roll-Node z)) is (subst LaysItems (sym (rolls-Link target)) (λ depth path files fit placed ready q.
-    ap (λ t. get t q) (laid_link target path files) ∙ item_laid path q files (item.Link target) refl placed ∙ ap (λ g. laid_at g q (get files q)) (sym (items_link target path))))
+    ap (λ t. get t q) (laid_link target path files) ∙ item_laid path q files (item.Link target) refl (plain_root path (is_folder_node (Link target)) (link_plain target) placed) ∙ ap (λ g. laid_at g q (get files q)) (sym (items_link target path))))
 
 pub node_lays : (node : Node) → LaysItems node
 node_lays = ind-Node LaysItems (λ e. LaysItems e.node) lays_layer (λ x y is. subst (λ (z : layer.Named-F Node Named). LaysItems (roll-Named z).node) is y.node.1)
@@ -491,14 +523,14 @@ under_away : (parts : List (List ℕ)) (node : Node) (path q : List ℕ) → is_
 under_away [] node path q h = node_away node path q h
 under_away (part ∷ parts) node path q h = away_append (folder_at path) (items_under node parts (joined path part)) q (folder_away path q h) (under_away parts node (joined path part) q (below_child path part q h))
 
-never_root : (parts : List (List ℕ)) (path part : List ℕ) → 0 < length part → IsNotRoot parts (joined path part)
-never_root [] path part some = child_not_root path part some
-never_root (p ∷ ps) path part some = tt
+never_root : (node : Node) (parts : List (List ℕ)) (path part : List ℕ) → 0 < length part → IsPlaced node parts (joined path part)
+never_root node [] path part some = stands_below node path part some
+never_root node (p ∷ ps) path part some = tt
 
-pub under_lays : (parts : List (List ℕ)) (node : Node) (path : List ℕ) (files : Tree) → AreParts parts → fits node 0 ≡ true → IsNotRoot parts path → IsReady path files → (q : List ℕ) → get (laid_under node parts path files) q ≡ laid_at (items_under node parts path) q (get files q)
+pub under_lays : (parts : List (List ℕ)) (node : Node) (path : List ℕ) (files : Tree) → AreParts parts → fits node 0 ≡ true → IsPlaced node parts path → IsReady path files → (q : List ℕ) → get (laid_under node parts path files) q ≡ laid_at (items_under node parts path) q (get files q)
 under_lays [] node path files are fit placed ready q = node_lays node 0 path files fit placed ready q
 under_lays (part ∷ parts) node path files are fit placed ready q =
-    under_lays parts node (joined path part) (folder_laid path files) are.1 fit (never_root parts path part form.0) (record { above = above_inside path part (folder_laid path files) form.1 (folder_inside path files ready); clean = folder_clean path part files form.0 ready }) q
+    under_lays parts node (joined path part) (folder_laid path files) are.1 fit (never_root node parts path part form.0) (record { above = above_inside path part (folder_laid path files) form.1 (folder_inside path files ready); clean = folder_clean path part files form.0 ready }) q
     ∙ ap (laid_at (items_under node parts (joined path part)) q) (folder_step path files ready q)
     ∙ behind_folder path q (items_under node parts (joined path part)) (get files q) (under_away parts node (joined path part) path (shorter_away (joined path part) path (longer_child path part form.0)))
   where
@@ -561,12 +593,12 @@ made_ready root files standing = record { above = above; clean = clean }
         by false h = h
 
 -- laying one item after another, where the folder was made
-pub tree_lays : (root : List ℕ) (parts : List (List ℕ)) (node : Node) (files : Tree) → AreParts parts → fits node 0 ≡ true → IsNotRoot parts root → IsStanding files → laid_under node parts root (folder_made root files) ≡ lay (items_under node parts root) (folder_made root files)
+pub tree_lays : (root : List ℕ) (parts : List (List ℕ)) (node : Node) (files : Tree) → AreParts parts → fits node 0 ≡ true → IsPlaced node parts root → IsStanding files → laid_under node parts root (folder_made root files) ≡ lay (items_under node parts root) (folder_made root files)
 tree_lays root parts node files are fit placed standing = same_tree _ _ (λ q.
     under_lays parts node root (folder_made root files) are fit placed (made_ready root files standing) q ∙ sym (get-lay (items_under node parts root) (folder_made root files) q))
 
 -- the same with the parts of a place, where the files are told
-pub steps_laid : (o : Option Tree) (root place : List ℕ) (node : Node) → AreParts (parts_of place) → fits node 0 ≡ true → IsNotRoot (parts_of place) root → IfSome o IsTree → option_map (tree_steps root place node) o ≡ option_map (tree_laid root place node) o
+pub steps_laid : (o : Option Tree) (root place : List ℕ) (node : Node) → AreParts (parts_of place) → fits node 0 ≡ true → IfSome o (λ _. IsPlaced node (parts_of place) root) → IfSome o IsTree → option_map (tree_steps root place node) o ≡ option_map (tree_laid root place node) o
 unfolding tree_steps tree_laid
 steps_laid None root place node are fit placed standing = refl
 steps_laid (Some files) root place node are fit placed standing = ap Some (tree_lays root (parts_of place) node files are fit placed (tree_stands (Some files) standing))
@@ -575,3 +607,29 @@ pub overlaid : (o o1 : Option Tree) (root place : List ℕ) (node : Node) → o1
 unfolding tree_laid
 overlaid None o1 root place node is = tt
 overlaid (Some files) o1 root place node is = subst (λ o. IfSome o (IsOverlay (items_under node (parts_of place) root) (folder_made root files))) (sym is) (get-lay (items_under node (parts_of place) root) (folder_made root files))
+
+-- the same of a call, whose answer may be a refusal
+pub laid_where : {E : Type 0} (result : Result (Unit {0}) E) (o o1 : Option Tree) (root place : List ℕ) (node given : Node) → given ≡ node → fits node 0 ≡ true
+    → OnOk result (o1 ≡ option_map (tree_steps root place given) o) → OnOk result (IsTrue (list_all is_part (parts_of place))) → IfSome o (λ _. OnOk result (IsPlaced given (parts_of place) root)) → IfSome o IsTree
+    → OnOk result (o1 ≡ option_map (tree_laid root place node) o)
+laid_where (Ok done) o o1 root place node given is fit steps names placed standing =
+    steps ∙ ap (λ n. option_map (tree_steps root place n) o) is ∙ steps_laid o root place node (all_parts (parts_of place) names) fit (by o placed) standing
+  where
+    by : (o : Option Tree) → IfSome o (λ _. IsPlaced given (parts_of place) root) → IfSome o (λ _. IsPlaced node (parts_of place) root)
+    by None h = tt
+    by (Some files) h = subst (λ n. IsPlaced n (parts_of place) root) is h
+laid_where (Err fault) o o1 root place node given is fit steps names placed standing = tt
+
+pub overlaid_where : {E : Type 0} (result : Result (Unit {0}) E) (o o1 : Option Tree) (root place : List ℕ) (node : Node) → OnOk result (o1 ≡ option_map (tree_laid root place node) o)
+    → OnOk result (IfSome o (λ old. IfSome o1 (IsOverlay (items_under node (parts_of place) root) (folder_made root old))))
+overlaid_where (Ok done) o o1 root place node is = overlaid o o1 root place node is
+overlaid_where (Err fault) o o1 root place node is = tt
+
+-- a file or a link that is placed isn't at `/`
+pub file_placed : (o : Option Tree) (node : Node) (exec : Bool) (bytes path : List ℕ) → node ≡ File exec bytes → IfSome o (λ _. can_stand node path ≡ true) → IfSome o (λ _. is_root path ≡ false)
+file_placed None node exec bytes path is h = tt
+file_placed (Some files) node exec bytes path is h = plain_root path (is_folder_node node) (ap is_folder_node is ∙ file_plain exec bytes) h
+
+pub link_placed : (o : Option Tree) (node : Node) (target path : List ℕ) → node ≡ Link target → IfSome o (λ _. can_stand node path ≡ true) → IfSome o (λ _. is_root path ≡ false)
+link_placed None node target path is h = tt
+link_placed (Some files) node target path is h = plain_root path (is_folder_node node) (ap is_folder_node is ∙ link_plain target) h

@@ -1,5 +1,5 @@
 -- Where paths lie: at a path, below it, above it.
-use Rattle.std.proofs.Common.{◌≡◌, ℕ, suc, ◌+◌, ◌≤◌, ◌<◌, Bool, true, false, cond, not, List, [], ◌∷◌, ◌++◌, ◌&&◌, ◌||◌, ◌==◌, refl, sym, ap, ◌∙◌, arith, length, drop, nat_eq, append-nil, append_assoc, length-append}
+use Rattle.std.proofs.Common.{◌≡◌, ℕ, ◌+◌, ◌≤◌, ◌<◌, Bool, true, false, cond, not, List, [], ◌∷◌, ◌++◌, ◌&&◌, ◌||◌, ◌==◌, refl, sym, ap, ◌∙◌, arith, length, drop, nat_eq, append-nil, append_assoc, length-append}
 use Rattle.std.specs.Prelude.{IsTrue, nat_le, nat_lt}
 use Rattle.std.specs.List.{list_all, list_any, starts_with}
 use Rattle.std.specs.Str.{bytes_eq}
@@ -7,7 +7,7 @@ use Rattle.std.proofs.lemmas.Slice.Eq.{bytes_eq-Decides}
 use Rattle.std.proofs.lemmas.Bool.{and_parts, false_from_ne_true, eqb-true, ltb-true}
 use Rattle.std.proofs.Math.Seq.{take-append_seam, drop-append_seam}
 use Rattle.cnb_world.specs.Path.{is_part, is_part_byte, joined}
-use Rattle.cnb_world.specs.Tree.{is_root, is_within, folders_from, folders_above}
+use Rattle.cnb_world.specs.Tree.{folders_from, folders_above}
 use Rattle.cnb_world.proofs.Trees.{bytes_eq-same}
 use Rattle.cnb_world.proofs.Folders.{not_longer}
 use Rattle.std.proofs.lemmas.List.Folds.{list_any-append}

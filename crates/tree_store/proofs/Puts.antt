@@ -1,9 +1,8 @@
 -- What the store answers and leaves.
-use Rattle.std.proofs.Common.{◌≡◌, ◌≢◌, ℕ, ◌+◌, ◌*◌, ◌/◌, ◌≤◌, ◌∙◌, Bool, true, false, not, ◌&&◌, ◌||◌, List, length, take, refl, sym, ap, subst, arith, Option, Some, None, Result, Ok, Err, is_some}
-use Rattle.std.specs.Prelude.{IfOk, IfSome, IfErr, OnErr, IsTrue, ◌↔◌}
+use Rattle.std.proofs.Common.{◌≡◌, ◌≢◌, ℕ, ◌+◌, ◌*◌, ◌/◌, ◌≤◌, ◌∙◌, Bool, true, false, not, ◌&&◌, List, length, take, refl, sym, ap, subst, arith, Option, Some, None, Result, Ok, Err, is_some}
+use Rattle.std.specs.Prelude.{IfSome, IsTrue, ◌↔◌}
 use Rattle.std.specs.Option.{option_map}
 use Rattle.std.proofs.lemmas.List.{take_all}
-use Rattle.sha2.specs.Sha256.{sha256}
 use Rattle.cnb_world.specs.Calls.{MayMisuse}
 use Rattle.cnb_world.specs.Tree.{Tree, item_at, is_file, is_file_or_absent, kind_of, bytes_of}
 use Rattle.cnb_world.specs.Whole.{written, can_write, LeavesPart}
@@ -11,7 +10,6 @@ use Rattle.cnb_world.specs.declared.world.Item.{Item}
 use Rattle.cnb_world.specs.declared.world.Item.TheVariants as item
 use Rattle.cnb_world.specs.declared.world.Kind.{Kind}
 use Rattle.cnb_world.specs.declared.world.Kind.TheVariants as kind
-use Rattle.tree_canon.specs.Spelling.{spelling_of}
 use Rattle.tree_canon.specs.Judging.{IsJudged}
 use Rattle.tree_canon.specs.declared.judging.Judged.{Judged}
 use Rattle.tree_canon.specs.declared.judging.Judged.TheVariants as judged
@@ -21,9 +19,8 @@ use Rattle.tree_store.specs.declared.fault.StoreFault.TheVariants.{OddFile, Limi
 use Rattle.tree_store.specs.declared.judging.Judging.{Judging}
 use Rattle.tree_store.specs.Judging.{HasTaken}
 use Rattle.tree_store.specs.Answers.{Reads, Unless, is_free, is_file_kind, is_absent_kind}
-use Rattle.tree_store.specs.Folders.{can_put_read, can_put_folder}
-use Rattle.tree_store.specs.Reading.{tree_in}
-use Rattle.tree_store.specs.Store.{tree_path, left_or_written, kept_or_written, tree_put, IsFree, KeepsOver, Keeps, done_of, Puts, LeavesStore, IsJudgedTree, GetsOf, Gets}
+use Rattle.tree_store.specs.Store.{left_or_written, kept_or_written, KeepsOver, Keeps, LeavesStore, IsJudgedTree, GetsOf, Gets}
+use Rattle.cnb_world.proofs.WholeLemmas.{unbegun}
 use Rattle.tree_store.proofs.Kept.{contents}
 
 -- ---- kinds
@@ -116,27 +113,23 @@ kept_left (Some files) o1 path bytes absent e told is = is ∙ ap Some (by (item
     by None e = absurd (cc)
     by (Some x) e = refl
 
-as_before : (o : Option Tree) → o ≡ option_map (λ files. files) o
-as_before None = refl
-as_before (Some files) = refl
+pub leaves_part : (fault : StoreFault) (path bytes : List ℕ) (old new : Option Tree) → IsTrue (is_free fault) → LeavesPart old new path bytes → LeavesStore fault path bytes old new
+leaves_part (File blamed) path bytes old new free part = part
+leaves_part Memory path bytes old new free part = part
+leaves_part (OddFile odd) path bytes old new free part = absurd (cc)
+leaves_part (Limit k) path bytes old new free part = absurd (cc)
+leaves_part (NoTree d) path bytes old new free part = absurd (cc)
+leaves_part (Damaged a f b) path bytes old new free part = absurd (cc)
+leaves_part (Clash d) path bytes old new free part = absurd (cc)
 
-pub leaves_part : (fault : StoreFault) (path : List ℕ) (old new : Option Tree) → IsTrue (is_free fault) → LeavesPart old new path → LeavesStore fault path old new
-leaves_part (File blamed) path old new free part = part
-leaves_part Memory path old new free part = part
-leaves_part (OddFile odd) path old new free part = absurd (cc)
-leaves_part (Limit k) path old new free part = absurd (cc)
-leaves_part (NoTree d) path old new free part = absurd (cc)
-leaves_part (Damaged a f b) path old new free part = absurd (cc)
-leaves_part (Clash d) path old new free part = absurd (cc)
-
-pub leaves_same : (fault : StoreFault) (path : List ℕ) (old new : Option Tree) → new ≡ old → LeavesStore fault path old new
-leaves_same (File blamed) path old new same = (false, None, same ∙ as_before old)
-leaves_same Memory path old new same = (false, None, same ∙ as_before old)
-leaves_same (OddFile odd) path old new same = same
-leaves_same (Limit k) path old new same = same
-leaves_same (NoTree d) path old new same = same
-leaves_same (Damaged a f b) path old new same = same
-leaves_same (Clash d) path old new same = same
+pub leaves_same : (fault : StoreFault) (path bytes : List ℕ) (old new : Option Tree) → new ≡ old → LeavesStore fault path bytes old new
+leaves_same (File blamed) path bytes old new same = unbegun old new path bytes same
+leaves_same Memory path bytes old new same = unbegun old new path bytes same
+leaves_same (OddFile odd) path bytes old new same = same
+leaves_same (Limit k) path bytes old new same = same
+leaves_same (NoTree d) path bytes old new same = same
+leaves_same (Damaged a f b) path bytes old new same = same
+leaves_same (Clash d) path bytes old new same = same
 
 -- ---- misuse
 
@@ -174,10 +167,6 @@ same_misuse (Some false) a b e = omega (arith, e)
 
 pub no_misuse : (o : Option Tree) (p : Tree → Bool) (a b : ℕ) → b ≡ a → MayMisuse (option_map p o) a b
 no_misuse o p a b e = same_misuse (option_map p o) a b e
-
-pub folder_misuse : (o o1 : Option Tree) (store path : List ℕ) (root : Node) (a b c : ℕ) → o1 ≡ o → b ≡ a → IfSome o (λ files. tree_in path files ≡ Ok root) → MayMisuse (option_map (can_write (tree_path store (sha256 (spelling_of root)))) o1) b c → MayMisuse (option_map (can_put_folder store path) o) a c
-folder_misuse None o1 store path root a b c same before read m = new_misuse None o1 (tree_path store (sha256 (spelling_of root))) a b c same before m
-folder_misuse (Some files) o1 store path root a b c same before read m = subst (λ r. MayMisuse (Some (can_put_read store r files)) a c) (sym read) (new_misuse (Some files) o1 (tree_path store (sha256 (spelling_of root))) a b c same before m)
 
 -- ---- judged bytes
 

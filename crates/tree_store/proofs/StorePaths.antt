@@ -1,16 +1,13 @@
 -- The path of a tree's file.
-use Rattle.std.proofs.Common.{◌≡◌, ℕ, ◌+◌, ◌≤◌, ◌<◌, ◌∙◌, ◌==◌, ◌&&◌, ◌||◌, Bool, true, false, not, List, [], ◌∷◌, ◌++◌, length, refl, sym, ap, subst, arith, length-append}
-use Rattle.std.specs.Prelude.{IsTrue, nat_le, nat_lt, codes}
+use Rattle.std.proofs.Common.{◌≡◌, ℕ, ◌+◌, ◌≤◌, ◌<◌, ◌∙◌, ◌==◌, ◌&&◌, Bool, true, false, not, List, [], ◌∷◌, length, refl, sym, ap, subst, arith, length-append}
+use Rattle.std.specs.Prelude.{IsTrue, codes}
 use Rattle.std.specs.List.{list_all}
-use Rattle.std.specs.Str.{bytes_eq}
 use Rattle.std.proofs.lemmas.Bool.{and_parts, and_from, eqb-true, lt-ltb, le-leb}
 use Rattle.std.proofs.lemmas.List.Folds.{list_all-append}
-use Rattle.hex.specs.Hex.{encode_lower}
 use Rattle.cnb_world.specs.Path.{is_part, is_part_byte, is_path, joined, beside}
 use Rattle.cnb_world.proofs.Folders.{not_longer}
 use Rattle.cnb_world.proofs.Joins.{path_beside_file}
 use Rattle.tree_canon.specs.Digest.{is_digest_text, is_lower_digit}
-use Rattle.tree_store.specs.Store.{tree_path}
 use Rattle.tree_store.proofs.Ways.{joined_short}
 
 -- digits can stand in a name

@@ -1,14 +1,14 @@
 -- The way to a place, part by part.
-use Rattle.std.proofs.Common.{◌≡◌, ◌≢◌, ℕ, suc, ◌+◌, ◌<◌, ◌≤◌, ◌∙◌, ◌==◌, ◌&&◌, ◌||◌, Bool, true, false, cond, List, [], ◌∷◌, ◌++◌, length, drop, get_or, refl, sym, ap, subst, arith, Option, Some, None, Result, Ok, Err, length-append}
+use Rattle.std.proofs.Common.{◌≡◌, ◌≢◌, ℕ, suc, ◌+◌, ◌<◌, ◌≤◌, ◌∙◌, ◌==◌, ◌&&◌, ◌||◌, Bool, true, false, cond, List, [], ◌∷◌, ◌++◌, length, drop, get_or, refl, sym, ap, arith, Option, Some, None, Result, Ok, Err, length-append}
 use Rattle.std.specs.Prelude.{IsTrue, IfSome, OnOk, is_ok, nat_le}
 use Rattle.std.specs.Option.{MatchOption, option_map}
-use Rattle.std.specs.List.{list_all, slice_split, onto_first, after_first, AllByRecursion}
+use Rattle.std.specs.List.{list_all, onto_first, after_first, AllByRecursion}
 use Rattle.std.specs.Str.{bytes_eq, IsUtf8, IsCharBoundary}
 use Rattle.std.proofs.lemmas.Str.{IsCharBoundary-after_ascii}
 use Rattle.std.proofs.lemmas.Bool.{and_parts, ne_eqb, eqb-true}
 use Rattle.std.proofs.lemmas.List.Splits.{slice_split_first}
 use Rattle.std.proofs.lemmas.Str.Pattern.{IsSplitOnceResult, split_once_first, split_parts}
-use Rattle.cnb_world.specs.Path.{is_part, is_path, are_parts, joined}
+use Rattle.cnb_world.specs.Path.{is_part, is_path, joined}
 use Rattle.cnb_world.specs.Tree.{Tree, folder_made}
 use Rattle.tree_canon.specs.Fits.{fits, is_tree}
 use Rattle.tree_canon.specs.declared.node.Node.{Node}

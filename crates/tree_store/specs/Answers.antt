@@ -1,13 +1,23 @@
 -- What a call on trees in files answers.
-use Rattle.std.specs.Prelude.{ℕ, Bool, true, false, ◌≡◌, ◌≤◌, List, Result, Ok, Err, IsTrue}
-use Rattle.cnb_world.specs.Calls.{Rose}
+use Rattle.std.specs.Prelude.{ℕ, Bool, true, false, ◌≡◌, List, Result, Ok, Err, IsTrue}
 use Rattle.cnb_world.specs.Tree.{is_within}
 use Rattle.cnb_world.specs.declared.world.FileFault.{FileFault}
 use Rattle.cnb_world.specs.declared.world.Kind.{Kind}
 use Rattle.cnb_world.specs.declared.world.Kind.TheVariants as kind
 use Rattle.cnb_world.specs.declared.world.FileFault.TheVariants as file_fault
+use Rattle.steps.specs.Causes.{Cause, FileFailed, OutOfMemory, Decided}
 use Rattle.tree_store.specs.declared.fault.StoreFault.{StoreFault}
 use Rattle.tree_store.specs.declared.fault.StoreFault.TheVariants.{OddFile, Limit, File, NoTree, Damaged, Clash, Memory}
+
+-- why a call is refused: a call on files failed, memory ran out, or what was read decides
+abbrev pub cause_of : StoreFault → Cause
+cause_of (File path) = FileFailed path
+cause_of Memory = OutOfMemory
+cause_of (OddFile path) = Decided
+cause_of (Limit kind) = Decided
+cause_of (NoTree digest) = Decided
+cause_of (Damaged asked found bad) = Decided
+cause_of (Clash digest) = Decided
 
 -- a refusal that may come anyway: the outside failed, or memory ran out
 abbrev pub is_free : StoreFault → Bool
@@ -27,20 +37,6 @@ Unless false P = P
 abbrev pub Reads : {T : Type 0} → Result T StoreFault → Result T StoreFault → Type 0
 Reads (Ok value) want = want ≡ Ok value
 Reads (Err fault) want = Unless (is_free fault) (want ≡ Err fault)
-
--- `File` comes where the count rose
-abbrev pub CountsFault : StoreFault → ℕ → ℕ → Type 0
-CountsFault (File path) before now = Rose before now
-CountsFault Memory before now = before ≤ now
-CountsFault (OddFile path) before now = now ≡ before
-CountsFault (Limit kind) before now = now ≡ before
-CountsFault (NoTree digest) before now = now ≡ before
-CountsFault (Damaged asked found bad) before now = now ≡ before
-CountsFault (Clash digest) before now = now ≡ before
-
-abbrev pub CountsStore : {T : Type 0} → Result T StoreFault → ℕ → ℕ → Type 0
-CountsStore (Ok value) before now = now ≡ before
-CountsStore (Err fault) before now = CountsFault fault before now
 
 abbrev pub IsBlamed : List ℕ → StoreFault → Type 0
 IsBlamed path (File blamed) = blamed ≡ path

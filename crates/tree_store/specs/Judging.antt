@@ -1,5 +1,5 @@
 -- What the bytes taken so far say of a tree.
-use Rattle.std.specs.Prelude.{◌≡◌, ℕ, List, Result, Ok, Err}
+use Rattle.std.specs.Prelude.{◌≡◌, ℕ, List, Ok, Err}
 use Rattle.sha2.specs.Hashers.{Holds256}
 use Rattle.tree_canon.specs.Division.{IsBroken}
 use Rattle.tree_canon.specs.Feeding.{Fed}

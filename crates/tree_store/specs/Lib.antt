@@ -1,7 +1,9 @@
 pub mod Answers
-pub mod Folders
+pub mod Around
 pub mod Judging
 pub mod Laying
 pub mod Overlay
 pub mod Reading
+pub mod Right
+pub mod Steps
 pub mod Store

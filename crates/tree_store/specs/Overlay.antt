@@ -1,5 +1,5 @@
 -- A tree laid over files, path by path: what the tree gives, and what stays of the files.
-use Rattle.std.specs.Prelude.{◌≡◌, ℕ, Bool, true, false, not, ◌&&◌, ◌==◌, ◌++◌, List, [], ◌∷◌, if◌then◌else◌, nat_eq, Option, Some, None}
+use Rattle.std.specs.Prelude.{◌≡◌, ℕ, Bool, true, false, not, ◌&&◌, ◌||◌, ◌==◌, ◌++◌, List, [], ◌∷◌, if◌then◌else◌, nat_eq, Option, Some, None}
 use Rattle.std.specs.List.{list_any, slice_split, starts_with}
 use Rattle.std.specs.Str.{bytes_eq}
 use Rattle.std.specs.FinMap.{get, insert, retain_keys}
@@ -86,10 +86,22 @@ parts_of (c ∷ d ∷ rest) = way_parts (d ∷ rest)
 unfoldable pub tree_laid : List ℕ → List ℕ → Node → Tree → Tree
 tree_laid root place node files = lay (items_under node (parts_of place) root) (folder_made root files)
 
--- the place of these parts under a root isn't `/` itself
-abbrev pub IsNotRoot : List (List ℕ) → List ℕ → Type 0
-IsNotRoot [] root = is_root root ≡ false
-IsNotRoot (part ∷ parts) root = Unit {0}
+abbrev pub folder_step : Node-F Bool Bool → Bool
+folder_step (Folder all) = true
+folder_step (File exec bytes) = false
+folder_step (Link target) = false
+
+abbrev pub is_folder_node : Node → Bool
+is_folder_node = fold-Node Bool Bool folder_step (λ e. e.node)
+
+-- nothing but a folder stands at `/`
+abbrev pub can_stand : Node → List ℕ → Bool
+can_stand node path = not (is_root path) || is_folder_node node
+
+-- nor at the place of these parts under it
+abbrev pub IsPlaced : Node → List (List ℕ) → List ℕ → Type 0
+IsPlaced node [] root = can_stand node root ≡ true
+IsPlaced node (part ∷ parts) root = Unit {0}
 
 -- What laying items leaves, path by path: the item that is given there; else what stood there, unless a file or a link now
 -- stands on its way.

@@ -1,5 +1,5 @@
 -- The store of trees.
-use Rattle.std.specs.Prelude.{ℕ, Bool, true, false, ◌≡◌, ◌≢◌, List, codes, Option, Some, None, Result, Ok, Err, IsTrue}
+use Rattle.std.specs.Prelude.{ℕ, ◌≡◌, ◌≢◌, List, codes, Option, Some, None, Result, Ok, Err, IsTrue}
 use Rattle.hex.specs.Hex.{encode_lower}
 use Rattle.sha2.specs.Sha256.{sha256}
 use Rattle.cnb_world.specs.Path.{joined}
@@ -66,15 +66,15 @@ done_of (Err fault) = Err fault
 abbrev pub Puts : List ℕ → Node → Tree → Result (List ℕ) StoreFault → Type 0
 Puts store root files result = Keeps (sha256 (spelling_of root)) (spelling_of root) (item_at files (tree_path store (sha256 (spelling_of root)))) (done_of result)
 
--- what a refused `put` leaves: what a refused write of the file leaves, or where none was begun all as before
-abbrev pub LeavesStore : StoreFault → List ℕ → Option Tree → Option Tree → Type 0
-LeavesStore (File blamed) path old new = LeavesPart old new path
-LeavesStore Memory path old new = LeavesPart old new path
-LeavesStore (OddFile odd) path old new = new ≡ old
-LeavesStore (Limit kind) path old new = new ≡ old
-LeavesStore (NoTree digest) path old new = new ≡ old
-LeavesStore (Damaged asked found bad) path old new = new ≡ old
-LeavesStore (Clash digest) path old new = new ≡ old
+-- what a refused `put` leaves: what a refused write of the file's bytes leaves, or where none was begun all as before
+abbrev pub LeavesStore : StoreFault → List ℕ → List ℕ → Option Tree → Option Tree → Type 0
+LeavesStore (File blamed) path bytes old new = LeavesPart old new path bytes
+LeavesStore Memory path bytes old new = LeavesPart old new path bytes
+LeavesStore (OddFile odd) path bytes old new = new ≡ old
+LeavesStore (Limit kind) path bytes old new = new ≡ old
+LeavesStore (NoTree digest) path bytes old new = new ≡ old
+LeavesStore (Damaged asked found bad) path bytes old new = new ≡ old
+LeavesStore (Clash digest) path bytes old new = new ≡ old
 
 -- judged bytes as an answer
 abbrev pub IsJudgedTree : Judged → Result Node StoreFault → Type 0

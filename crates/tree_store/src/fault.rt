@@ -1,7 +1,8 @@
 // Why a tree was not read or written.
 ghost use Rattle.std.specs.Prelude.{◌≡◌, ℕ, IfErr, OnOk, OnErr, IsTrue, is_ok, is_err};
 ghost use Rattle.cnb_world.specs.Calls.{CountsFailed};
-ghost use Rattle.tree_store.specs.Answers.{Blames, BlamesAt, CountsStore, is_free, is_odd_file};
+ghost use Rattle.steps.specs.Causes.{CountsFiles};
+ghost use Rattle.tree_store.specs.Answers.{Blames, BlamesAt, is_free, is_odd_file, cause_of};
 
 use cnb_world::{FileFault, LimitKind, Memory, Path};
 use std::alloc::{AllocError, Global};
@@ -81,7 +82,7 @@ pub(crate) fn or_blame(
     ensures err { OnErr result (IsTrue (is_err answer)) }
     ensures free { IfErr result (λ fault. IsTrue (is_free fault)) }
     ensures blames { IfErr result (BlamesAt path.now) }
-    ensures counts { (before now : ℕ) → CountsFailed answer before now → CountsStore result before now }
+    ensures counts { (before now : ℕ) → CountsFailed answer before now → CountsFiles cause_of result before now }
 {
     match answer {
         Ok(()) => Ok(()),

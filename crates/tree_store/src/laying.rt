@@ -1,15 +1,20 @@
 // Laying a tree over files.
-ghost use Rattle.std.specs.Prelude.{◌≡◌, ◌<◌, ◌≤◌, ◌+◌, ◌-◌, ◌*◌, ◌∷◌, [], IfErr, IfSome, OnOk, IsTrue, length, true, None};
+ghost use Rattle.std.specs.Prelude.{◌≡◌, ◌<◌, ◌≤◌, ◌+◌, ◌-◌, ◌*◌, ◌∷◌, [], IfErr, IfSome, OnOk, IsTrue, length, true, false, None};
 ghost use Rattle.std.specs.Option.{option_map, MatchOption};
 ghost use Rattle.std.specs.List.{list_all};
-ghost use Rattle.cnb_world.specs.Calls.{CountsFailed};
-ghost use Rattle.cnb_world.specs.Path.{is_part};
-ghost use Rattle.cnb_world.specs.Tree.{folder_made, without};
+ghost use Rattle.cnb_world.specs.Calls.{CountsFailed, MayMisuse};
+ghost use Rattle.cnb_world.specs.Path.{is_part, joined};
+ghost use Rattle.cnb_world.specs.Tree.{can_create, folder_made, is_root, item_at, kind_of, without};
 ghost use Rattle.tree_canon.specs.declared.node.Node.TheVariants.{File, Link};
 ghost use Rattle.tree_canon.specs.Fits.{fits, entries_fit};
 ghost use Rattle.tree_canon.specs.Names.{is_name};
-ghost use Rattle.tree_store.specs.Answers.{BlamesWithin, CountsStore, is_free};
-ghost use Rattle.tree_store.specs.Overlay.{IsNotRoot, IsOverlay, items_under, parts_of, tree_laid, way_parts};
+ghost use Rattle.steps.specs.Causes.{CountsFiles};
+ghost use Rattle.steps.specs.Outside.{seen};
+ghost use Rattle.tree_store.specs.Answers.{BlamesWithin, is_free, cause_of};
+ghost use Rattle.tree_store.specs.Around.{LeavesAround};
+ghost use Rattle.tree_store.specs.Right.{AreFolders, way_into, way_to};
+ghost use Rattle.tree_store.specs.Steps.{can_lay, lays_tree};
+ghost use Rattle.tree_store.specs.Overlay.{IsOverlay, IsPlaced, can_stand, items_under, parts_of, tree_laid, way_parts};
 ghost use Rattle.tree_store.specs.Laying.{file_set, laid_under, tree_steps, node_laid, entry_laid, entries_laid, folder_by, folder_laid};
 
 use crate::fault::{StoreFault, or_blame};
@@ -43,7 +48,9 @@ fn write_file<W: World>(
     ensures ok { OnOk result (W.tree world.new ≡ option_map (file_set path.now exec bytes.now) (W.tree world.old)) }
     ensures files { CountsFailed result (W.file_faults world.old) (W.file_faults world.new) }
     ensures children { W.child_faults world.new ≡ W.child_faults world.old }
-    ensures runs { W.runs world.new ≡ W.runs world.old }
+    ensures around { LeavesAround path.now (seen W.World world.old) (seen W.World world.new) }
+    ensures right { IfSome (W.tree world.old) (λ files. IsTrue (can_create files path.now))
+        → W.misused world.new ≡ W.misused world.old }
 {
     world.create(path, exec)?;
     let mut done = 0usize;
@@ -55,16 +62,33 @@ fn write_file<W: World>(
     Ok(())
 }
 
+// Takes away what stands at a path.
+#[tactic(auto, using(crate::proofs::Around::removed, crate::proofs::Around::removed_right, crate::proofs::Around::not_root_where))]
+fn clear<W: World>(world: &mut W, path: &Path) -> Result<(), FileFault>
+    ensures ok { OnOk result (W.tree world.new ≡ option_map (without path.now) (W.tree world.old)) }
+    ensures placed { IfSome (W.tree world.old) (λ _. OnOk result (is_root path.now ≡ false)) }
+    ensures files { CountsFailed result (W.file_faults world.old) (W.file_faults world.new) }
+    ensures children { W.child_faults world.new ≡ W.child_faults world.old }
+    ensures around { LeavesAround path.now (seen W.World world.old) (seen W.World world.new) }
+    ensures right { IfSome (W.tree world.old) (λ _. is_root path.now ≡ false)
+        → W.misused world.new ≡ W.misused world.old }
+{
+    world.remove(path)
+}
+
 // A file in place of what stands at a path.
 #[tactic(auto, using(crate::proofs::Laid::file_steps))]
 fn lay_file<W: World>(world: &mut W, path: &Path, exec: bool, bytes: &[u8]) -> Result<(), FileFault>
     ensures ok { OnOk result (W.tree world.new ≡ option_map (node_laid (File exec bytes.now) path.now)
         (W.tree world.old)) }
+    ensures placed { IfSome (W.tree world.old) (λ _. OnOk result (is_root path.now ≡ false)) }
     ensures files { CountsFailed result (W.file_faults world.old) (W.file_faults world.new) }
     ensures children { W.child_faults world.new ≡ W.child_faults world.old }
-    ensures runs { W.runs world.new ≡ W.runs world.old }
+    ensures around { LeavesAround path.now (seen W.World world.old) (seen W.World world.new) }
+    ensures right { IfSome (W.tree world.old) (λ _. is_root path.now ≡ false)
+        → AreFolders (way_to path.now) (W.tree world.old) → W.misused world.new ≡ W.misused world.old }
 {
-    world.remove(path)?;
+    clear(world, path)?;
     write_file(world, path, exec, bytes)?;
     Ok(())
 }
@@ -73,11 +97,14 @@ fn lay_file<W: World>(world: &mut W, path: &Path, exec: bool, bytes: &[u8]) -> R
 #[tactic(auto, using(crate::proofs::Laid::link_steps))]
 fn lay_link<W: World>(world: &mut W, path: &Path, target: &str) -> Result<(), FileFault>
     ensures ok { OnOk result (W.tree world.new ≡ option_map (node_laid (Link target.now) path.now) (W.tree world.old)) }
+    ensures placed { IfSome (W.tree world.old) (λ _. OnOk result (is_root path.now ≡ false)) }
     ensures files { CountsFailed result (W.file_faults world.old) (W.file_faults world.new) }
     ensures children { W.child_faults world.new ≡ W.child_faults world.old }
-    ensures runs { W.runs world.new ≡ W.runs world.old }
+    ensures around { LeavesAround path.now (seen W.World world.old) (seen W.World world.new) }
+    ensures right { IfSome (W.tree world.old) (λ _. is_root path.now ≡ false)
+        → AreFolders (way_to path.now) (W.tree world.old) → W.misused world.new ≡ W.misused world.old }
 {
-    world.remove(path)?;
+    clear(world, path)?;
     world.make_link(path, target)?;
     Ok(())
 }
@@ -88,20 +115,24 @@ fn replace_by_folder<W: World>(world: &mut W, path: &Path) -> Result<(), FileFau
         (option_map (without path.now) (W.tree world.old))) }
     ensures files { CountsFailed result (W.file_faults world.old) (W.file_faults world.new) }
     ensures children { W.child_faults world.new ≡ W.child_faults world.old }
-    ensures runs { W.runs world.new ≡ W.runs world.old }
+    ensures around { LeavesAround path.now (seen W.World world.old) (seen W.World world.new) }
+    ensures right { IfSome (W.tree world.old) (λ _. is_root path.now ≡ false)
+        → AreFolders (way_to path.now) (W.tree world.old) → W.misused world.new ≡ W.misused world.old }
 {
-    world.remove(path)?;
+    clear(world, path)?;
     world.make_folder(path)?;
     Ok(())
 }
 
 // A folder over what is of this kind.
-#[tactic(auto, using(crate::proofs::Laid::stays, crate::proofs::Laid::replaced))]
+#[tactic(auto, using(crate::proofs::Around::made_so, crate::proofs::Right::link_not_root, crate::proofs::Laid::stays, crate::proofs::Laid::replaced))]
 fn lay_folder_over<W: World>(world: &mut W, path: &Path, kind: Kind) -> Result<(), FileFault>
     ensures ok { OnOk result (W.tree world.new ≡ option_map (folder_by kind path.now) (W.tree world.old)) }
     ensures files { CountsFailed result (W.file_faults world.old) (W.file_faults world.new) }
     ensures children { W.child_faults world.new ≡ W.child_faults world.old }
-    ensures runs { W.runs world.new ≡ W.runs world.old }
+    ensures around { LeavesAround path.now (seen W.World world.old) (seen W.World world.new) }
+    ensures right { IfSome (W.tree world.old) (λ files. kind ≡ kind_of (item_at files path.now))
+        → AreFolders (way_to path.now) (W.tree world.old) → W.misused world.new ≡ W.misused world.old }
 {
     match kind {
         Kind::Folder => Ok(()),
@@ -113,12 +144,13 @@ fn lay_folder_over<W: World>(world: &mut W, path: &Path, kind: Kind) -> Result<(
 }
 
 // A folder over what stands at a path.
-#[tactic(auto, using(crate::proofs::Laid::folder_steps))]
+#[tactic(auto, using(crate::proofs::Around::looked_at, crate::proofs::Around::onward, crate::proofs::Laid::folder_steps))]
 fn lay_folder<W: World>(world: &mut W, path: &Path) -> Result<(), FileFault>
     ensures ok { OnOk result (W.tree world.new ≡ option_map (folder_laid path.now) (W.tree world.old)) }
     ensures files { CountsFailed result (W.file_faults world.old) (W.file_faults world.new) }
     ensures children { W.child_faults world.new ≡ W.child_faults world.old }
-    ensures runs { W.runs world.new ≡ W.runs world.old }
+    ensures around { LeavesAround path.now (seen W.World world.old) (seen W.World world.new) }
+    ensures right { AreFolders (way_to path.now) (W.tree world.old) → W.misused world.new ≡ W.misused world.old }
 {
     let kind = world.kind(path)?;
     lay_folder_over(world, path, kind)?;
@@ -126,7 +158,7 @@ fn lay_folder<W: World>(world: &mut W, path: &Path) -> Result<(), FileFault>
 }
 
 #[cycle(lay)]
-#[tactic(auto, using(crate::proofs::Blames::at_within))]
+#[tactic(auto, using(crate::proofs::Overlays::folder_placed, crate::proofs::Overlays::plain_placed, crate::proofs::Blames::at_within))]
 fn lay_node<W: World>(
     alloc: Global,
     world: &mut W,
@@ -137,11 +169,14 @@ fn lay_node<W: World>(
     requires fits { fits node.now depth ≡ true }
     requires short { length path.now + 256 * (64 - depth) ≤ 32768 }
     ensures ok { OnOk result (W.tree world.new ≡ option_map (node_laid node.now path.now) (W.tree world.old)) }
+    ensures placed { IfSome (W.tree world.old) (λ _. OnOk result (can_stand node.now path.now ≡ true)) }
     ensures free { IfErr result (λ fault. IsTrue (is_free fault)) }
     ensures blames { IfErr result (BlamesWithin path.now) }
-    ensures files { CountsStore result (W.file_faults world.old) (W.file_faults world.new) }
+    ensures files { CountsFiles cause_of result (W.file_faults world.old) (W.file_faults world.new) }
     ensures children { W.child_faults world.new ≡ W.child_faults world.old }
-    ensures runs { W.runs world.new ≡ W.runs world.old }
+    ensures around { LeavesAround path.now (seen W.World world.old) (seen W.World world.new) }
+    ensures right { IfSome (W.tree world.old) (λ _. can_stand node.now path.now ≡ true)
+        → AreFolders (way_to path.now) (W.tree world.old) → W.misused world.new ≡ W.misused world.old }
 {
     match node {
         Node::Folder(all) => {
@@ -173,9 +208,10 @@ fn lay_entries<W: World>(
     ensures ok { OnOk result (W.tree world.new ≡ option_map (entries_laid entries.now path.now) (W.tree world.old)) }
     ensures free { IfErr result (λ fault. IsTrue (is_free fault)) }
     ensures blames { IfErr result (BlamesWithin path.now) }
-    ensures files { CountsStore result (W.file_faults world.old) (W.file_faults world.new) }
+    ensures files { CountsFiles cause_of result (W.file_faults world.old) (W.file_faults world.new) }
     ensures children { W.child_faults world.new ≡ W.child_faults world.old }
-    ensures runs { W.runs world.new ≡ W.runs world.old }
+    ensures around { LeavesAround path.now (seen W.World world.old) (seen W.World world.new) }
+    ensures right { AreFolders (way_into path.now) (W.tree world.old) → W.misused world.new ≡ W.misused world.old }
 {
     for entry in entries {
         lay_entry(alloc, world, path, entry, depth)?;
@@ -198,10 +234,12 @@ fn lay_entry<W: World>(
     ensures ok { OnOk result (W.tree world.new ≡ option_map (entry_laid entry.now folder.now) (W.tree world.old)) }
     ensures free { IfErr result (λ fault. IsTrue (is_free fault)) }
     ensures blames { IfErr result (BlamesWithin folder.now) }
-    ensures files { CountsStore result (W.file_faults world.old) (W.file_faults world.new) }
+    ensures files { CountsFiles cause_of result (W.file_faults world.old) (W.file_faults world.new) }
     ensures children { W.child_faults world.new ≡ W.child_faults world.old }
-    ensures runs { W.runs world.new ≡ W.runs world.old }
+    ensures around { LeavesAround (joined folder.now entry.now.name) (seen W.World world.old) (seen W.World world.new) }
+    ensures right { AreFolders (way_into folder.now) (W.tree world.old) → W.misused world.new ≡ W.misused world.old }
 {
+    let _folder = folder.as_str();
     let path = folder.below(alloc, entry.name.as_str())?;
     lay_node(alloc, world, &path, &entry.node, depth)?;
     Ok(())
@@ -232,10 +270,12 @@ fn lay_under<W: World>(
         (W.tree world.old)) }
     ensures free { IfErr result (λ fault. IsTrue (is_free fault)) }
     ensures blames { IfErr result (BlamesWithin folder.now) }
-    ensures files { CountsStore result (W.file_faults world.old) (W.file_faults world.new) }
+    ensures files { CountsFiles cause_of result (W.file_faults world.old) (W.file_faults world.new) }
     ensures children { W.child_faults world.new ≡ W.child_faults world.old }
-    ensures runs { W.runs world.new ≡ W.runs world.old }
+    ensures around { LeavesAround folder.now (seen W.World world.old) (seen W.World world.new) }
+    ensures right { AreFolders (way_to folder.now) (W.tree world.old) → W.misused world.new ≡ W.misused world.old }
 {
+    let _folder = folder.as_str();
     or_blame(alloc, folder, lay_folder(world, folder))?;
     match next_part(way) {
         Some((part, rest)) => {
@@ -262,7 +302,7 @@ fn way_to(place: &Path) -> Option<&str>
 }
 
 // A node at a place under a folder, which is made.
-#[tactic(auto, using(crate::proofs::Ways::at_way, crate::proofs::Ways::at_root, crate::proofs::Blames::at_within))]
+#[tactic(auto, using(crate::proofs::Around::made_so, crate::proofs::Ways::at_way, crate::proofs::Ways::at_root, crate::proofs::Blames::at_within))]
 fn lay_at<W: World>(
     alloc: Global,
     world: &mut W,
@@ -276,11 +316,14 @@ fn lay_at<W: World>(
     ensures ok { OnOk result (W.tree world.new ≡ option_map (tree_steps root.now place.now node.now)
         (W.tree world.old)) }
     ensures names { OnOk result (IsTrue (list_all is_part (parts_of place.now))) }
+    ensures placed { IfSome (W.tree world.old) (λ _. OnOk result (IsPlaced node.now (parts_of place.now) root.now)) }
     ensures free { IfErr result (λ fault. IsTrue (is_free fault)) }
     ensures blames { IfErr result (BlamesWithin root.now) }
-    ensures files { CountsStore result (W.file_faults world.old) (W.file_faults world.new) }
+    ensures files { CountsFiles cause_of result (W.file_faults world.old) (W.file_faults world.new) }
     ensures children { W.child_faults world.new ≡ W.child_faults world.old }
-    ensures runs { W.runs world.new ≡ W.runs world.old }
+    ensures around { LeavesAround root.now (seen W.World world.old) (seen W.World world.new) }
+    ensures right { MayMisuse (option_map (can_lay root.now place.now node.now) (W.tree world.old))
+        (W.misused world.old) (W.misused world.new) }
 {
     or_blame(alloc, root, world.make_folder(root))?;
     match way_to(place) {
@@ -307,17 +350,11 @@ pub fn write_tree<W: World>(
 ) -> Result<(), StoreFault>
     requires root { length root.now ≤ 8192 }
     requires place { length place.now ≤ 8192 }
-    ensures laid { OnOk result (IsNotRoot (parts_of place.now) root.now
-        → W.tree world.new ≡ option_map (tree_laid root.now place.now tree.now) (W.tree world.old)) }
-    ensures overlay { OnOk result (IsNotRoot (parts_of place.now) root.now
-        → IfSome (W.tree world.old) (λ old. IfSome (W.tree world.new)
+    ensures steps { lays_tree root.now place.now tree.now (seen W.World world.old) result (seen W.World world.new) }
+    ensures overlay { OnOk result (IfSome (W.tree world.old) (λ old. IfSome (W.tree world.new)
         (IsOverlay (items_under tree.now (parts_of place.now) root.now) (folder_made root.now old)))) }
-    ensures refused { IfErr result (λ fault. IsTrue (is_free fault)) }
-    ensures blames { IfErr result (BlamesWithin root.now) }
-    ensures files { CountsStore result (W.file_faults world.old) (W.file_faults world.new) }
+    ensures files { CountsFiles cause_of result (W.file_faults world.old) (W.file_faults world.new) }
     ensures children { W.child_faults world.new ≡ W.child_faults world.old }
-    ensures runs { W.runs world.new ≡ W.runs world.old }
 {
-    lay_at(alloc, world, root, place, tree.node())?;
-    Ok(())
+    lay_at(alloc, world, root, place, tree.node())
 }

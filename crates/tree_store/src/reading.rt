@@ -8,7 +8,10 @@ ghost use Rattle.cnb_world.specs.declared.world.Kind.TheVariants as kind;
 ghost use Rattle.tree_canon.specs.Fits.{entries_fit};
 ghost use Rattle.tree_canon.specs.Names.{is_name};
 ghost use Rattle.tree_canon.specs.Spelling.{limit, entries_bytes};
-ghost use Rattle.tree_store.specs.Answers.{BlamesAt, BlamesWithin, Reads, CountsStore, is_free};
+ghost use Rattle.steps.specs.Causes.{CountsFiles};
+ghost use Rattle.steps.specs.Outside.{seen};
+ghost use Rattle.tree_store.specs.Answers.{BlamesAt, BlamesWithin, Reads, is_free, cause_of};
+ghost use Rattle.tree_store.specs.Steps.{reads_tree};
 ghost use Rattle.tree_store.specs.Reading.{room, link_of, node_at, node_of, in_order, tree_in, FitsFrom};
 
 use crate::fault::{StoreFault, blamed, odd};
@@ -43,7 +46,7 @@ pub(crate) fn kind_at<W: World>(
     ensures free { IfErr result (λ fault. IsTrue (is_free fault)) }
     ensures blames { IfErr result (BlamesAt path.now) }
     ensures tree { W.tree world.new ≡ W.tree world.old }
-    ensures files { CountsStore result (W.file_faults world.old) (W.file_faults world.new) }
+    ensures files { CountsFiles cause_of result (W.file_faults world.old) (W.file_faults world.new) }
     ensures children { W.child_faults world.new ≡ W.child_faults world.old }
     ensures runs { W.runs world.new ≡ W.runs world.old }
     ensures misused { W.misused world.new ≡ W.misused world.old }
@@ -62,7 +65,7 @@ fn listed<W: World>(alloc: Global, world: &mut W, path: &Path) -> Result<List<Te
     ensures free { IfErr result (λ fault. IsTrue (is_free fault)) }
     ensures blames { IfErr result (BlamesAt path.now) }
     ensures tree { W.tree world.new ≡ W.tree world.old }
-    ensures files { CountsStore result (W.file_faults world.old) (W.file_faults world.new) }
+    ensures files { CountsFiles cause_of result (W.file_faults world.old) (W.file_faults world.new) }
     ensures children { W.child_faults world.new ≡ W.child_faults world.old }
     ensures runs { W.runs world.new ≡ W.runs world.old }
     ensures misused { W.misused world.new ≡ W.misused world.old }
@@ -90,7 +93,7 @@ fn read_file<W: World>(
     ensures few { IfOk result (λ read. read.1 ≤ limit) }
     ensures blames { IfErr result (BlamesAt path.now) }
     ensures tree { W.tree world.new ≡ W.tree world.old }
-    ensures files { CountsStore result (W.file_faults world.old) (W.file_faults world.new) }
+    ensures files { CountsFiles cause_of result (W.file_faults world.old) (W.file_faults world.new) }
     ensures children { W.child_faults world.new ≡ W.child_faults world.old }
     ensures runs { W.runs world.new ≡ W.runs world.old }
     ensures misused { W.misused world.new ≡ W.misused world.old }
@@ -128,7 +131,7 @@ fn link_node(
     ensures fit { IfOk result (FitsFrom (65 - levels) size) }
     ensures few { IfOk result (λ read. read.1 ≤ limit) }
     ensures blames { IfErr result (BlamesAt path.now) }
-    ensures counts { (n : ℕ) → CountsStore result n n }
+    ensures counts { (n : ℕ) → CountsFiles cause_of result n n }
 {
     if !is_target(target.as_str().as_bytes()) {
         return Err(odd(alloc, path));
@@ -157,7 +160,7 @@ fn read_link<W: World>(
     ensures few { IfOk result (λ read. read.1 ≤ limit) }
     ensures blames { IfErr result (BlamesAt path.now) }
     ensures tree { W.tree world.new ≡ W.tree world.old }
-    ensures files { CountsStore result (W.file_faults world.old) (W.file_faults world.new) }
+    ensures files { CountsFiles cause_of result (W.file_faults world.old) (W.file_faults world.new) }
     ensures children { W.child_faults world.new ≡ W.child_faults world.old }
     ensures runs { W.runs world.new ≡ W.runs world.old }
     ensures misused { W.misused world.new ≡ W.misused world.old }
@@ -205,7 +208,7 @@ fn read_entry<W: World>(
     ensures few { IfOk result (λ read. read.1 ≤ limit) }
     ensures blames { IfErr result (BlamesWithin folder.now) }
     ensures tree { W.tree world.new ≡ W.tree world.old }
-    ensures files { CountsStore result (W.file_faults world.old) (W.file_faults world.new) }
+    ensures files { CountsFiles cause_of result (W.file_faults world.old) (W.file_faults world.new) }
     ensures children { W.child_faults world.new ≡ W.child_faults world.old }
     ensures runs { W.runs world.new ≡ W.runs world.old }
     ensures misused { W.misused world.new ≡ W.misused world.old }
@@ -237,7 +240,7 @@ fn read_entries<W: World>(
     ensures few { IfOk result (λ read. read.1 ≤ limit) }
     ensures blames { IfErr result (BlamesWithin folder.now) }
     ensures tree { W.tree world.new ≡ W.tree world.old }
-    ensures files { CountsStore result (W.file_faults world.old) (W.file_faults world.new) }
+    ensures files { CountsFiles cause_of result (W.file_faults world.old) (W.file_faults world.new) }
     ensures children { W.child_faults world.new ≡ W.child_faults world.old }
     ensures runs { W.runs world.new ≡ W.runs world.old }
     ensures misused { W.misused world.new ≡ W.misused world.old }
@@ -273,7 +276,7 @@ fn read_folder<W: World>(
     ensures few { IfOk result (λ read. read.1 ≤ limit) }
     ensures blames { IfErr result (BlamesWithin path.now) }
     ensures tree { W.tree world.new ≡ W.tree world.old }
-    ensures files { CountsStore result (W.file_faults world.old) (W.file_faults world.new) }
+    ensures files { CountsFiles cause_of result (W.file_faults world.old) (W.file_faults world.new) }
     ensures children { W.child_faults world.new ≡ W.child_faults world.old }
     ensures runs { W.runs world.new ≡ W.runs world.old }
     ensures misused { W.misused world.new ≡ W.misused world.old }
@@ -302,7 +305,7 @@ fn read_node<W: World>(
     ensures few { IfOk result (λ read. read.1 ≤ limit) }
     ensures blames { IfErr result (BlamesWithin path.now) }
     ensures tree { W.tree world.new ≡ W.tree world.old }
-    ensures files { CountsStore result (W.file_faults world.old) (W.file_faults world.new) }
+    ensures files { CountsFiles cause_of result (W.file_faults world.old) (W.file_faults world.new) }
     ensures children { W.child_faults world.new ≡ W.child_faults world.old }
     ensures runs { W.runs world.new ≡ W.runs world.old }
     ensures misused { W.misused world.new ≡ W.misused world.old }
@@ -326,16 +329,14 @@ fn read_node<W: World>(
     }
 }
 
-/// The tree of the folder at a path. `OddFile` is the first path, a folder before its names and names ascending, that is
-/// neither a folder nor a file nor a link whose target a tree can have, or the path itself where it is no folder;
-/// `Limit` is the first node that lies too deep, or with which the spelling is too long. Of these the first decides.
+// The tree of the folder at a path.
 #[tactic(auto, using(crate::proofs::Blames::at_within))]
-pub fn read_tree<W: World>(alloc: Global, world: &mut W, path: &Path) -> Result<Tree, StoreFault>
+fn tree_at<W: World>(alloc: Global, world: &mut W, path: &Path) -> Result<Tree, StoreFault>
     requires { length path.now ≤ 8192 }
     ensures reads { IfSome (W.tree world.old) (λ files. Reads result (tree_in path.now files)) }
     ensures blames { IfErr result (BlamesWithin path.now) }
     ensures tree { W.tree world.new ≡ W.tree world.old }
-    ensures files { CountsStore result (W.file_faults world.old) (W.file_faults world.new) }
+    ensures files { CountsFiles cause_of result (W.file_faults world.old) (W.file_faults world.new) }
     ensures children { W.child_faults world.new ≡ W.child_faults world.old }
     ensures runs { W.runs world.new ≡ W.runs world.old }
     ensures misused { W.misused world.new ≡ W.misused world.old }
@@ -350,4 +351,18 @@ pub fn read_tree<W: World>(alloc: Global, world: &mut W, path: &Path) -> Result<
         Kind::Link => Err(odd(alloc, path)),
         Kind::Odd => Err(odd(alloc, path)),
     }
+}
+
+/// The tree of the folder at a path. `OddFile` is the first path, a folder before its names and names ascending, that is
+/// neither a folder nor a file nor a link whose target a tree can have, or the path itself where it is no folder;
+/// `Limit` is the first node that lies too deep, or with which the spelling is too long. Of these the first decides.
+#[tactic(auto, using(crate::proofs::CallSteps::tree_read))]
+pub fn read_tree<W: World>(alloc: Global, world: &mut W, path: &Path) -> Result<Tree, StoreFault>
+    requires { length path.now ≤ 8192 }
+    ensures steps { reads_tree path.now (seen W.World world.old) result (seen W.World world.new) }
+    ensures blames { IfErr result (BlamesWithin path.now) }
+    ensures files { CountsFiles cause_of result (W.file_faults world.old) (W.file_faults world.new) }
+    ensures children { W.child_faults world.new ≡ W.child_faults world.old }
+{
+    tree_at(alloc, world, path)
 }

@@ -7,7 +7,10 @@ ghost use Rattle.cnb_world.specs.Path.{is_path, beside};
 ghost use Rattle.cnb_world.specs.Tree.{item_at, is_file, is_file_or_absent, is_root, bytes_of};
 ghost use Rattle.cnb_world.specs.Whole.{can_write, written, LeavesPart};
 ghost use Rattle.tree_canon.specs.Spelling.{spelling_of};
-ghost use Rattle.tree_store.specs.Answers.{BlamesAt, Reads, CountsStore, is_free, is_file_kind, is_absent_kind};
+ghost use Rattle.steps.specs.Causes.{CountsFiles};
+ghost use Rattle.steps.specs.Outside.{seen};
+ghost use Rattle.tree_store.specs.Answers.{BlamesAt, Reads, is_free, is_file_kind, is_absent_kind, cause_of};
+ghost use Rattle.tree_store.specs.Steps.{gets_tree, looks_for_tree, puts_tree};
 ghost use Rattle.tree_store.specs.Store.{tree_path, tree_put, kept_or_written, Gets, IsJudgedTree, Keeps, Puts, LeavesStore};
 
 use crate::fault::{StoreFault, blamed};
@@ -57,9 +60,9 @@ fn is_absent(kind: Kind) -> bool
     }
 }
 
-/// Whether the store has a tree's file.
+// Whether a tree's file stands.
 #[tactic(auto, using(crate::proofs::Puts::has_told))]
-pub fn has<W: World>(
+fn stands<W: World>(
     alloc: Global,
     world: &mut W,
     store: &Path,
@@ -70,7 +73,7 @@ pub fn has<W: World>(
         (Ok (is_file (item_at files (tree_path store.now digest.now))))) }
     ensures blames { IfErr result (BlamesAt (tree_path store.now digest.now)) }
     ensures tree { W.tree world.new ≡ W.tree world.old }
-    ensures files { CountsStore result (W.file_faults world.old) (W.file_faults world.new) }
+    ensures files { CountsFiles cause_of result (W.file_faults world.old) (W.file_faults world.new) }
     ensures children { W.child_faults world.new ≡ W.child_faults world.old }
     ensures runs { W.runs world.new ≡ W.runs world.old }
     ensures misused { W.misused world.new ≡ W.misused world.old }
@@ -78,6 +81,23 @@ pub fn has<W: World>(
     let path = tree_file(alloc, store, digest)?;
     let kind = kind_at(alloc, world, &path)?;
     Ok(is_file(kind))
+}
+
+/// Whether the store has a tree's file.
+#[tactic(auto, using(crate::proofs::CallSteps::looked))]
+pub fn has<W: World>(
+    alloc: Global,
+    world: &mut W,
+    store: &Path,
+    digest: &Digest,
+) -> Result<bool, StoreFault>
+    requires { length store.now ≤ 8192 }
+    ensures steps { looks_for_tree store.now digest.now (seen W.World world.old) result (seen W.World world.new) }
+    ensures blames { IfErr result (BlamesAt (tree_path store.now digest.now)) }
+    ensures files { CountsFiles cause_of result (W.file_faults world.old) (W.file_faults world.new) }
+    ensures children { W.child_faults world.new ≡ W.child_faults world.old }
+{
+    stands(alloc, world, store, digest)
 }
 
 // The bytes of the file at a path from a place on, at most as many as are read at once.
@@ -93,7 +113,7 @@ fn read_piece<W: World>(
     ensures free { IfErr result (λ fault. IsTrue (is_free fault)) }
     ensures blames { IfErr result (BlamesAt path.now) }
     ensures tree { W.tree world.new ≡ W.tree world.old }
-    ensures files { CountsStore result (W.file_faults world.old) (W.file_faults world.new) }
+    ensures files { CountsFiles cause_of result (W.file_faults world.old) (W.file_faults world.new) }
     ensures children { W.child_faults world.new ≡ W.child_faults world.old }
     ensures runs { W.runs world.new ≡ W.runs world.old }
     ensures misused { MayMisuse (option_map (λ t. is_file (item_at t path.now)) (W.tree world.old))
@@ -132,7 +152,7 @@ fn has_bytes<W: World>(
     ensures free { IfErr result (λ fault. IsTrue (is_free fault)) }
     ensures blames { IfErr result (BlamesAt path.now) }
     ensures tree { W.tree world.new ≡ W.tree world.old }
-    ensures files { CountsStore result (W.file_faults world.old) (W.file_faults world.new) }
+    ensures files { CountsFiles cause_of result (W.file_faults world.old) (W.file_faults world.new) }
     ensures children { W.child_faults world.new ≡ W.child_faults world.old }
     ensures runs { W.runs world.new ≡ W.runs world.old }
     ensures misused { MayMisuse (option_map (λ t. is_file (item_at t path.now)) (W.tree world.old))
@@ -157,7 +177,7 @@ fn is_absent_at<W: World>(alloc: Global, world: &mut W, path: &Path) -> Result<b
     ensures free { IfErr result (λ fault. IsTrue (is_free fault)) }
     ensures blames { IfErr result (BlamesAt path.now) }
     ensures tree { W.tree world.new ≡ W.tree world.old }
-    ensures files { CountsStore result (W.file_faults world.old) (W.file_faults world.new) }
+    ensures files { CountsFiles cause_of result (W.file_faults world.old) (W.file_faults world.new) }
     ensures children { W.child_faults world.new ≡ W.child_faults world.old }
     ensures runs { W.runs world.new ≡ W.runs world.old }
     ensures misused { W.misused world.new ≡ W.misused world.old }
@@ -177,7 +197,7 @@ fn compare<W: World>(
     ensures keeps { IfSome (W.tree world.old) (λ files. Keeps digest.now bytes.now (item_at files path.now) result) }
     ensures blames { IfErr result (BlamesAt path.now) }
     ensures tree { W.tree world.new ≡ W.tree world.old }
-    ensures files { CountsStore result (W.file_faults world.old) (W.file_faults world.new) }
+    ensures files { CountsFiles cause_of result (W.file_faults world.old) (W.file_faults world.new) }
     ensures children { W.child_faults world.new ≡ W.child_faults world.old }
     ensures runs { W.runs world.new ≡ W.runs world.old }
     ensures misused { MayMisuse (option_map (λ t. is_file (item_at t path.now)) (W.tree world.old))
@@ -201,10 +221,10 @@ fn write_new<W: World>(
     requires beside { IsTrue (is_path (beside path.now)) }
     requires not_root { is_root path.now ≡ false }
     ensures ok { OnOk result (W.tree world.new ≡ option_map (written path.now bytes.now) (W.tree world.old)) }
-    ensures err { OnErr result (LeavesPart (W.tree world.old) (W.tree world.new) path.now) }
+    ensures err { OnErr result (LeavesPart (W.tree world.old) (W.tree world.new) path.now bytes.now) }
     ensures free { IfErr result (λ fault. IsTrue (is_free fault)) }
     ensures blames { IfErr result (BlamesAt path.now) }
-    ensures files { CountsStore result (W.file_faults world.old) (W.file_faults world.new) }
+    ensures files { CountsFiles cause_of result (W.file_faults world.old) (W.file_faults world.new) }
     ensures children { W.child_faults world.new ≡ W.child_faults world.old }
     ensures runs { W.runs world.new ≡ W.runs world.old }
     ensures misused { MayMisuse (option_map (can_write path.now) (W.tree world.old)) (W.misused world.old)
@@ -228,9 +248,10 @@ fn keep<W: World>(
     requires not_root { is_root path.now ≡ false }
     ensures keeps { IfSome (W.tree world.old) (λ files. Keeps digest.now bytes.now (item_at files path.now) result) }
     ensures ok { OnOk result (W.tree world.new ≡ option_map (kept_or_written path.now bytes.now) (W.tree world.old)) }
-    ensures err { IfErr result (λ fault. LeavesStore fault path.now (W.tree world.old) (W.tree world.new)) }
+    ensures err { IfErr result (λ fault.
+        LeavesStore fault path.now bytes.now (W.tree world.old) (W.tree world.new)) }
     ensures blames { IfErr result (BlamesAt path.now) }
-    ensures files { CountsStore result (W.file_faults world.old) (W.file_faults world.new) }
+    ensures files { CountsFiles cause_of result (W.file_faults world.old) (W.file_faults world.new) }
     ensures children { W.child_faults world.new ≡ W.child_faults world.old }
     ensures runs { W.runs world.new ≡ W.runs world.old }
     ensures misused { MayMisuse (option_map (can_write path.now) (W.tree world.old)) (W.misused world.old)
@@ -244,9 +265,8 @@ fn keep<W: World>(
     Ok(())
 }
 
-/// Puts a tree into the store, as `<store>/trees/<64 digits>`. A tree that is there is left. `Clash` comes where the file
-/// of that name has other bytes.
-pub fn put<W: World>(
+// Puts a tree into its file.
+fn put_file<W: World>(
     alloc: Global,
     world: &mut W,
     store: &Path,
@@ -257,9 +277,9 @@ pub fn put<W: World>(
     ensures puts { IfSome (W.tree world.old) (λ files. Puts store.now tree.now files result) }
     ensures ok { OnOk result (W.tree world.new ≡ option_map (tree_put store.now tree.now) (W.tree world.old)) }
     ensures err { IfErr result (λ fault. LeavesStore fault (tree_path store.now (sha256 (spelling_of tree.now)))
-        (W.tree world.old) (W.tree world.new)) }
+        (spelling_of tree.now) (W.tree world.old) (W.tree world.new)) }
     ensures blames { IfErr result (BlamesAt (tree_path store.now (sha256 (spelling_of tree.now)))) }
-    ensures files { CountsStore result (W.file_faults world.old) (W.file_faults world.new) }
+    ensures files { CountsFiles cause_of result (W.file_faults world.old) (W.file_faults world.new) }
     ensures children { W.child_faults world.new ≡ W.child_faults world.old }
     ensures runs { W.runs world.new ≡ W.runs world.old }
     ensures misused { MayMisuse (option_map (can_write (tree_path store.now (sha256 (spelling_of tree.now))))
@@ -271,6 +291,24 @@ pub fn put<W: World>(
     let path = tree_file(alloc, store, &digest)?;
     keep(alloc, world, &path, bytes.as_slice(), &digest)?;
     Ok(digest)
+}
+
+/// Puts a tree into the store, as `<store>/trees/<64 digits>`. A tree that is there is left. `Clash` comes where the file
+/// of that name has other bytes.
+#[tactic(auto, using(crate::proofs::CallSteps::put_so))]
+pub fn put<W: World>(
+    alloc: Global,
+    world: &mut W,
+    store: &Path,
+    tree: &Tree,
+) -> Result<Digest, StoreFault>
+    requires { length store.now ≤ 8192 }
+    ensures steps { puts_tree store.now tree.now (seen W.World world.old) result (seen W.World world.new) }
+    ensures blames { IfErr result (BlamesAt (tree_path store.now (sha256 (spelling_of tree.now)))) }
+    ensures files { CountsFiles cause_of result (W.file_faults world.old) (W.file_faults world.new) }
+    ensures children { W.child_faults world.new ≡ W.child_faults world.old }
+{
+    put_file(alloc, world, store, tree)
 }
 
 // The tree of judged bytes.
@@ -296,7 +334,7 @@ fn read_kept<W: World>(
     ensures gets { IfSome (W.tree world.old) (λ files. Gets digest.now (item_at files path.now) result) }
     ensures blames { IfErr result (BlamesAt path.now) }
     ensures tree { W.tree world.new ≡ W.tree world.old }
-    ensures files { CountsStore result (W.file_faults world.old) (W.file_faults world.new) }
+    ensures files { CountsFiles cause_of result (W.file_faults world.old) (W.file_faults world.new) }
     ensures children { W.child_faults world.new ≡ W.child_faults world.old }
     ensures runs { W.runs world.new ≡ W.runs world.old }
     ensures misused { MayMisuse (option_map (λ t. is_file (item_at t path.now)) (W.tree world.old))
@@ -312,9 +350,8 @@ fn read_kept<W: World>(
     judged_tree(judged)
 }
 
-/// The tree that the store has under a digest. The digest of the file's bytes is judged first: `bad` is none where it is
-/// another, and else says why the bytes spell no tree.
-pub fn get<W: World>(
+// The tree of a digest's file.
+fn get_file<W: World>(
     alloc: Global,
     world: &mut W,
     store: &Path,
@@ -325,7 +362,7 @@ pub fn get<W: World>(
         (item_at files (tree_path store.now digest.now)) result) }
     ensures blames { IfErr result (BlamesAt (tree_path store.now digest.now)) }
     ensures tree { W.tree world.new ≡ W.tree world.old }
-    ensures files { CountsStore result (W.file_faults world.old) (W.file_faults world.new) }
+    ensures files { CountsFiles cause_of result (W.file_faults world.old) (W.file_faults world.new) }
     ensures children { W.child_faults world.new ≡ W.child_faults world.old }
     ensures runs { W.runs world.new ≡ W.runs world.old }
     ensures misused { MayMisuse (option_map (λ t. is_file_or_absent (item_at t (tree_path store.now digest.now)))
@@ -339,4 +376,22 @@ pub fn get<W: World>(
         Kind::Link => read_kept(alloc, world, &path, 0, digest),
         Kind::Odd => read_kept(alloc, world, &path, 0, digest),
     }
+}
+
+/// The tree that the store has under a digest. The digest of the file's bytes is judged first: `bad` is none where it is
+/// another, and else says why the bytes spell no tree.
+#[tactic(auto, using(crate::proofs::CallSteps::got_so))]
+pub fn get<W: World>(
+    alloc: Global,
+    world: &mut W,
+    store: &Path,
+    digest: &Digest,
+) -> Result<Tree, StoreFault>
+    requires { length store.now ≤ 8192 }
+    ensures steps { gets_tree store.now digest.now (seen W.World world.old) result (seen W.World world.new) }
+    ensures blames { IfErr result (BlamesAt (tree_path store.now digest.now)) }
+    ensures files { CountsFiles cause_of result (W.file_faults world.old) (W.file_faults world.new) }
+    ensures children { W.child_faults world.new ≡ W.child_faults world.old }
+{
+    get_file(alloc, world, store, digest)
 }

@@ -1,4 +1,4 @@
-use Rattle.std.proofs.Common.{◌≡◌, ◌∙◌, arith}
+use Rattle.std.proofs.Common.{◌≡◌, ◌∙◌}
 use Rattle.tree_store.proofs.Kept.{file_read, may_go_on, one_alike, same_unless, told_slice}
 use Rattle.tree_store.proofs.store.has_bytes.Goals as goal
 

@@ -1,7 +1,7 @@
-use Rattle.std.proofs.Common.{◌≡◌, ◌+◌, ◌*◌, ◌/◌, ◌<◌, ◌∙◌, arith, subst, take}
+use Rattle.std.proofs.Common.{◌≡◌, ◌+◌, ◌*◌, ◌/◌, ◌∙◌, arith, subst, take}
 use Rattle.std.specs.Prelude.{IfSome}
 use Rattle.tree_store.specs.Judging.{HasTaken}
-use Rattle.tree_store.proofs.Kept.{IsFileAfter, contents, file_read, is_file_after, may_go_on, taken_on, told_slice}
+use Rattle.tree_store.proofs.Kept.{contents, file_read, is_file_after, may_go_on, taken_on, told_slice}
 use Rattle.tree_store.proofs.Puts.{judged_gets}
 use Rattle.tree_store.proofs.store.read_kept.Goals as goal
 

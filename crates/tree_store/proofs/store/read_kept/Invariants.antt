@@ -1,4 +1,4 @@
-use Rattle.std.proofs.Common.{◌≡◌, ◌*◌, ◌<◌, take, IsTrue}
+use Rattle.std.proofs.Common.{◌≡◌, ◌*◌, take}
 use Rattle.std.specs.Prelude.{IfSome}
 use Rattle.std.specs.Option.{option_map}
 use Rattle.cnb_world.specs.Calls.{MayMisuse}

@@ -1,4 +1,4 @@
-use Rattle.std.proofs.Common.{◌≡◌, ◌++◌, Err, subst}
+use Rattle.std.proofs.Common.{◌≡◌, Err, subst}
 use Rattle.tree_canon.specs.Feeding.{Feeds}
 use Rattle.tree_canon.specs.declared.fault.DecodeFault.TheVariants as faults
 use Rattle.tree_store.proofs.Feeding.{fed_broken}

@@ -2,7 +2,7 @@ use Rattle.std.proofs.Common.{◌≡◌, sym, ◌∙◌}
 use Rattle.std.proofs.lemmas.Result.{err_from_is_err_and}
 use Rattle.cnb_world.specs.declared.world.Kind.TheVariants as kind
 use Rattle.tree_store.proofs.Roots.{root_read, root_refused, no_root}
-use Rattle.tree_store.proofs.reading.read_tree.Goals as goal
+use Rattle.tree_store.proofs.reading.tree_at.Goals as goal
 
 pub returns-in_err-root-in-Folder-clause-reads : goal.returns-in_err-root-in-Folder-clause-reads
 returns-in_err-root-in-Folder-clause-reads g c =

@@ -1,0 +1,93 @@
+-- What each call does, as a step: from what is seen before, by an answer, to what is seen after.
+use Rattle.std.specs.Prelude.{[], ◌∷◌, ◌&&◌, ℕ, Bool, true, ◌≡◌, List, Result, Ok, Err, IfSome, IsTrue}
+use Rattle.std.specs.Option.{option_map}
+use Rattle.sha2.specs.Sha256.{sha256}
+use Rattle.cnb_world.specs.Tree.{Tree, can_make_folder, item_at, is_file, is_file_or_absent, is_within}
+use Rattle.cnb_world.specs.Whole.{can_write}
+use Rattle.steps.specs.Causes.{Cause, FileFailed, ChildFailed, OutOfMemory, Decided}
+use Rattle.steps.specs.Outside.{Seen}
+use Rattle.steps.specs.Steps.{◌>>=◌, Allows, Same, reads, yields}
+use Rattle.tree_canon.specs.Spelling.{spelling_of}
+use Rattle.tree_canon.specs.declared.node.Node.{Node}
+use Rattle.tree_store.specs.Answers.{cause_of}
+use Rattle.tree_store.specs.Around.{LeavesAround}
+use Rattle.tree_store.specs.Overlay.{can_stand, parts_of, tree_laid}
+use Rattle.tree_store.specs.Reading.{tree_in}
+use Rattle.tree_store.specs.Store.{Gets, LeavesStore, Puts, tree_path, tree_put}
+use Rattle.tree_store.specs.declared.fault.StoreFault.{StoreFault}
+
+-- the tree of a folder is read
+unfoldable pub reads_tree : List ℕ → Seen → Result Node StoreFault → Seen → Type 0
+reads_tree path old result new = reads cause_of (λ files. true) (tree_in path) old result new
+
+-- whether the store has the file of a tree
+unfoldable pub looks_for_tree : List ℕ → List ℕ → Seen → Result Bool StoreFault → Seen → Type 0
+looks_for_tree store digest old result new =
+    reads cause_of (λ files. true) (λ files. Ok (is_file (item_at files (tree_path store digest)))) old result new
+
+-- The file of a tree is read, by calls of the right kind where it is a file or absent.
+pub record GetsTree (store digest : List ℕ) (old : Seen) (result : Result Node StoreFault) (new : Seen) : Type 0 where
+  pub same : Same old new
+  pub answer : IfSome old.files (λ files. Gets digest (item_at files (tree_path store digest)) result)
+  pub allows : Allows (λ files. is_file_or_absent (item_at files (tree_path store digest))) old new
+
+-- the tree that the store has under a digest
+unfoldable pub gets_tree : List ℕ → List ℕ → Seen → Result Node StoreFault → Seen → Type 0
+gets_tree store digest old result new = GetsTree store digest old result new
+
+-- that there is one
+unfoldable pub checks_tree : List ℕ → List ℕ → Seen → Result (Unit {0}) StoreFault → Seen → Type 0
+checks_tree store digest = gets_tree store digest >>= (λ tree. yields tt)
+
+-- where a tree may be put: where its file may be written
+abbrev pub can_put : List ℕ → Node → Tree → Bool
+can_put store tree = can_write (tree_path store (sha256 (spelling_of tree)))
+
+-- what is left of the files where a tree was put, and where it was refused
+abbrev pub LeavesPut : List ℕ → Node → Seen → Result (List ℕ) StoreFault → Seen → Type 0
+LeavesPut store tree old (Ok digest) new =
+    (digest ≡ sha256 (spelling_of tree)) × (new.files ≡ option_map (tree_put store tree) old.files)
+LeavesPut store tree old (Err fault) new =
+    LeavesStore fault (tree_path store (sha256 (spelling_of tree))) (spelling_of tree) old.files new.files
+
+pub record PutsTree (store : List ℕ) (tree : Node) (old : Seen) (result : Result (List ℕ) StoreFault) (new : Seen)
+    : Type 0 where
+  pub answer : IfSome old.files (λ files. Puts store tree files result)
+  pub leaves : LeavesPut store tree old result new
+  pub runs : new.runs ≡ old.runs
+  pub allows : Allows (can_put store tree) old new
+
+-- a tree is put into the store: its file is written, or has its bytes
+unfoldable pub puts_tree : List ℕ → Node → Seen → Result (List ℕ) StoreFault → Seen → Type 0
+puts_tree store tree old result new = PutsTree store tree old result new
+
+-- the tree of a folder is put into the store
+unfoldable pub puts_folder : List ℕ → List ℕ → Seen → Result (List ℕ) StoreFault → Seen → Type 0
+puts_folder store path = reads_tree path >>= puts_tree store
+
+-- refused for a failed call at a path or below it, or for want of memory
+abbrev pub IsCauseWithin : List ℕ → Cause → Type 0
+IsCauseWithin path (FileFailed failed) = IsTrue (is_within path failed)
+IsCauseWithin path ChildFailed = ⊥
+IsCauseWithin path OutOfMemory = Unit {0}
+IsCauseWithin path Decided = ⊥
+
+-- a node may be laid at the place of these parts: nothing but a folder at `/` itself
+abbrev pub can_place : Node → List (List ℕ) → List ℕ → Bool
+can_place node [] root = can_stand node root
+can_place node (part ∷ parts) root = true
+
+-- where a tree may be laid: where its root can be made
+abbrev pub can_lay : List ℕ → List ℕ → Node → Tree → Bool
+can_lay root place tree files = can_make_folder files root && can_place tree (parts_of place) root
+
+-- A tree is laid at a place under a folder. Where that is refused, a part of it may stand.
+unfoldable pub lays_tree : List ℕ → List ℕ → Node → Seen → Result (Unit {0}) StoreFault → Seen → Type 0
+lays_tree root place tree old (Ok done) new =
+    (new.files ≡ option_map (tree_laid root place tree) old.files) × LeavesAround root old new × Allows (can_lay root place tree) old new
+lays_tree root place tree old (Err fault) new =
+    IsCauseWithin root (cause_of fault) × LeavesAround root old new × Allows (can_lay root place tree) old new
+
+-- a stored tree is laid at a place under a folder
+unfoldable pub lays_stored : List ℕ → List ℕ → List ℕ → List ℕ → Seen → Result (Unit {0}) StoreFault → Seen → Type 0
+lays_stored store digest root place = gets_tree store digest >>= lays_tree root place
