@@ -63,6 +63,3 @@ pub use seen::see_key;
 pub use values::{FilledText, TargetName};
 pub use writing::{put, put_at, put_metadata, put_optional};
 pub use written::{Written, WrittenRow, WrittenTable};
-
-#[cfg(test)]
-mod tests;
