@@ -1,2 +1,4 @@
 pub mod Numbers
 pub mod OptionLemmas
+pub mod PathLemmas
+pub mod TypeLemmas

@@ -5,12 +5,12 @@ use Rattle.std.specs.Option.{option_copied}
 use Rattle.cnb_words.specs.Options.{has_equals, in_front, in_one_word, in_two_words, options_behind}
 use Rattle.cnb_words.specs.declared.options.Given.{Given}
 
--- options in front of others
-abbrev pub behind : List Given → Option (List Given) → Option (List Given)
+-- what is done in front of the rest
+abbrev pub behind : {T : Type 0} → List T → Option (List T) → Option (List T)
 behind done None = None
 behind done (Some rest) = Some (done ++ rest)
 
-behind-in_front : (done : List Given) (one : Given) (rest : Option (List Given)) → behind done (in_front (Some one) rest) ≡ behind (done ++ one ∷ []) rest
+pub behind-in_front : {T : Type 0} (done : List T) (one : T) (rest : Option (List T)) → behind done (in_front (Some one) rest) ≡ behind (done ++ one ∷ []) rest
 behind-in_front done one None = refl
 behind-in_front done one (Some rest) = ap Some (sym (append_assoc done (one ∷ []) rest))
 

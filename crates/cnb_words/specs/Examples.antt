@@ -3,7 +3,8 @@ use Rattle.std.specs.Prelude.{◌≡◌, refl, ℕ, List, [], ◌∷◌, codes, 
 use Rattle.cnb_words.specs.Words.{asked_by}
 use Rattle.cnb_words.specs.declared.detect.DetectWords.{DetectWords}
 use Rattle.cnb_words.specs.declared.fault.WordsFault.TheVariants.{NotBuilt, Usage}
-use Rattle.cnb_words.specs.declared.words.Asked.TheVariants.{Detect}
+use Rattle.cnb_words.specs.declared.launch.Call.TheVariants.{Entry}
+use Rattle.cnb_words.specs.declared.words.Asked.TheVariants.{Detect, Launch}
 
 abbrev detect_with : ℕ → DetectWords
 detect_with workers = record { order = codes "/o"; buildpacks = codes "/b"; app = codes "/a"; platform = codes "/p"; work = codes "/w"; workers = workers }
@@ -29,10 +30,10 @@ no_option_stands_twice = refl
 pub no_value_in_a_word_of_its_own_begins_with_a_dash : asked_by (detect_before (codes "--workers" ∷ codes "-8" ∷ [])) ≡ Err Usage
 no_value_in_a_word_of_its_own_begins_with_a_dash = refl
 
-pub another_command_is_not_judged : asked_by (codes "lifecycle" ∷ codes "create" ∷ codes "--" ∷ []) ≡ Err (NotBuilt (codes "create"))
-another_command_is_not_judged = refl
+pub the_words_behind_drill_are_not_judged : asked_by (codes "lifecycle" ∷ codes "drill" ∷ codes "--" ∷ []) ≡ Err (NotBuilt (codes "drill"))
+the_words_behind_drill_are_not_judged = refl
 
-pub a_process_is_launched : asked_by (codes "/r/cnb/process/web" ∷ codes "detect" ∷ []) ≡ Err (NotBuilt (codes "launch"))
+pub a_process_is_launched : asked_by (codes "/r/cnb/process/web" ∷ codes "detect" ∷ []) ≡ Ok (Launch (record { root = codes "/r"; call = Entry (codes "web") (codes "detect" ∷ []) }))
 a_process_is_launched = refl
 
 pub no_process_is_two_dots : asked_by (codes "/cnb/process/.." ∷ []) ≡ Err Usage

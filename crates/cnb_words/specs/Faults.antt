@@ -1,5 +1,7 @@
 -- Refusals of words.
 use Rattle.std.specs.Prelude.{◌≡◌, Option, Some, None, Result, Ok, Err}
+use Rattle.cnb_toml.specs.declared.fault.NameFault.{NameFault}
+use Rattle.cnb_toml.specs.declared.fault.NameFault.TheVariants as name_fault
 use Rattle.cnb_world.specs.declared.path.PathFault.{PathFault}
 use Rattle.cnb_world.specs.declared.path.PathFault.TheVariants as path_fault
 use Rattle.cnb_words.specs.declared.fault.WordsFault.{WordsFault}
@@ -9,6 +11,11 @@ use Rattle.cnb_words.specs.declared.fault.WordsFault.TheVariants.{Usage, NotBuil
 abbrev pub fault_of_path : PathFault → WordsFault
 fault_of_path path_fault.NotPath = Usage
 fault_of_path path_fault.Memory = Memory
+
+-- nor is one that is no name
+abbrev pub fault_of_name : NameFault → WordsFault
+fault_of_name name_fault.Bad = Usage
+fault_of_name name_fault.Memory = Memory
 
 -- words are read as this value, and are refused where there is none, unless memory ran out
 abbrev pub Reads : {T : Type 0} → Result T WordsFault → Option T → Type 0

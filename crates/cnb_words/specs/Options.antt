@@ -1,5 +1,5 @@
 -- The options behind a command.
-use Rattle.std.specs.Prelude.{ℕ, ◌==◌, Bool, false, List, [], ◌∷◌, nat_le, count_by, find, if◌then◌else◌, Option, Some, None}
+use Rattle.std.specs.Prelude.{ℕ, ◌==◌, ◌&&◌, ◌||◌, Bool, false, List, [], ◌∷◌, nat_le, count_by, find, if◌then◌else◌, Option, Some, None}
 use Rattle.std.specs.List.{after_first, before_first, list_all, list_any}
 use Rattle.std.specs.Option.{option_map}
 use Rattle.std.specs.Str.{bytes_eq}
@@ -27,8 +27,8 @@ begins_with_dash (byte ∷ bytes) = byte == 45
 abbrev pub in_two_words : List ℕ → List ℕ → Option Given
 in_two_words name value = if begins_with_dash value then None else option_with name value
 
--- an option in front of others
-abbrev pub in_front : Option Given → Option (List Given) → Option (List Given)
+-- one in front of others, where all are there
+abbrev pub in_front : {T : Type 0} → Option T → Option (List T) → Option (List T)
 in_front None rest = None
 in_front (Some one) None = None
 in_front (Some one) (Some rest) = Some (one ∷ rest)
@@ -49,12 +49,16 @@ abbrev pub has_name : List ℕ → Given → Bool
 has_name name option = bytes_eq option.name name
 
 -- each option has one of these names
-abbrev pub have_names : List (List ℕ) → List Given → Bool
-have_names names options = list_all (λ option. list_any (bytes_eq option.name) names) options
+abbrev pub have_names : List (List ℕ) → List (List ℕ) → List Given → Bool
+have_names once often options = list_all (λ option. list_any (bytes_eq option.name) once || list_any (bytes_eq option.name) often) options
 
 -- each of these names stands at most once
 abbrev pub stand_once : List (List ℕ) → List Given → Bool
 stand_once names options = list_all (λ name. nat_le (count_by (has_name name) options) 1) names
+
+-- no other option stands, and none of the first names stands twice
+abbrev pub check_names : List (List ℕ) → List (List ℕ) → List Given → Option (Unit {0})
+check_names once often options = if have_names once often options && stand_once once options then Some tt else None
 
 -- the value of an option
 abbrev pub value_of : List ℕ → List Given → Option (List ℕ)

@@ -1,11 +1,20 @@
 -- The values of options.
-use Rattle.std.specs.Prelude.{ℕ, ◌==◌, ◌&&◌, ◌+◌, ◌-◌, ◌*◌, Bool, not, List, [], ◌∷◌, nat_le, if◌then◌else◌, Option, Some, None}
+use Rattle.std.specs.Prelude.{ℕ, ◌==◌, ◌&&◌, ◌+◌, ◌-◌, ◌*◌, not, List, [], ◌∷◌, nat_le, if◌then◌else◌, Option, Some, None}
 use Rattle.std.specs.Char.{is_ascii_digit}
+use Rattle.cnb_toml.specs.Names.{is_image_name, is_target_name}
 use Rattle.cnb_world.specs.Path.{is_short_path}
 
 -- the path that a text is
 abbrev pub path_in : List ℕ → Option (List ℕ)
 path_in text = if is_short_path text then Some text else None
+
+-- the image's name that a text is
+abbrev pub image_in : List ℕ → Option (List ℕ)
+image_in text = if is_image_name text then Some text else None
+
+-- the name of an operating system or an architecture that a text is
+abbrev pub target_in : List ℕ → Option (List ℕ)
+target_in text = if is_target_name text then Some text else None
 
 -- the number of a decimal digit other than 0
 abbrev pub leading_digit : ℕ → Option ℕ

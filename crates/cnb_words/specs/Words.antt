@@ -1,44 +1,86 @@
 -- What the words of a command line ask for.
 use Rattle.std.specs.Prelude.{ℕ, ◌≡◌, List, [], ◌∷◌, codes, if◌then◌else◌, Option, Some, None, Result, Ok, Err}
-use Rattle.std.specs.List.{list_any}
-use Rattle.std.specs.Option.{option_and_then}
 use Rattle.std.specs.Str.{bytes_eq}
-use Rattle.cnb_words.specs.Detect.{detect_in, KeepsLimits}
+use Rattle.cnb_words.specs.Analyze as analyze
+use Rattle.cnb_words.specs.Base as base
+use Rattle.cnb_words.specs.Build as build
+use Rattle.cnb_words.specs.Create as create
+use Rattle.cnb_words.specs.Detect as detect
+use Rattle.cnb_words.specs.Export as export
+use Rattle.cnb_words.specs.Launch as launch
 use Rattle.cnb_words.specs.Options.{options_in}
-use Rattle.cnb_words.specs.Program.{names_launch}
-use Rattle.cnb_words.specs.declared.detect.DetectWords.{DetectWords}
+use Rattle.cnb_words.specs.Program.{is_launcher, process_type, root_of}
+use Rattle.cnb_words.specs.Rebase as rebase
+use Rattle.cnb_words.specs.Restore as restore
+use Rattle.cnb_words.specs.Show as show
+use Rattle.cnb_words.specs.Unpack as unpack
 use Rattle.cnb_words.specs.declared.fault.WordsFault.{WordsFault}
 use Rattle.cnb_words.specs.declared.fault.WordsFault.TheVariants.{Usage, NotBuilt, Memory}
+use Rattle.cnb_words.specs.declared.options.Given.{Given}
 use Rattle.cnb_words.specs.declared.words.Asked.{Asked}
-use Rattle.cnb_words.specs.declared.words.Asked.TheVariants.{Detect}
-
--- the commands that are known and not served yet
-abbrev pub other_commands : List (List ℕ)
-other_commands =
-    codes "analyze" ∷ codes "restore" ∷ codes "build" ∷ codes "export" ∷ codes "create" ∷ codes "rebase"
-    ∷ codes "base" ∷ codes "unpack" ∷ codes "show" ∷ codes "drill" ∷ codes "launch" ∷ []
+use Rattle.cnb_words.specs.declared.words.Asked.TheVariants.{Detect, Analyze, Restore, Build, Export, Create, Rebase, Base, Unpack, Show, Launch}
 
 -- what is asked for; where there is nothing, the words are refused
-abbrev pub detect_or_usage : Option DetectWords → Result Asked WordsFault
-detect_or_usage None = Err Usage
-detect_or_usage (Some words) = Ok (Detect words)
+abbrev pub asks : {T : Type 0} → (T → Asked) → Option T → Result Asked WordsFault
+asks command None = Err Usage
+asks command (Some words) = Ok (command words)
 
--- what the words behind `detect` ask for
-abbrev pub detect_asked : List (List ℕ) → Result Asked WordsFault
-detect_asked words = detect_or_usage (option_and_then detect_in (options_in words))
-
--- a command and its options; those of a command that isn't served aren't judged
-abbrev pub command_asked : List (List ℕ) → Result Asked WordsFault
-command_asked [] = Err Usage
-command_asked (command ∷ words) =
-    if bytes_eq command (codes "detect") then detect_asked words
-    else if list_any (bytes_eq command) other_commands then Err (NotBuilt command)
+-- a command on whole images, with its options
+abbrev pub image_asked : List ℕ → List Given → Result Asked WordsFault
+image_asked command options =
+    if bytes_eq command (codes "create") then asks Create (create.create_in options)
+    else if bytes_eq command (codes "rebase") then asks Rebase (rebase.rebase_in options)
+    else if bytes_eq command (codes "base") then asks Base (base.base_in options)
+    else if bytes_eq command (codes "unpack") then asks Unpack (unpack.unpack_in options)
+    else if bytes_eq command (codes "show") then asks Show (show.show_in options)
     else Err Usage
 
--- the program's own word, which may name the command, then the command and its options
+-- a command that is a part of building an image, with its options
+abbrev pub phase_asked : List ℕ → List Given → Result Asked WordsFault
+phase_asked command options =
+    if bytes_eq command (codes "detect") then asks Detect (detect.detect_in options)
+    else if bytes_eq command (codes "analyze") then asks Analyze (analyze.analyze_in options)
+    else if bytes_eq command (codes "restore") then asks Restore (restore.restore_in options)
+    else if bytes_eq command (codes "build") then asks Build (build.build_in options)
+    else if bytes_eq command (codes "export") then asks Export (export.export_in options)
+    else image_asked command options
+
+abbrev pub with_options : Option (List Given) → (List Given → Result Asked WordsFault) → Result Asked WordsFault
+with_options None asked = Err Usage
+with_options (Some options) asked = asked options
+
+abbrev pub options_asked : List ℕ → List (List ℕ) → Result Asked WordsFault
+options_asked command words = with_options (options_in words) (phase_asked command)
+
+-- a command and the words behind it
+abbrev pub asked_of : List ℕ → List (List ℕ) → Result Asked WordsFault
+asked_of command words = if bytes_eq command (codes "launch") then asks Launch (launch.launch_in words) else options_asked command words
+
+-- `drill` is known and not served yet: the words behind it aren't judged
+abbrev pub where_served : List ℕ → Result Asked WordsFault → Result Asked WordsFault
+where_served command asked = if bytes_eq command (codes "drill") then Err (NotBuilt command) else asked
+
+abbrev pub command_asked : List (List ℕ) → Result Asked WordsFault
+command_asked [] = Err Usage
+command_asked (command ∷ words) = where_served command (asked_of command words)
+
+-- the launcher, started by its own name in a root
+abbrev pub launcher_asked : List ℕ → List (List ℕ) → Result Asked WordsFault
+launcher_asked root words = asks Launch (launch.launch_at root words)
+
+-- the launcher, started by the name of a process in a root
+abbrev pub process_asked : List ℕ → List ℕ → List (List ℕ) → Result Asked WordsFault
+process_asked root kind words = asks Launch (launch.process_at root kind words)
+
+abbrev pub unless_process : Option (List ℕ) → List ℕ → List (List ℕ) → Result Asked WordsFault
+unless_process None root words = command_asked words
+unless_process (Some kind) root words = process_asked root kind words
+
+-- the program's own word, which may name the launcher or a process, then the command and its options
 abbrev pub asked_by : List (List ℕ) → Result Asked WordsFault
 asked_by [] = Err Usage
-asked_by (program ∷ words) = if names_launch program then Err (NotBuilt (codes "launch")) else command_asked words
+asked_by (program ∷ words) =
+    if is_launcher program then launcher_asked (root_of program) words else unless_process (process_type program) (root_of program) words
 
 -- an answer is this one, unless memory ran out
 abbrev pub AsksAs : Result Asked WordsFault → Result Asked WordsFault → Type 0
@@ -47,6 +89,30 @@ AsksAs (Err Usage) want = want ≡ Err Usage
 AsksAs (Err (NotBuilt name)) want = want ≡ Err (NotBuilt name)
 AsksAs (Err Memory) want = Unit {0}
 
--- what is asked for has short paths and few workers
+-- the folders of the caches that a command uses
+abbrev pub caches_asked : Asked → List (List ℕ)
+caches_asked (Restore words) = words.caches
+caches_asked (Export words) = words.caches
+caches_asked (Create words) = words.caches
+caches_asked (Detect words) = []
+caches_asked (Analyze words) = []
+caches_asked (Build words) = []
+caches_asked (Rebase words) = []
+caches_asked (Base words) = []
+caches_asked (Unpack words) = []
+caches_asked (Show words) = []
+caches_asked (Launch words) = []
+
+-- what is asked for has short paths, few workers and few caches
 abbrev pub AsksWithinLimits : Asked → Type 0
-AsksWithinLimits (Detect words) = KeepsLimits words
+AsksWithinLimits (Detect words) = detect.KeepsLimits words
+AsksWithinLimits (Analyze words) = analyze.KeepsLimits words
+AsksWithinLimits (Restore words) = restore.KeepsLimits words
+AsksWithinLimits (Build words) = build.KeepsLimits words
+AsksWithinLimits (Export words) = export.KeepsLimits words
+AsksWithinLimits (Create words) = create.KeepsLimits words
+AsksWithinLimits (Rebase words) = rebase.KeepsLimits words
+AsksWithinLimits (Base words) = base.KeepsLimits words
+AsksWithinLimits (Unpack words) = unpack.KeepsLimits words
+AsksWithinLimits (Show words) = show.KeepsLimits words
+AsksWithinLimits (Launch words) = launch.KeepsLimits words

@@ -1,5 +1,6 @@
 // Why words ask for nothing.
 
+use cnb_toml::NameFault;
 use cnb_world::{Memory, PathFault, Text};
 
 /// Why words ask for nothing: they are no command with its options, or a command that is not served.
@@ -31,6 +32,20 @@ impl From<PathFault> for WordsFault {
         match fault {
             PathFault::NotPath => WordsFault::Usage,
             PathFault::Memory => WordsFault::Memory,
+        }
+    }
+}
+
+impl From<NameFault> for WordsFault {
+    ghost use Rattle.std.specs.Prelude.{◌≡◌};
+    ghost use Rattle.cnb_words.specs.Faults.{fault_of_name};
+
+    ghost from_gives = { λ fault refusal. refusal ≡ fault_of_name fault };
+
+    fn from(fault: NameFault) -> Self {
+        match fault {
+            NameFault::Bad => WordsFault::Usage,
+            NameFault::Memory => WordsFault::Memory,
         }
     }
 }

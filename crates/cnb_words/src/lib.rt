@@ -1,15 +1,34 @@
 //! What the words of a command line ask for.
 #![tactic(auto)]
 
+mod analyze;
+mod base;
+mod build;
+mod create;
 mod detect;
+mod export;
 mod fault;
+mod launch;
+mod option_values;
 mod options;
 mod program;
-#[cfg(test)]
-mod tests;
+mod rebase;
+mod restore;
+mod show;
+mod unpack;
 mod values;
 mod words;
 
+pub use analyze::AnalyzeWords;
+pub use base::BaseWords;
+pub use build::BuildWords;
+pub use create::CreateWords;
 pub use detect::DetectWords;
+pub use export::ExportWords;
 pub use fault::WordsFault;
+pub use launch::{Call, LaunchWords};
+pub use rebase::RebaseWords;
+pub use restore::RestoreWords;
+pub use show::ShowWords;
+pub use unpack::UnpackWords;
 pub use words::{Asked, read_words};

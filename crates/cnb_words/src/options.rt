@@ -2,8 +2,9 @@
 ghost use Rattle.std.specs.Prelude.{◌≡◌, List as Seq, count_by, map, string_bytes};
 ghost use Rattle.std.specs.List.{list_any};
 ghost use Rattle.std.specs.Option.{option_copied};
+ghost use Rattle.std.specs.Str.{bytes_eq};
 ghost use Rattle.cnb_words.specs.Faults.{Reads};
-ghost use Rattle.cnb_words.specs.Options.{begins_with_dash, has_equals, has_name, in_one_word, in_two_words, option_with, options_in, value_of};
+ghost use Rattle.cnb_words.specs.Options.{begins_with_dash, check_names, has_equals, has_name, have_names, in_one_word, in_two_words, option_with, options_in, stand_once, value_of};
 
 use crate::fault::WordsFault;
 use cnb_world::{List, Text};
@@ -80,14 +81,62 @@ pub(crate) fn options_in(alloc: Global, words: &[String]) -> Result<List<Given>,
     }
 }
 
-/// How often an option stands.
-pub(crate) fn count_of(options: &[Given], name: &str) -> usize
+/// Whether a text is one of these names.
+pub(crate) fn is_one_of(names: &[&str], text: &str) -> bool
+    ensures { result ≡ list_any (bytes_eq text.now) (map (λ name. name.now) names.now) }
+{
+    for name in names {
+        if text == *name {
+            return true;
+        }
+    }
+    false
+}
+
+// How often an option stands.
+fn count_of(options: &[Given], name: &str) -> usize
     ensures { result ≡ count_by (has_name name.now) options.now }
 {
     options
         .iter()
         .filter(|option| option.name.as_str() == name)
         .count()
+}
+
+// Whether each option has one of these names.
+fn have_names(options: &[Given], once: &[&str], often: &[&str]) -> bool
+    ensures { result ≡ have_names (map (λ name. name.now) once.now) (map (λ name. name.now) often.now) options.now }
+{
+    options.iter().all(|option| is_one_of(once, option.name.as_str())
+        || is_one_of(often, option.name.as_str()))
+}
+
+// Whether no option of these names stands twice.
+fn stand_once(options: &[Given], names: &[&str]) -> bool
+    ensures { result ≡ stand_once (map (λ name. name.now) names.now) options.now }
+{
+    for name in names {
+        if count_of(options, name) > 1 {
+            return false;
+        }
+    }
+    true
+}
+
+/// Refuses an option that has none of these names, and one of the first ones that stands twice.
+pub(crate) fn check_names(
+    options: &[Given],
+    once: &[&str],
+    often: &[&str],
+) -> Result<(), WordsFault>
+    ensures { Reads result
+        (check_names (map (λ name. name.now) once.now) (map (λ name. name.now) often.now) options.now) }
+{
+    if have_names(options, once, often) && stand_once(options, once) {
+        Ok(())
+    } else {
+        Err(WordsFault::Usage)
+    }
 }
 
 /// The value of an option.

@@ -1,10 +1,12 @@
 // The values of options.
-ghost use Rattle.std.specs.Prelude.{◌≡◌, ◌≤◌, IfOk, IfSome, length};
+ghost use Rattle.std.specs.Prelude.{◌≡◌, ◌≤◌, IfOk, IfSome, IsTrue, length};
+ghost use Rattle.cnb_toml.specs.Names.{is_target_name};
 ghost use Rattle.cnb_words.specs.Faults.{Reads};
-ghost use Rattle.cnb_words.specs.Values.{leading_digit, number_in, path_in, two_digits, workers_in};
+ghost use Rattle.cnb_words.specs.Values.{image_in, leading_digit, number_in, path_in, target_in, two_digits, workers_in};
 
 use crate::fault::WordsFault;
-use cnb_world::Path;
+use cnb_toml::{ImageName, is_target_name};
+use cnb_world::{Path, Text};
 use std::alloc::Global;
 
 const MOST_WORKERS: usize = 64;
@@ -16,6 +18,25 @@ pub(crate) fn path_in(alloc: Global, text: &str) -> Result<Path, WordsFault>
 {
     let path = Path::parse_short(alloc, text)?;
     Ok(path)
+}
+
+/// The image's name that a text is.
+pub(crate) fn image_in(alloc: Global, text: &str) -> Result<ImageName, WordsFault>
+    ensures { Reads result (image_in text.now) }
+{
+    let name = ImageName::parse(alloc, text)?;
+    Ok(name)
+}
+
+/// The name of an operating system or an architecture that a text is.
+pub(crate) fn target_in(alloc: Global, text: &str) -> Result<Text, WordsFault>
+    ensures reads { Reads result (target_in text.now) }
+    ensures is_name { IfOk result (λ name. IsTrue (is_target_name name)) }
+{
+    if !is_target_name(text) {
+        return Err(WordsFault::Usage);
+    }
+    Ok(Text::of(alloc, text)?)
 }
 
 fn leading_digit(digit: u8) -> Option<usize>

@@ -1,45 +1,53 @@
 // The words of a command line.
-ghost use Rattle.std.specs.Prelude.{◌≡◌, IfOk, map, string_bytes};
-ghost use Rattle.std.specs.List.{list_any};
-ghost use Rattle.std.specs.Str.{bytes_eq};
-ghost use Rattle.cnb_words.specs.Words.{AsksAs, AsksWithinLimits, asked_by, command_asked, detect_asked, other_commands};
+ghost use Rattle.std.specs.Prelude.{◌≡◌, ◌∷◌, IfOk, IsTrue, map, string_bytes};
+ghost use Rattle.cnb_toml.specs.Names.{is_process_type};
+ghost use Rattle.cnb_words.specs.Words.{AsksAs, AsksWithinLimits, asked_by, asked_of, caches_asked, command_asked, image_asked, launcher_asked, options_asked, phase_asked, process_asked};
 
+use crate::analyze::{AnalyzeWords, analyze_in};
+use crate::base::{BaseWords, base_in};
+use crate::build::{BuildWords, build_in};
+use crate::create::{CreateWords, create_in};
 use crate::detect::{DetectWords, detect_in};
+use crate::export::{ExportWords, export_in};
 use crate::fault::WordsFault;
-use crate::options::options_in;
-use crate::program::names_launch;
-use cnb_world::Text;
+use crate::launch::{LaunchWords, launch_at, launch_in, process_at};
+use crate::options::{Given, options_in};
+use crate::program::{is_launcher, process_type, root_of};
+use crate::rebase::{RebaseWords, rebase_in};
+use crate::restore::{RestoreWords, restore_in};
+use crate::show::{ShowWords, show_in};
+use crate::unpack::{UnpackWords, unpack_in};
+use cnb_world::{Path, Text};
 use std::alloc::Global;
 
 /// What the words ask for.
 #[derive(Drop)]
 pub enum Asked {
     Detect(DetectWords),
+    Analyze(AnalyzeWords),
+    Restore(RestoreWords),
+    Build(BuildWords),
+    Export(ExportWords),
+    Create(CreateWords),
+    Rebase(RebaseWords),
+    Base(BaseWords),
+    Unpack(UnpackWords),
+    Show(ShowWords),
+    Launch(LaunchWords),
 }
 
-fn detect_asked(alloc: Global, words: &[String]) -> Result<Asked, WordsFault>
-    ensures words { AsksAs result (detect_asked (map string_bytes words.now)) }
-    ensures limits { IfOk result AsksWithinLimits }
-{
-    let options = options_in(alloc, words)?;
-    let asked = detect_in(alloc, options.as_slice())?;
-    Ok(Asked::Detect(asked))
-}
-
-fn is_other_command(name: &str) -> bool
-    ensures { result ≡ list_any (bytes_eq name.now) other_commands }
-{
-    name == "analyze"
-        || name == "restore"
-        || name == "build"
-        || name == "export"
-        || name == "create"
-        || name == "rebase"
-        || name == "base"
-        || name == "unpack"
-        || name == "show"
-        || name == "drill"
-        || name == "launch"
+impl Asked {
+    /// The folders of the caches that the command uses, in the order of the words.
+    pub fn caches(&self) -> &[Path]
+        ensures { result.now ≡ caches_asked self.now }
+    {
+        match self {
+            Asked::Restore(options) => options.caches.as_slice(),
+            Asked::Export(options) => options.caches.as_slice(),
+            Asked::Create(options) => options.caches.as_slice(),
+            _ => &[],
+        }
+    }
 }
 
 fn not_built(alloc: Global, command: &str) -> WordsFault
@@ -51,17 +59,110 @@ fn not_built(alloc: Global, command: &str) -> WordsFault
     }
 }
 
+// A command that builds an image, or is a part of that.
+fn phase_asked(alloc: Global, command: &str, options: &[Given]) -> Result<Asked, WordsFault>
+    ensures words { AsksAs result (phase_asked command.now options.now) }
+    ensures limits { IfOk result AsksWithinLimits }
+{
+    if command == "detect" {
+        detect_in(alloc, options).map(Asked::Detect)
+    } else if command == "analyze" {
+        analyze_in(alloc, options).map(Asked::Analyze)
+    } else if command == "restore" {
+        restore_in(alloc, options).map(Asked::Restore)
+    } else if command == "build" {
+        build_in(alloc, options).map(Asked::Build)
+    } else if command == "export" {
+        export_in(alloc, options).map(Asked::Export)
+    } else {
+        image_asked(alloc, command, options)
+    }
+}
+
+// A command on whole images.
+fn image_asked(alloc: Global, command: &str, options: &[Given]) -> Result<Asked, WordsFault>
+    ensures words { AsksAs result (image_asked command.now options.now) }
+    ensures limits { IfOk result AsksWithinLimits }
+{
+    if command == "create" {
+        create_in(alloc, options).map(Asked::Create)
+    } else if command == "rebase" {
+        rebase_in(alloc, options).map(Asked::Rebase)
+    } else if command == "base" {
+        base_in(alloc, options).map(Asked::Base)
+    } else if command == "unpack" {
+        unpack_in(alloc, options).map(Asked::Unpack)
+    } else if command == "show" {
+        show_in(alloc, options).map(Asked::Show)
+    } else {
+        Err(WordsFault::Usage)
+    }
+}
+
+fn options_asked(alloc: Global, command: &str, words: &[String]) -> Result<Asked, WordsFault>
+    ensures words { AsksAs result (options_asked command.now (map string_bytes words.now)) }
+    ensures limits { IfOk result AsksWithinLimits }
+{
+    let options = options_in(alloc, words)?;
+    phase_asked(alloc, command, options.as_slice())
+}
+
+/// What a command and the words behind it ask for.
+pub(crate) fn asked_of(alloc: Global, command: &str, words: &[String]) -> Result<Asked, WordsFault>
+    ensures words { AsksAs result (asked_of command.now (map string_bytes words.now)) }
+    ensures limits { IfOk result AsksWithinLimits }
+{
+    if command == "launch" {
+        launch_in(alloc, words).map(Asked::Launch)
+    } else {
+        options_asked(alloc, command, words)
+    }
+}
+
 fn command_asked(alloc: Global, words: &[String]) -> Result<Asked, WordsFault>
     ensures words { AsksAs result (command_asked (map string_bytes words.now)) }
     ensures limits { IfOk result AsksWithinLimits }
 {
     match words {
-        [command, options @ ..] if command.as_str() == "detect" => detect_asked(alloc, options),
-        [command, ..] if is_other_command(command.as_str()) => Err(not_built(
-            alloc,
-            command.as_str(),
-        )),
-        _ => Err(WordsFault::Usage),
+        [command, ..] if command.as_str() == "drill" => Err(not_built(alloc, command.as_str())),
+        [command, words @ ..] => asked_of(alloc, command.as_str(), words),
+        [] => Err(WordsFault::Usage),
+    }
+}
+
+// The launcher, started by its own name.
+fn launcher_asked(alloc: Global, root: &str, words: &[String]) -> Result<Asked, WordsFault>
+    ensures words { AsksAs result (launcher_asked root.now (map string_bytes words.now)) }
+    ensures limits { IfOk result AsksWithinLimits }
+{
+    launch_at(alloc, root, words).map(Asked::Launch)
+}
+
+// The launcher, started by the name of a process.
+fn process_asked(
+    alloc: Global,
+    root: &str,
+    kind: &str,
+    words: &[String],
+) -> Result<Asked, WordsFault>
+    requires { IsTrue (is_process_type kind.now) }
+    ensures words { AsksAs result (process_asked root.now kind.now (map string_bytes words.now)) }
+    ensures limits { IfOk result AsksWithinLimits }
+{
+    process_at(alloc, root, kind, words).map(Asked::Launch)
+}
+
+// What the program's own word and those behind it ask for.
+fn program_asked(alloc: Global, program: &str, words: &[String]) -> Result<Asked, WordsFault>
+    ensures words { AsksAs result (asked_by (program.now ∷ map string_bytes words.now)) }
+    ensures limits { IfOk result AsksWithinLimits }
+{
+    if is_launcher(program) {
+        return launcher_asked(alloc, root_of(program), words);
+    }
+    match process_type(program) {
+        Some(kind) => process_asked(alloc, root_of(program), kind, words),
+        None => command_asked(alloc, words),
     }
 }
 
@@ -71,8 +172,7 @@ pub fn read_words(alloc: Global, words: &[String]) -> Result<Asked, WordsFault>
     ensures limits { IfOk result AsksWithinLimits }
 {
     match words {
-        [program, ..] if names_launch(program.as_str()) => Err(not_built(alloc, "launch")),
-        [_, rest @ ..] => command_asked(alloc, rest),
+        [program, words @ ..] => program_asked(alloc, program.as_str(), words),
         [] => Err(WordsFault::Usage),
     }
 }

@@ -1,0 +1,58 @@
+// The options of `export`.
+ghost use Rattle.std.specs.Prelude.{IfOk};
+ghost use Rattle.cnb_words.specs.Faults.{Reads};
+ghost use Rattle.cnb_words.specs.Export.{export_in, KeepsLimits};
+
+use crate::fault::WordsFault;
+use crate::option_values::{caches_of, image_of, path_of};
+use crate::options::{Given, check_names};
+use cnb_toml::ImageName;
+use cnb_world::{List, Path};
+use std::alloc::Global;
+
+/// What the words of `export` ask for (platform.md, "exporter").
+#[derive(Drop)]
+pub struct ExportWords {
+    pub store: Path,
+    pub work: Path,
+    pub layers: Path,
+    pub app: Path,
+    pub launcher: Path,
+    pub image: ImageName,
+    pub caches: List<Path>,
+}
+
+/// What the options of `export` ask for.
+pub(crate) fn export_in(alloc: Global, options: &[Given]) -> Result<ExportWords, WordsFault>
+    ensures reads { Reads result (export_in options.now) }
+    ensures limits { IfOk result KeepsLimits }
+{
+    check_names(
+        options,
+        &[
+            "--store",
+            "--work",
+            "--layers",
+            "--app",
+            "--launcher",
+            "--image",
+        ],
+        &["--cache"],
+    )?;
+    let store = path_of(alloc, options, "--store")?;
+    let work = path_of(alloc, options, "--work")?;
+    let layers = path_of(alloc, options, "--layers")?;
+    let app = path_of(alloc, options, "--app")?;
+    let launcher = path_of(alloc, options, "--launcher")?;
+    let image = image_of(alloc, options, "--image")?;
+    let caches = caches_of(alloc, options)?;
+    Ok(ExportWords {
+        store,
+        work,
+        layers,
+        app,
+        launcher,
+        image,
+        caches,
+    })
+}
