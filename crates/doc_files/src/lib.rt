@@ -4,8 +4,6 @@
 mod document;
 mod fault;
 mod folder;
-#[cfg(test)]
-mod tests;
 
 pub use document::read_document;
 pub use fault::{ReadFault, blamed, read_at};
