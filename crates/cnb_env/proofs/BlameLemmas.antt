@@ -1,5 +1,5 @@
 -- Which path a fault of layers names.
-use Rattle.std.proofs.Common.{◌≡◌, ◌∙◌, subst, ℕ, ◌<◌, List, length, get_or, inl}
+use Rattle.std.proofs.Common.{◌≡◌, ◌∙◌, subst, ℕ, ◌<◌, List, length, get_or, inl, inr}
 use Rattle.std.specs.Prelude.{IsTrue}
 use Rattle.std.specs.List.{IsAmong}
 use Rattle.cnb_world.specs.Path.{is_part, joined}
@@ -7,17 +7,25 @@ use Rattle.doc_files.proofs.Blame.{blames_more, fails_among}
 use Rattle.doc_files.specs.Reading.{BlamesOne, FailsAt}
 use Rattle.doc_files.specs.declared.fault.ReadFault.{ReadFault}
 use Rattle.cnb_env.specs.Files.{IsOfFolder}
-use Rattle.cnb_env.specs.Layers.{IsOfLayer, IsOfLayers, IsOfSets}
+use Rattle.cnb_env.specs.Layers.{IsOfFolderIn, IsOfLayer, IsOfLayers, IsOfSets}
 
 -- a call on a folder of a layer failed
 pub folder_blamed : (layers : List (List ℕ)) (i : ℕ) (layer name path : List ℕ) → i < length layers → layer ≡ get_or layers i layer → IsTrue (is_part name) → path ≡ joined layer name → (fault : ReadFault) → FailsAt path fault → BlamesOne (IsOfLayers layers) fault
-folder_blamed layers i layer name path h e part place fault fails = fails_among path (IsOfLayers layers) (λ blamed b. (layer, (i, (h, e)), (name, part, inl (b ∙ place)))) fault fails
+folder_blamed layers i layer name path h e part place fault fails = fails_among path (IsOfLayers layers) (λ blamed b. (layer, (i, (h, e)), inl (name, part, inl (b ∙ place)))) fault fails
 
 pub folder_same : (folder other : List ℕ) → folder ≡ other → (fault : ReadFault) → BlamesOne (IsOfFolder folder) fault → BlamesOne (IsOfFolder other) fault
 folder_same folder other same fault h = subst (λ f. BlamesOne (IsOfFolder f) fault) same h
 
-pub in_layer : (layer name folder : List ℕ) → IsTrue (is_part name) → folder ≡ joined layer name → (fault : ReadFault) → BlamesOne (IsOfFolder folder) fault → BlamesOne (IsOfLayer layer) fault
-in_layer layer name folder part place fault h = blames_more (IsOfFolder folder) (IsOfLayer layer) (λ path of. (name, part, subst (λ f. IsOfFolder f path) place of)) fault h
+-- in a folder of a given name
+pub in_folder : (folder name path : List ℕ) → IsTrue (is_part name) → path ≡ joined folder name → (fault : ReadFault) → BlamesOne (IsOfFolder path) fault → BlamesOne (IsOfFolderIn folder) fault
+in_folder folder name path part place fault h = blames_more (IsOfFolder path) (IsOfFolderIn folder) (λ blamed of. (name, part, subst (λ f. IsOfFolder f blamed) place of)) fault h
+
+pub in_layer : (layer : List ℕ) → (fault : ReadFault) → BlamesOne (IsOfFolderIn layer) fault → BlamesOne (IsOfLayer layer) fault
+in_layer layer fault h = blames_more (IsOfFolderIn layer) (IsOfLayer layer) (λ blamed of. inl of) fault h
+
+-- in a folder right in one of the layer
+pub deeper_in_layer : (layer name folder : List ℕ) → IsTrue (is_part name) → folder ≡ joined layer name → (fault : ReadFault) → BlamesOne (IsOfFolderIn folder) fault → BlamesOne (IsOfLayer layer) fault
+deeper_in_layer layer name folder part place fault h = blames_more (IsOfFolderIn folder) (IsOfLayer layer) (λ blamed of. inr (name, part, subst (λ f. IsOfFolderIn f blamed) place of)) fault h
 
 pub in_layers : (layers : List (List ℕ)) (i : ℕ) (layer : List ℕ) → i < length layers → layer ≡ get_or layers i layer → (fault : ReadFault) → BlamesOne (IsOfLayer layer) fault → BlamesOne (IsOfLayers layers) fault
 in_layers layers i layer h e fault k = blames_more (IsOfLayer layer) (IsOfLayers layers) (λ path of. (layer, (i, (h, e)), of)) fault k

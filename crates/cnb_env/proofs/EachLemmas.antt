@@ -35,6 +35,35 @@ module _ {X : Type 0} (step : Tree → X → List Variable → Applied) (one : X
       let Q : Applied → Type 0 = λ x. Reads {T = List Variable} (Err fault) x in
       subst Q (left_as files left) (refused_at is_free (step files one env) (each (step files) later) fault (subst P e read))
 
+alone : (r : Applied) → (r >>= λ env. Ok env) ≡ r
+alone (Ok env) = refl
+alone (Err fault) = refl
+
+-- the first of some steps, and what is read with those behind it
+module _ {X : Type 0} (step : Tree → X → List Variable → Applied) (one : X) (env : List Variable) where
+  pub one_alone : (whole : List X) → whole ≡ one ∷ [] → (o : Option Tree) (result : Applied) → IfSome o (λ files. Reads result (step files one env)) → IfSome o (λ files. Reads result (each (step files) whole env))
+  one_alone whole is None result read = tt
+  one_alone whole is (Some files) result read =
+      let Q : Applied → Type 0 = λ x. Reads result x in
+      subst Q (sym (ap (λ xs. each (step files) xs env) is ∙ alone (step files one env))) read
+
+  pub first_refused : (later : List X) (o : Option Tree) (fault : ReadFault) → IfSome o (λ files. Reads {T = List Variable} (Err fault) (step files one env))
+      → IfSome o (λ files. Reads {T = List Variable} (Err fault) (each (step files) (one ∷ later) env))
+  first_refused later None fault read = tt
+  first_refused later (Some files) fault read = refused_at is_free (step files one env) (each (step files) later) fault read
+
+  pub then_later : (later : List X) (o o1 : Option Tree) (made : List Variable) (result : Applied) → o1 ≡ o → IfSome o (λ files. step files one env ≡ Ok made) → IfSome o1 (λ files. Reads result (each (step files) later made))
+      → IfSome o (λ files. Reads result (each (step files) (one ∷ later) env))
+  then_later later None o1 made result e read more = tt
+  then_later later (Some files) o1 made result e read more =
+      let P : Option Tree → Type 0 = λ x. IfSome x (λ t. Reads result (each (step t) later made)) in
+      let Q : Applied → Type 0 = λ x. Reads result (x >>= each (step files) later) in
+      subst Q (sym read) (subst P e more)
+
+  pub then_refused : (later : List X) (o o1 : Option Tree) (made : List Variable) (fault : ReadFault) → o1 ≡ o → IfSome o (λ files. step files one env ≡ Ok made) → IfSome o1 (λ files. Reads {T = List Variable} (Err fault) (each (step files) later made))
+      → IfSome o (λ files. Reads {T = List Variable} (Err fault) (each (step files) (one ∷ later) env))
+  then_refused later o o1 made fault e read more = then_later later o o1 made (Err fault) e read more
+
 -- what a loop over all has done is the whole
 pub all_done : {X : Type 0} (o : Option Tree) (step : Tree → X → List Variable → Applied) (rest : List X) (env : List Variable) (all : Tree → Applied) → rest ≡ [] → Leaves o step rest env all → IfSome o (λ files. all files ≡ Ok env)
 all_done None step rest env all none left = tt

@@ -1,8 +1,12 @@
 pub mod Applied
+pub mod BaseLemmas
 pub mod BlameLemmas
 pub mod BuildLemmas
 pub mod EachLemmas
 pub mod FileLemmas
 pub mod FolderLemmas
+pub mod Lengths
 pub mod PathLemmas
+pub mod PlanNameLemmas
 pub mod Texts
+pub mod TypeLemmas

@@ -13,8 +13,10 @@ use Rattle.cnb_env.specs.Files.{IsOfFolder, folder_files_in, is_fit_folder}
 use Rattle.cnb_env.specs.Platform.{with_files}
 use Rattle.cnb_env.specs.declared.files.EnvFile.{EnvFile}
 use Rattle.cnb_env.specs.declared.names.Naming.TheVariants.{BeforeDot}
+use Rattle.cnb_env.specs.declared.layers.Phase.{Phase}
+use Rattle.cnb_env.specs.declared.layers.Phase.TheVariants.{Build, Launch}
 use Rattle.cnb_env.specs.declared.paths.When.{When}
-use Rattle.cnb_env.specs.declared.paths.When.TheVariants.{Build, Launch}
+use Rattle.cnb_env.specs.declared.paths.When.TheVariants as when
 
 -- ---- path folders
 
@@ -52,8 +54,12 @@ with_build_paths files layers env =
     (with_launch_paths files layers env)))
 
 abbrev pub with_paths : When → Tree → List (List ℕ) → List Variable → List Variable
-with_paths Launch files layers env = with_launch_paths files layers env
-with_paths Build files layers env = with_build_paths files layers env
+with_paths when.Launch files layers env = with_launch_paths files layers env
+with_paths when.Build files layers env = with_build_paths files layers env
+
+abbrev pub when_of : Phase → When
+when_of Build = when.Build
+when_of (Launch kind) = when.Launch
 
 -- ---- environment files
 
@@ -81,20 +87,28 @@ abbrev pub each : {X : Type 0} → (X → List Variable → Result (List Variabl
 each step [] env = Ok env
 each step (x ∷ xs) env = step x env >>= each step xs
 
-abbrev pub phase_folder : When → List ℕ
-phase_folder Build = codes "env.build"
-phase_folder Launch = codes "env.launch"
+-- the folder that is for a process type, where one is given
+abbrev pub type_folders : Option (List ℕ) → List ℕ → List (List ℕ)
+type_folders None folder = []
+type_folders (Some kind) folder = joined folder kind ∷ []
+
+abbrev pub launch_folders : Option (List ℕ) → List ℕ → List (List ℕ)
+launch_folders kind layer = joined layer (codes "env.launch") ∷ type_folders kind (joined layer (codes "env.launch"))
+
+abbrev pub phase_folders : Phase → List ℕ → List (List ℕ)
+phase_folders Build layer = joined layer (codes "env.build") ∷ []
+phase_folders (Launch kind) layer = launch_folders kind layer
 
 -- the folders of environment files in a layer, in the order in which they are applied
-abbrev pub env_folders : When → List ℕ → List (List ℕ)
-env_folders when layer = joined layer (codes "env") ∷ joined layer (phase_folder when) ∷ []
+abbrev pub env_folders : Phase → List ℕ → List (List ℕ)
+env_folders phase layer = joined layer (codes "env") ∷ phase_folders phase layer
 
-abbrev pub layer_applied : When → Tree → List ℕ → List Variable → Result (List Variable) ReadFault
-layer_applied when files layer env = each (folder_applied files) (env_folders when layer) env
+abbrev pub layer_applied : Phase → Tree → List ℕ → List Variable → Result (List Variable) ReadFault
+layer_applied phase files layer env = each (folder_applied files) (env_folders phase layer) env
 
 -- one buildpack's layers: their path folders, and then the environment files of each layer
-abbrev pub set_applied : When → Tree → List (List ℕ) → List Variable → Result (List Variable) ReadFault
-set_applied when files layers env = each (layer_applied when files) layers (with_paths when files layers env)
+abbrev pub set_applied : Phase → Tree → List (List ℕ) → List Variable → Result (List Variable) ReadFault
+set_applied phase files layers env = each (layer_applied phase files) layers (with_paths (when_of phase) files layers env)
 
 abbrev pub with_platform : Option (List EnvFile) → List Variable → List Variable
 with_platform None env = env
@@ -104,25 +118,46 @@ with_platform (Some files) env = with_files files env
 unfoldable pub build_env : List (List (List ℕ)) → Option (List EnvFile) → List Variable → Tree → Result (List Variable) ReadFault
 build_env sets platform base files = each (set_applied Build files) sets base >>= λ env. Ok (with_platform platform env)
 
+-- the environment of a launch: what the layers of each buildpack give, for a process of this type, if it has one
+unfoldable pub launch_env : List (List (List ℕ)) → Option (List ℕ) → List Variable → Tree → Result (List Variable) ReadFault
+launch_env sets kind base files = each (set_applied (Launch kind) files) sets base
+
 -- ---- what is read
 
 -- the paths of a buildpack's layers leave room
 abbrev pub AreShort : List (List ℕ) → Type 0
 AreShort layers = All IsShort layers
 
--- each folder of environment files is one, or isn't there
-abbrev pub is_fit_layer : When → Tree → List ℕ → Bool
-is_fit_layer when files layer = list_all (λ folder. is_fit_folder folder files) (env_folders when layer)
+-- a folder right in a layer does, too
+abbrev pub HasRoom : List ℕ → Type 0
+HasRoom folder = length folder ≤ 8448
 
-abbrev pub is_fit_set : When → Tree → List (List ℕ) → Bool
-is_fit_set when files layers = list_all (is_fit_layer when files) layers
+-- each of these is a folder, or isn't there
+abbrev pub are_fit_folders : Tree → List (List ℕ) → Bool
+are_fit_folders files folders = list_all (λ folder. is_fit_folder folder files) folders
 
-abbrev pub are_fit_sets : When → Tree → List (List (List ℕ)) → Bool
-are_fit_sets when files sets = list_all (is_fit_set when files) sets
+abbrev pub is_fit_layer : Phase → Tree → List ℕ → Bool
+is_fit_layer phase files layer = are_fit_folders files (env_folders phase layer)
 
--- what is read of a layer: the folders that stand in it by these names, and what stands right in them
+abbrev pub is_fit_set : Phase → Tree → List (List ℕ) → Bool
+is_fit_set phase files layers = list_all (is_fit_layer phase files) layers
+
+abbrev pub are_fit_sets : Phase → Tree → List (List (List ℕ)) → Bool
+are_fit_sets phase files sets = list_all (is_fit_set phase files) sets
+
+abbrev pub are_fit_build_sets : Tree → List (List (List ℕ)) → Bool
+are_fit_build_sets files sets = are_fit_sets Build files sets
+
+abbrev pub are_fit_launch_sets : Option (List ℕ) → Tree → List (List (List ℕ)) → Bool
+are_fit_launch_sets kind files sets = are_fit_sets (Launch kind) files sets
+
+-- what is read of a folder that stands right in another
+abbrev pub IsOfFolderIn : List ℕ → List ℕ → Type 0
+IsOfFolderIn folder path = (name : List ℕ) × IsTrue (is_part name) × IsOfFolder (joined folder name) path
+
+-- what is read of a layer: of the folders right in it, and of those right in such a folder
 abbrev pub IsOfLayer : List ℕ → List ℕ → Type 0
-IsOfLayer layer path = (name : List ℕ) × IsTrue (is_part name) × IsOfFolder (joined layer name) path
+IsOfLayer layer path = IsOfFolderIn layer path ⊎ ((name : List ℕ) × IsTrue (is_part name) × IsOfFolderIn (joined layer name) path)
 
 abbrev pub IsOfLayers : List (List ℕ) → List ℕ → Type 0
 IsOfLayers layers path = (layer : List ℕ) × IsAmong layers layer × IsOfLayer layer path

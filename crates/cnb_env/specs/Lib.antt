@@ -1,4 +1,6 @@
 pub mod Apply
+pub mod Base
+pub mod Buildpack
 pub mod Contents
 pub mod Files
 pub mod Layers

@@ -5,11 +5,10 @@ ghost use Rattle.std.specs.Option.{option_copied, option_map};
 ghost use Rattle.cnb_world.specs.Calls.{MayMisuse};
 ghost use Rattle.doc_files.specs.Counts.{CountsFiles};
 ghost use Rattle.doc_files.specs.Reading.{BlamesOne, Reads};
-ghost use Rattle.cnb_env.specs.Layers.{AreShort, IsOfSets, are_fit_sets, build_env, with_platform};
+ghost use Rattle.cnb_env.specs.Layers.{AreShort, IsOfSets, are_fit_build_sets, build_env, with_platform};
 
 use crate::files::EnvFile;
-use crate::layers::{LayerSet, apply_sets};
-use crate::paths::When;
+use crate::layers::{LayerSet, Phase, apply_sets};
 use crate::variables::platform;
 use cnb_world::{Env, List, Memory, World};
 use doc_files::ReadFault;
@@ -41,11 +40,11 @@ pub fn build_env<W: World>(
     ensures files { CountsFiles result (W.file_faults world.old) (W.file_faults world.new) }
     ensures children { W.child_faults world.new ≡ W.child_faults world.old }
     ensures runs { W.runs world.new ≡ W.runs world.old }
-    ensures misused { MayMisuse (option_map (λ tree. are_fit_sets When.Build tree done.now) (W.tree world.old))
+    ensures misused { MayMisuse (option_map (λ tree. are_fit_build_sets tree done.now) (W.tree world.old))
         (W.misused world.old) (W.misused world.new) }
 {
     let mut env = base.copy()?;
-    apply_sets(alloc, world, &mut env, done.as_slice(), When::Build)?;
+    apply_sets(alloc, world, &mut env, done.as_slice(), &Phase::Build)?;
     apply_platform(alloc, &mut env, files)?;
     Ok(env)
 }

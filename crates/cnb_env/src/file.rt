@@ -17,8 +17,12 @@ use std::alloc::Global;
 /// The longest environment file, in bytes.
 const LONGEST_FILE: u64 = 1048576;
 
-// The bytes of a regular file.
-fn contents<W: World>(alloc: Global, world: &mut W, path: &Path) -> Result<Option<Bytes>, ReadFault>
+/// The bytes of the regular file at a path, where one stands there.
+pub fn contents<W: World>(
+    alloc: Global,
+    world: &mut W,
+    path: &Path,
+) -> Result<Option<Bytes>, ReadFault>
     ensures reads { IfSome (W.tree world.old) (λ files. Reads result (contents_of (item_at files path.now))) }
     ensures blames { IfErr result (BlamesOnly path.now) }
     ensures tree { W.tree world.new ≡ W.tree world.old }

@@ -7,17 +7,36 @@ ghost use Rattle.cnb_world.specs.Path.{is_part, joined};
 ghost use Rattle.doc_files.specs.Counts.{CountsFiles};
 ghost use Rattle.doc_files.specs.Reading.{BlamesOne, Reads};
 ghost use Rattle.cnb_env.specs.Files.{IsOfFolder, is_fit_folder};
-ghost use Rattle.cnb_env.specs.Layers.{AreShort, IsOfLayer, IsOfLayers, IsOfSets, IsShort, are_fit_sets, is_fit_layer, is_fit_set};
-ghost use Rattle.cnb_env.specs.Layers.{each, folder_applied, giving, layer_applied, phase_folder, set_applied};
+ghost use Rattle.cnb_env.specs.Layers.{AreShort, HasRoom, IsOfFolderIn, IsOfLayer, IsOfLayers, IsOfSets, IsShort};
+ghost use Rattle.cnb_env.specs.Layers.{are_fit_folders, are_fit_sets, is_fit_layer, is_fit_set};
+ghost use Rattle.cnb_env.specs.Layers.{each, folder_applied, giving, layer_applied, set_applied};
+ghost use Rattle.cnb_env.specs.Layers.{launch_folders, phase_folders, type_folders, when_of};
 
 use crate::apply_folder::env_folder;
 use crate::paths::{When, put_paths};
+use cnb_toml::ProcType;
 use cnb_world::{Env, List, Path, World};
 use doc_files::ReadFault;
 use std::alloc::Global;
 
 /// The folders of one buildpack's layers, ascending by layer name.
 pub type LayerSet = List<Path>;
+
+/// What the files of layers are applied for: a build, or the launch of a process, of this type where it has one.
+#[derive(Drop)]
+pub enum Phase {
+    Build,
+    Launch(Option<ProcType>),
+}
+
+fn when_of(phase: &Phase) -> When
+    ensures { result ≡ when_of phase.now }
+{
+    match phase {
+        Phase::Build => When::Build,
+        Phase::Launch(_) => When::Launch,
+    }
+}
 
 // Applies the files of a folder of the layer.
 fn apply_folder<W: World>(
@@ -28,7 +47,7 @@ fn apply_folder<W: World>(
     name: &str,
 ) -> Result<(), ReadFault>
     requires part { IsTrue (is_part name.now) }
-    requires short { IsShort layer.now }
+    requires short { HasRoom layer.now }
     ensures reads { IfSome (W.tree world.old) (λ files.
         Reads (giving env.new result) (folder_applied files (joined layer.now name.now) env.old)) }
     ensures blames { IfErr result (BlamesOne (IsOfFolder (joined layer.now name.now))) }
@@ -44,14 +63,79 @@ fn apply_folder<W: World>(
     Ok(())
 }
 
-// The folder of a layer's files that are for a build or for a launch alone.
-fn phase_folder(when: When) -> &'static str
-    ensures name { result.now ≡ phase_folder when }
-    ensures part { IsTrue (is_part result.now) }
+// Applies the files of the folder that is for a process type, where one is given.
+#[tactic(auto, using(crate::proofs::TypeLemmas::type_is_part))]
+fn apply_type_folder<W: World>(
+    alloc: Global,
+    world: &mut W,
+    env: &mut Env,
+    folder: &Path,
+    kind: &Option<ProcType>,
+) -> Result<(), ReadFault>
+    requires { HasRoom folder.now }
+    ensures reads { IfSome (W.tree world.old) (λ files.
+        Reads (giving env.new result) (each (folder_applied files) (type_folders kind.now folder.now) env.old)) }
+    ensures blames { IfErr result (BlamesOne (IsOfFolderIn folder.now)) }
+    ensures tree { W.tree world.new ≡ W.tree world.old }
+    ensures files { CountsFiles result (W.file_faults world.old) (W.file_faults world.new) }
+    ensures children { W.child_faults world.new ≡ W.child_faults world.old }
+    ensures runs { W.runs world.new ≡ W.runs world.old }
+    ensures misused { MayMisuse (option_map (λ files. are_fit_folders files (type_folders kind.now folder.now))
+        (W.tree world.old)) (W.misused world.old) (W.misused world.new) }
 {
-    match when {
-        When::Build => "env.build",
-        When::Launch => "env.launch",
+    match kind {
+        Some(kind) => apply_folder(alloc, world, env, folder, kind.as_str()),
+        None => Ok(()),
+    }
+}
+
+// Applies the environment files of one layer that are for a launch alone.
+fn apply_launch_folders<W: World>(
+    alloc: Global,
+    world: &mut W,
+    env: &mut Env,
+    layer: &Path,
+    kind: &Option<ProcType>,
+) -> Result<(), ReadFault>
+    requires { IsShort layer.now }
+    ensures reads { IfSome (W.tree world.old) (λ files.
+        Reads (giving env.new result) (each (folder_applied files) (launch_folders kind.now layer.now) env.old)) }
+    ensures blames { IfErr result (BlamesOne (IsOfLayer layer.now)) }
+    ensures tree { W.tree world.new ≡ W.tree world.old }
+    ensures files { CountsFiles result (W.file_faults world.old) (W.file_faults world.new) }
+    ensures children { W.child_faults world.new ≡ W.child_faults world.old }
+    ensures runs { W.runs world.new ≡ W.runs world.old }
+    ensures misused { MayMisuse (option_map (λ files. are_fit_folders files (launch_folders kind.now layer.now))
+        (W.tree world.old)) (W.misused world.old) (W.misused world.new) }
+{
+    let folder = layer.below(alloc, "env.launch")?;
+    env_folder(alloc, world, env, &folder)?;
+    apply_type_folder(alloc, world, env, &folder, kind)?;
+    Ok(())
+}
+
+// Applies the environment files of one layer that are for this phase alone.
+fn apply_phase_folders<W: World>(
+    alloc: Global,
+    world: &mut W,
+    env: &mut Env,
+    layer: &Path,
+    phase: &Phase,
+) -> Result<(), ReadFault>
+    requires { IsShort layer.now }
+    ensures reads { IfSome (W.tree world.old) (λ files.
+        Reads (giving env.new result) (each (folder_applied files) (phase_folders phase.now layer.now) env.old)) }
+    ensures blames { IfErr result (BlamesOne (IsOfLayer layer.now)) }
+    ensures tree { W.tree world.new ≡ W.tree world.old }
+    ensures files { CountsFiles result (W.file_faults world.old) (W.file_faults world.new) }
+    ensures children { W.child_faults world.new ≡ W.child_faults world.old }
+    ensures runs { W.runs world.new ≡ W.runs world.old }
+    ensures misused { MayMisuse (option_map (λ files. are_fit_folders files (phase_folders phase.now layer.now))
+        (W.tree world.old)) (W.misused world.old) (W.misused world.new) }
+{
+    match phase {
+        Phase::Build => apply_folder(alloc, world, env, layer, "env.build"),
+        Phase::Launch(kind) => apply_launch_folders(alloc, world, env, layer, kind),
     }
 }
 
@@ -61,21 +145,21 @@ fn apply_layer<W: World>(
     world: &mut W,
     env: &mut Env,
     layer: &Path,
-    when: When,
+    phase: &Phase,
 ) -> Result<(), ReadFault>
     requires { IsShort layer.now }
     ensures reads { IfSome (W.tree world.old) (λ files.
-        Reads (giving env.new result) (layer_applied when files layer.now env.old)) }
+        Reads (giving env.new result) (layer_applied phase.now files layer.now env.old)) }
     ensures blames { IfErr result (BlamesOne (IsOfLayer layer.now)) }
     ensures tree { W.tree world.new ≡ W.tree world.old }
     ensures files { CountsFiles result (W.file_faults world.old) (W.file_faults world.new) }
     ensures children { W.child_faults world.new ≡ W.child_faults world.old }
     ensures runs { W.runs world.new ≡ W.runs world.old }
-    ensures misused { MayMisuse (option_map (λ files. is_fit_layer when files layer.now) (W.tree world.old))
+    ensures misused { MayMisuse (option_map (λ files. is_fit_layer phase.now files layer.now) (W.tree world.old))
         (W.misused world.old) (W.misused world.new) }
 {
     apply_folder(alloc, world, env, layer, "env")?;
-    apply_folder(alloc, world, env, layer, phase_folder(when))?;
+    apply_phase_folders(alloc, world, env, layer, phase)?;
     Ok(())
 }
 
@@ -85,21 +169,21 @@ fn apply_layers<W: World>(
     world: &mut W,
     env: &mut Env,
     layers: &[Path],
-    when: When,
+    phase: &Phase,
 ) -> Result<(), ReadFault>
     requires { All IsShort layers.now }
     ensures reads { IfSome (W.tree world.old) (λ files.
-        Reads (giving env.new result) (each (layer_applied when files) layers.now env.old)) }
+        Reads (giving env.new result) (each (layer_applied phase.now files) layers.now env.old)) }
     ensures blames { IfErr result (BlamesOne (IsOfLayers layers.now)) }
     ensures tree { W.tree world.new ≡ W.tree world.old }
     ensures files { CountsFiles result (W.file_faults world.old) (W.file_faults world.new) }
     ensures children { W.child_faults world.new ≡ W.child_faults world.old }
     ensures runs { W.runs world.new ≡ W.runs world.old }
-    ensures misused { MayMisuse (option_map (λ files. is_fit_set when files layers.now) (W.tree world.old))
+    ensures misused { MayMisuse (option_map (λ files. is_fit_set phase.now files layers.now) (W.tree world.old))
         (W.misused world.old) (W.misused world.new) }
 {
     for layer in layers {
-        apply_layer(alloc, world, env, layer, when)?;
+        apply_layer(alloc, world, env, layer, phase)?;
     }
     Ok(())
 }
@@ -110,22 +194,22 @@ fn apply_set<W: World>(
     world: &mut W,
     env: &mut Env,
     layers: &LayerSet,
-    when: When,
+    phase: &Phase,
 ) -> Result<(), ReadFault>
     requires { All IsShort layers.now }
     ensures reads { IfSome (W.tree world.old) (λ files.
-        Reads (giving env.new result) (set_applied when files layers.now env.old)) }
+        Reads (giving env.new result) (set_applied phase.now files layers.now env.old)) }
     ensures blames { IfErr result (BlamesOne (IsOfLayers layers.now)) }
     ensures tree { W.tree world.new ≡ W.tree world.old }
     ensures files { CountsFiles result (W.file_faults world.old) (W.file_faults world.new) }
     ensures children { W.child_faults world.new ≡ W.child_faults world.old }
     ensures runs { W.runs world.new ≡ W.runs world.old }
-    ensures misused { MayMisuse (option_map (λ files. is_fit_set when files layers.now) (W.tree world.old))
+    ensures misused { MayMisuse (option_map (λ files. is_fit_set phase.now files layers.now) (W.tree world.old))
         (W.misused world.old) (W.misused world.new) }
 {
     let layers = layers.as_slice();
-    put_paths(alloc, world, env, layers, when)?;
-    apply_layers(alloc, world, env, layers, when)?;
+    put_paths(alloc, world, env, layers, when_of(phase))?;
+    apply_layers(alloc, world, env, layers, phase)?;
     Ok(())
 }
 
@@ -135,21 +219,21 @@ pub(crate) fn apply_sets<W: World>(
     world: &mut W,
     env: &mut Env,
     sets: &[LayerSet],
-    when: When,
+    phase: &Phase,
 ) -> Result<(), ReadFault>
     requires { All AreShort sets.now }
     ensures reads { IfSome (W.tree world.old) (λ files.
-        Reads (giving env.new result) (each (set_applied when files) sets.now env.old)) }
+        Reads (giving env.new result) (each (set_applied phase.now files) sets.now env.old)) }
     ensures blames { IfErr result (BlamesOne (IsOfSets sets.now)) }
     ensures tree { W.tree world.new ≡ W.tree world.old }
     ensures files { CountsFiles result (W.file_faults world.old) (W.file_faults world.new) }
     ensures children { W.child_faults world.new ≡ W.child_faults world.old }
     ensures runs { W.runs world.new ≡ W.runs world.old }
-    ensures misused { MayMisuse (option_map (λ files. are_fit_sets when files sets.now) (W.tree world.old))
+    ensures misused { MayMisuse (option_map (λ files. are_fit_sets phase.now files sets.now) (W.tree world.old))
         (W.misused world.old) (W.misused world.new) }
 {
     for layers in sets {
-        apply_set(alloc, world, env, layers, when)?;
+        apply_set(alloc, world, env, layers, phase)?;
     }
     Ok(())
 }
