@@ -19,15 +19,15 @@ use Rattle.bp_docs.specs.BuildPlan.{most_bytes, provided_in, required_in, option
 
 -- ---- what a step that answered came from
 
-and_then_ok : {A B : Type 0} (r : Result A DocFault) (next : A → Result B DocFault) (b : B) → (r >>= next) ≡ Ok b → (a : A) × (r ≡ Ok a) × (next a ≡ Ok b)
+pub and_then_ok : {A B : Type 0} (r : Result A DocFault) (next : A → Result B DocFault) (b : B) → (r >>= next) ≡ Ok b → (a : A) × (r ≡ Ok a) × (next a ≡ Ok b)
 and_then_ok (Ok a) next b h = (a, refl, h)
 and_then_ok (Err fault) next b h = absurd (cc)
 
-under_was : {A : Type 0} (key : List ℕ) (r : Result A DocFault) (a : A) → under key r ≡ Ok a → r ≡ Ok a
+pub under_was : {A : Type 0} (key : List ℕ) (r : Result A DocFault) (a : A) → under key r ≡ Ok a → r ≡ Ok a
 under_was key (Ok b) a h = h
 under_was key (Err fault) a h = absurd (cc)
 
-ok_is : {A : Type 0} (a b : A) → (let r : Result A DocFault = Ok a in r) ≡ Ok b → a ≡ b
+pub ok_is : {A : Type 0} (a b : A) → (let r : Result A DocFault = Ok a in r) ≡ Ok b → a ≡ b
 ok_is a b h = cc
 
 allowed : {A : Type 0} (many : Bool) (fault : DocFault) (r : Result A DocFault) (a : A) → cond many (Err fault) r ≡ Ok a → r ≡ Ok a
@@ -55,7 +55,7 @@ member_all form p each key (Some value) list h =
     items_all form p each step.0 0 list step.2
 member_all form p each key None list h = subst (λ all. list_all p all ≡ true) (ok_is [] list h) refl
 
-tables_all : {A : Type 0} (form : TableForm A) (p : A → Bool) → ((table : Members) (a : A) → form table ≡ Ok a → p a ≡ true) → (key : List ℕ) (table : Members) (list : List A) → list_at (table_of form) key table ≡ Ok list → list_all p list ≡ true
+pub tables_all : {A : Type 0} (form : TableForm A) (p : A → Bool) → ((table : Members) (a : A) → form table ≡ Ok a → p a ≡ true) → (key : List ℕ) (table : Members) (list : List A) → list_at (table_of form) key table ≡ Ok list → list_all p list ≡ true
 tables_all form p each key table list h =
     member_all (table_of form) p (λ value a was. let step = and_then_ok (or_wrong (as_table value)) form a was in each step.0 a step.2) key (get_member key table) list h
 

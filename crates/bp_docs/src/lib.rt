@@ -10,6 +10,3 @@ pub use build_plan::{PlanOption, read_build_plan};
 pub use buildpack::read_buildpack;
 pub use descriptor::{Body, Descriptor, Entry, Group, Order};
 pub use order::read_order;
-
-#[cfg(test)]
-mod tests;
