@@ -88,7 +88,7 @@ impl WrittenRow for GroupRow {
 }
 
 /// The table of `group.toml`.
-struct Group;
+pub struct Group;
 
 impl TableForm for Group {
     type Value = GroupDoc;
