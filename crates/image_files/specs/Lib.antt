@@ -1,0 +1,5 @@
+pub mod Documents
+pub mod Faults
+pub mod Images
+pub mod Paths
+pub mod RunPart
