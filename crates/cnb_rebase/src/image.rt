@@ -1,0 +1,159 @@
+// An image on another run image.
+ghost use Rattle.std.specs.Prelude.{◌≡◌, ◌≤◌, ◌++◌, IfErr, IfOk, OnOk, length, map};
+ghost use Rattle.steps.specs.Causes.{IsAnswer, IsGivenCause};
+ghost use Rattle.image_docs.specs.Row.{is_run};
+ghost use Rattle.image_files.specs.RunPart.{run_row};
+ghost use Rattle.cnb_rebase.specs.Rebased.{last_run, on_run, rebased, rows_above, run_count, same_target, same_top, target_text};
+ghost use Rattle.cnb_rebase.specs.Refusals.{cause_of};
+
+use crate::refusal::RebaseFault;
+use cnb_toml::ImageName;
+use cnb_world::{List, Memory, Text};
+use image_docs::{Base, ImageDoc, Row, RunDoc};
+use image_files::{base_of, image_env, push_run_rows};
+use std::alloc::Global;
+use tree_canon::Digest;
+
+fn is_run(row: &Row) -> bool
+    ensures { result ≡ is_run row.now }
+{
+    row.role.as_str() == "run"
+}
+
+/// How many rows of its run image an image begins with.
+pub(crate) fn run_count(rows: &[Row]) -> usize
+    ensures count { result ≡ run_count rows.now }
+    ensures within { result ≤ length rows.now }
+{
+    let mut count = 0usize;
+    for row in rows {
+        if !is_run(row) {
+            return count;
+        }
+        count += 1;
+    }
+    count
+}
+
+// The tree of the last row of the run image; this one where there is none.
+fn last_run(other: Digest, rows: &[Row]) -> Digest
+    ensures { result ≡ last_run other rows.now }
+{
+    let mut last = other;
+    for row in rows {
+        if !is_run(row) {
+            return last;
+        }
+        last = row.digest;
+    }
+    last
+}
+
+// Refuses an image whose note of its topmost run row is of another one.
+fn check_top(image: &ImageDoc) -> Result<(), RebaseFault>
+    ensures { result ≡ same_top image.now }
+{
+    let recorded = image.base.top;
+    let found = last_run(recorded, image.rows.as_slice());
+    if recorded.same(&found) {
+        Ok(())
+    } else {
+        Err(RebaseFault::TopDiffers { recorded, found })
+    }
+}
+
+fn target_text(alloc: Global, os: &Text, arch: &Text) -> Result<Text, Memory>
+    ensures { IfOk result (λ text. text ≡ target_text os.now arch.now) }
+{
+    let mut text = String::from_str(alloc, os.as_str())?;
+    text.push_str("/")?;
+    text.push_str(arch.as_str())?;
+    Ok(Text::from_string(text))
+}
+
+// Refuses a run image for another target.
+fn check_target(alloc: Global, base: &Base, run: &RunDoc) -> Result<(), RebaseFault>
+    ensures answer { IsAnswer cause_of result (same_target base.now run.now) }
+    ensures cause { IfErr result (λ fault. IsGivenCause (cause_of fault)) }
+{
+    if base.os.as_str() == run.os.as_str() && base.arch.as_str() == run.arch.as_str() {
+        return Ok(());
+    }
+    let old = target_text(alloc, &base.os, &base.arch)?;
+    let new = target_text(alloc, &run.os, &run.arch)?;
+    Err(RebaseFault::TargetDiffers { old, new })
+}
+
+fn push_rows(alloc: Global, rows: &mut List<Row>, more: &[Row]) -> Result<(), Memory>
+    ensures { OnOk result (rows.new ≡ rows.old ++ more.now) }
+{
+    for row in more {
+        let place = row.place.copy(alloc)?;
+        rows.push(Row {
+            role: row.role,
+            place,
+            digest: row.digest,
+        })?;
+    }
+    Ok(())
+}
+
+// The rows of a run image, and above them those of an image that aren't of its run image.
+fn rows_on(alloc: Global, run: &[Digest], old: &[Row]) -> Result<List<Row>, Memory>
+    ensures { IfOk result (λ rows. rows ≡ map run_row run.now ++ rows_above old.now) }
+{
+    let mut rows = List::new(alloc);
+    push_run_rows(alloc, &mut rows, run)?;
+    push_rows(alloc, &mut rows, &old[run_count(old)..])?;
+    Ok(rows)
+}
+
+// The image with the rows, the environment and the note of another run image.
+fn on_run(
+    alloc: Global,
+    image: ImageDoc,
+    name: &ImageName,
+    run: &RunDoc,
+) -> Result<ImageDoc, Memory>
+    ensures { IfOk result (λ rebased. rebased ≡ on_run image name.now run.now) }
+{
+    let ImageDoc {
+        base: old_base,
+        rows: old_rows,
+        env: _old_env,
+        entrypoint,
+        labels,
+        launch,
+        layers,
+        store,
+    } = image;
+    let base = base_of(alloc, name, run, old_base.top)?;
+    let rows = rows_on(alloc, run.rows.as_slice(), old_rows.as_slice())?;
+    let env = image_env(alloc, &run.env)?;
+    Ok(ImageDoc {
+        base,
+        rows,
+        env,
+        entrypoint,
+        labels,
+        launch,
+        layers,
+        store,
+    })
+}
+
+/// The image on another run image of the same target; refused where the image isn't what its note says.
+pub(crate) fn rebased(
+    alloc: Global,
+    image: ImageDoc,
+    name: &ImageName,
+    run: &RunDoc,
+) -> Result<ImageDoc, RebaseFault>
+    ensures answer { IsAnswer cause_of result (rebased image name.now run.now) }
+    ensures cause { IfErr result (λ fault. IsGivenCause (cause_of fault)) }
+{
+    check_top(&image)?;
+    check_target(alloc, &image.base, run)?;
+    let rebased = on_run(alloc, image, name, run)?;
+    Ok(rebased)
+}
