@@ -1,0 +1,10 @@
+pub mod Choosing
+pub mod Commands
+pub mod Documents
+pub mod Exec
+pub mod Faults
+pub mod Folders
+pub mod Output
+pub mod Places
+pub mod Planning
+pub mod Unpacking

@@ -1,0 +1,73 @@
+// The document that says how an image is launched.
+ghost use Rattle.std.specs.Prelude.{◌≡◌, ◌≤◌, ℕ, IfOk, IfSome, IsTrue, length};
+ghost use Rattle.std.specs.List.{list_all};
+ghost use Rattle.std.specs.Option.{option_map};
+ghost use Rattle.cnb_world.specs.Calls.{MayMisuse};
+ghost use Rattle.cnb_world.specs.Tree.{is_file_or_absent, item_at};
+ghost use Rattle.cnb_toml.specs.Process.{is_process};
+ghost use Rattle.doc_files.specs.Counts.{CountsFiles};
+ghost use Rattle.doc_files.specs.Reading.{Reads};
+ghost use Rattle.cnb_launch.specs.Documents.{is_fit_doc, launch_doc_at, launch_doc_of, launch_doc_under};
+
+use crate::places::launch_doc_path;
+use cnb_toml::DocFault;
+use cnb_world::{Bytes, Path, World};
+use doc_files::{ReadFault, read_at, read_document};
+use image_docs::{LaunchDoc, read_launch_doc};
+use std::alloc::Global;
+
+#[tactic(auto, using(crate::proofs::SoundLemmas::answer_is_sound))]
+fn launch_doc_of(alloc: Global, path: &Path, found: Option<Bytes>) -> Result<LaunchDoc, ReadFault>
+    ensures reads { Reads result (launch_doc_of path.now found) }
+    ensures sound { IfOk result (λ doc. IsTrue (list_all is_process doc.processes)) }
+    ensures files { (n : ℕ) → CountsFiles result n n }
+{
+    match found {
+        Some(bytes) => {
+            let doc = read_at(alloc, path, read_launch_doc(alloc, bytes.as_slice()))?;
+            Ok(doc)
+        }
+        None => Err(ReadFault::Document(path.copy(alloc)?, DocFault::Absent)),
+    }
+}
+
+#[tactic(auto, using(doc_files::proofs::Counts::counts_after))]
+fn launch_doc_at<W: World>(
+    alloc: Global,
+    world: &mut W,
+    path: &Path,
+) -> Result<LaunchDoc, ReadFault>
+    ensures reads { IfSome (W.tree world.old) (λ files. Reads result (launch_doc_at path.now files)) }
+    ensures sound { IfOk result (λ doc. IsTrue (list_all is_process doc.processes)) }
+    ensures tree { W.tree world.new ≡ W.tree world.old }
+    ensures files { CountsFiles result (W.file_faults world.old) (W.file_faults world.new) }
+    ensures children { W.child_faults world.new ≡ W.child_faults world.old }
+    ensures runs { W.runs world.new ≡ W.runs world.old }
+    ensures misused { MayMisuse (option_map (λ files. is_file_or_absent (item_at files path.now)) (W.tree world.old))
+        (W.misused world.old) (W.misused world.new) }
+{
+    let found = read_document(alloc, world, path)?;
+    let doc = launch_doc_of(alloc, path, found)?;
+    Ok(doc)
+}
+
+/// Reads the document of the image under a root, which must be there.
+pub(crate) fn read_launch<W: World>(
+    alloc: Global,
+    world: &mut W,
+    root: &Path,
+) -> Result<LaunchDoc, ReadFault>
+    requires { length root.now ≤ 4096 }
+    ensures reads { IfSome (W.tree world.old) (λ files. Reads result (launch_doc_under root.now files)) }
+    ensures sound { IfOk result (λ doc. IsTrue (list_all is_process doc.processes)) }
+    ensures tree { W.tree world.new ≡ W.tree world.old }
+    ensures files { CountsFiles result (W.file_faults world.old) (W.file_faults world.new) }
+    ensures children { W.child_faults world.new ≡ W.child_faults world.old }
+    ensures runs { W.runs world.new ≡ W.runs world.old }
+    ensures misused { MayMisuse (option_map (is_fit_doc root.now) (W.tree world.old))
+        (W.misused world.old) (W.misused world.new) }
+{
+    let path = launch_doc_path(alloc, root)?;
+    let doc = launch_doc_at(alloc, world, &path)?;
+    Ok(doc)
+}

@@ -1,0 +1,161 @@
+// An image laid out under a root.
+ghost use Rattle.std.specs.Prelude.{◌≡◌, ◌≢◌, ◌≤◌, IfErr, IfOk, IfSome, IsTrue, Ok, length};
+ghost use Rattle.std.specs.List.{list_all};
+ghost use Rattle.cnb_world.specs.Tree.{item_at, kind_of};
+ghost use Rattle.cnb_env.specs.Files.{is_absent};
+ghost use Rattle.doc_files.specs.Counts as reading;
+ghost use Rattle.doc_files.specs.Reading.{Reads};
+ghost use Rattle.image_docs.specs.Row.{is_row};
+ghost use Rattle.steps.specs.Causes.{ChildFailed, CountsFiles, IsAnswer, IsGivenCause};
+ghost use Rattle.steps.specs.Each.{for_each};
+ghost use Rattle.steps.specs.Outside.{seen};
+ghost use Rattle.cnb_launch.specs.Faults.{cause_of};
+ghost use Rattle.cnb_launch.specs.Unpacking.{ReadsAs, file_tree, if_absent, launch_doc_place, lays_launch, lays_row, unpacks};
+
+use crate::fault::LaunchFault;
+use cnb_toml::ImageName;
+use cnb_world::{Bytes, Kind, LimitKind, Memory, Path, PathFault, World};
+use doc_files::{ReadFault, blamed};
+use image_docs::{LaunchDoc, Row, write_launch_doc};
+use image_files::read_image;
+use std::alloc::Global;
+use tree_canon::{Node, Tree, TreeFault};
+use tree_store::{StoreFault, lay_stored, write_tree};
+
+fn is_absent<W: World>(alloc: Global, world: &mut W, path: &Path) -> Result<bool, ReadFault>
+    ensures reads { IfSome (W.tree world.old) (λ files. Reads result
+        (Ok (is_absent (kind_of (item_at files path.now))))) }
+    ensures tree { W.tree world.new ≡ W.tree world.old }
+    ensures files { reading.CountsFiles result (W.file_faults world.old) (W.file_faults world.new) }
+    ensures children { W.child_faults world.new ≡ W.child_faults world.old }
+    ensures runs { W.runs world.new ≡ W.runs world.old }
+    ensures misused { W.misused world.new ≡ W.misused world.old }
+{
+    match world.kind(path) {
+        Ok(Kind::Absent) => Ok(true),
+        Ok(_) => Ok(false),
+        Err(fault) => Err(blamed(alloc, path, fault)),
+    }
+}
+
+fn if_absent(alloc: Global, root: &Path, absent: bool) -> Result<(), LaunchFault>
+    ensures answer { IsAnswer cause_of result (if_absent root.now absent) }
+    ensures given { IfErr result (λ fault. IsGivenCause (cause_of fault)) }
+{
+    if absent {
+        Ok(())
+    } else {
+        Err(LaunchFault::Exists(root.copy(alloc)?))
+    }
+}
+
+// Lays the tree of a row at its place.
+#[tactic(auto, using(crate::proofs::UnpackLemmas::row_short))]
+fn lay_row<W: World>(
+    alloc: Global,
+    world: &mut W,
+    store: &Path,
+    root: &Path,
+    row: &Row,
+) -> Result<(), LaunchFault>
+    requires store { length store.now ≤ 4096 }
+    requires root { length root.now ≤ 4096 }
+    requires row { IsTrue (is_row row.now) }
+    ensures step { lays_row store.now root.now row.now tt (seen W.World world.old) result (seen W.World world.new) }
+    ensures files { CountsFiles cause_of result (W.file_faults world.old) (W.file_faults world.new) }
+    ensures children { W.child_faults world.new ≡ W.child_faults world.old }
+    ensures cause { IfErr result (λ fault. cause_of fault ≢ ChildFailed) }
+{
+    lay_stored(alloc, world, store, &row.digest, root, &row.place)?;
+    Ok(())
+}
+
+// Lays the trees of these rows, in order.
+fn lay_rows<W: World>(
+    alloc: Global,
+    world: &mut W,
+    store: &Path,
+    root: &Path,
+    rows: &[Row],
+) -> Result<(), LaunchFault>
+    requires store { length store.now ≤ 4096 }
+    requires root { length root.now ≤ 4096 }
+    requires rows { IsTrue (list_all is_row rows.now) }
+    ensures step { for_each (lays_row store.now root.now) rows.now tt
+        (seen W.World world.old) result (seen W.World world.new) }
+    ensures files { CountsFiles cause_of result (W.file_faults world.old) (W.file_faults world.new) }
+    ensures children { W.child_faults world.new ≡ W.child_faults world.old }
+    ensures cause { IfErr result (λ fault. cause_of fault ≢ ChildFailed) }
+{
+    for row in rows {
+        lay_row(alloc, world, store, root, row)?;
+    }
+    Ok(())
+}
+
+fn file_tree(bytes: Bytes) -> Result<Tree, LaunchFault>
+    ensures answer { IsAnswer cause_of result (file_tree bytes) }
+    ensures given { IfErr result (λ fault. IsGivenCause (cause_of fault)) }
+{
+    match Tree::new(Node::File { exec: false, bytes }) {
+        Ok(tree) => Ok(tree),
+        Err(TreeFault::Unfit) => Err(LaunchFault::Store(StoreFault::Limit(LimitKind::Tree))),
+        Err(TreeFault::Memory) => Err(LaunchFault::Memory),
+    }
+}
+
+fn launch_doc_place(alloc: Global) -> Result<Path, Memory>
+    ensures path { IfOk result (λ path. path ≡ launch_doc_place) }
+    ensures short { IfOk result (λ path. length path ≤ 8192) }
+{
+    match Path::parse(alloc, "/layers/config/metadata.toml") {
+        Ok(path) => Ok(path),
+        Err(PathFault::Memory) => Err(Memory),
+        Err(PathFault::NotPath) => unreachable!(),
+    }
+}
+
+// Lays the document of the launch as a file that isn't executable.
+fn lay_launch<W: World>(
+    alloc: Global,
+    world: &mut W,
+    root: &Path,
+    launch: &LaunchDoc,
+) -> Result<(), LaunchFault>
+    requires { length root.now ≤ 4096 }
+    ensures step { lays_launch root.now launch.now (seen W.World world.old) result (seen W.World world.new) }
+    ensures files { CountsFiles cause_of result (W.file_faults world.old) (W.file_faults world.new) }
+    ensures children { W.child_faults world.new ≡ W.child_faults world.old }
+    ensures cause { IfErr result (λ fault. cause_of fault ≢ ChildFailed) }
+{
+    let place = launch_doc_place(alloc)?;
+    let bytes = write_launch_doc(alloc, launch)?;
+    let tree = file_tree(bytes)?;
+    write_tree(alloc, world, root, &place, &tree)?;
+    Ok(())
+}
+
+/// Lays an image out under a root, where nothing stands: the trees of its rows in their order, and then the document that
+/// says how it is launched. A folder merges into a folder, a file or a link takes the place of whatever stands, and no link
+/// is followed. After a refusal a part may stand under the root.
+pub fn unpack<W: World>(
+    alloc: Global,
+    world: &mut W,
+    store: &Path,
+    image: &ImageName,
+    root: &Path,
+) -> Result<(), LaunchFault>
+    requires store { length store.now ≤ 4096 }
+    requires root { length root.now ≤ 4096 }
+    ensures steps { unpacks store.now image.now root.now (seen W.World world.old) result (seen W.World world.new) }
+    ensures files { CountsFiles cause_of result (W.file_faults world.old) (W.file_faults world.new) }
+    ensures children { W.child_faults world.new ≡ W.child_faults world.old }
+    ensures cause { IfErr result (λ fault. cause_of fault ≢ ChildFailed) }
+{
+    let doc = read_image(alloc, world, store, image)?;
+    let absent = is_absent(alloc, world, root)?;
+    if_absent(alloc, root, absent)?;
+    lay_rows(alloc, world, store, root, doc.rows.as_slice())?;
+    lay_launch(alloc, world, root, &doc.launch)?;
+    Ok(())
+}
