@@ -17,6 +17,3 @@ pub use catalog::{Catalog, CatalogFault};
 pub use member::{Group, Member};
 pub use order::{OrderFault, check};
 pub use walk::Walk;
-
-#[cfg(test)]
-mod tests;
