@@ -4,8 +4,6 @@
 mod catalog;
 mod descriptor;
 mod order;
-#[cfg(test)]
-mod tests;
 mod version;
 
 pub use catalog::read_catalog;
