@@ -107,7 +107,7 @@ module _ {S : Type 0} (runs : S → List Ran) (jobs : List DetectJob) where
   shares_jobs_of [] (n ∷ ns) ls r = absurd r
   shares_jobs_of (o ∷ os) [] ls r = absurd r
   shares_jobs_of (o ∷ os) (n ∷ ns) [] r = absurd r
-  shares_jobs_of (o ∷ os) (n ∷ ns) (l ∷ ls) r = (record { more = rows jobs l; grown = r.0; ran = jobs-rows jobs l }, shares_jobs_of os ns ls r.2)
+  shares_jobs_of (o ∷ os) (n ∷ ns) (l ∷ ls) r = (record { more = rows jobs l; grown = r.0; ran = jobs-rows jobs l }, r.1.0, shares_jobs_of os ns ls r.2)
 
   ascending_of : (ls : List (List Answer)) → AllDealt (length jobs) ls → AllByRecursion IsAscending (map numbers ls)
   ascending_of [] d = tt
@@ -127,7 +127,7 @@ module _ {S : Type 0} (runs : S → List Ran) (jobs : List DetectJob) where
   -- spawners that did nothing
   none_ran : (os : List S) → SharesJobs runs jobs os os (map (λ _. []) os)
   none_ran [] = tt
-  none_ran (o ∷ os) = (record { more = []; grown = sym (append-nil (runs o)); ran = refl }, none_ran os)
+  none_ran (o ∷ os) = (record { more = []; grown = sym (append-nil (runs o)); ran = refl }, tt, none_ran os)
 
   none_twice : (os : List S) → NoneTwice (map (λ _. []) os)
   none_twice [] x = omega arith

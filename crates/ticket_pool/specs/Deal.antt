@@ -53,10 +53,11 @@ pub record RanJobs {S : Type 0} (runs : S → List Ran)
   pub grown : runs new ≡ runs old ++ more
   pub ran : map (λ row. row.job) more ≡ at_numbers jobs numbers
 
+-- each spawner's new runs are of the jobs of a list of numbers, which ascend
 abbrev pub SharesJobs : {S : Type 0} → (S → List Ran) → List DetectJob → List S → List S → List (List ℕ) → Type 0
 SharesJobs runs jobs [] [] [] = Unit {0}
 SharesJobs runs jobs (old ∷ olds) (new ∷ news) (numbers ∷ deal) =
-    RanJobs runs jobs old new numbers × SharesJobs runs jobs olds news deal
+    RanJobs runs jobs old new numbers × IsAscending numbers × SharesJobs runs jobs olds news deal
 SharesJobs runs jobs _ _ _ = ⊥
 
 -- some of the jobs were run, each at most once

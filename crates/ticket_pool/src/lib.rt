@@ -9,8 +9,6 @@ mod pool;
 mod room;
 mod round;
 mod rule;
-#[cfg(test)]
-mod tests;
 mod tickets;
 mod worker;
 
