@@ -8,10 +8,10 @@ mod plan;
 mod pruning;
 mod resolution;
 mod rows;
-#[cfg(test)]
-mod tests;
 mod trial;
 
+pub use plan::ascending;
+pub use pruning::has_name;
 pub use resolution::{PlanFault, resolve};
 pub use rows::{Alive, AliveRow, Resolved, Trial, TrialRow};
 pub use trial::kept;

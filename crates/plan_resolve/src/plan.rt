@@ -37,7 +37,7 @@ fn all_names<'a>(alloc: Global, kept: &[KeptRow<'a>]) -> Result<Vec<&'a str>, Me
 }
 
 /// Names in ascending order, each once.
-fn ascending<'a>(alloc: Global, mut names: Vec<&'a str>) -> Result<Vec<&'a str>, Memory>
+pub fn ascending<'a>(alloc: Global, mut names: Vec<&'a str>) -> Result<Vec<&'a str>, Memory>
     ensures { IfOk result (λ sorted. map (λ name. name.now) sorted.items ≡ ascending (map (λ name. name.now) names.entry.items)) }
 {
     let mut set = BTreeSet::new(alloc);
