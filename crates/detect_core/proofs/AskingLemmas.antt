@@ -1,21 +1,30 @@
--- What asking one more member adds.
-use Rattle.std.proofs.Common.{◌≡◌, ◌∙◌, refl, sym, ap, subst, ℕ, ◌+◌, ◌<◌, suc, Bool, true, false, cond, List, [], ◌∷◌, ◌++◌, map, take, drop, get_or, length, append_assoc, append-nil}
-use Rattle.std.specs.Prelude.{◌||◌, if◌then◌else◌, Option, Some, None, Result, Ok, Err, OnErr}
+-- What asking the members of a group comes to.
+use Rattle.std.proofs.Common.{◌≡◌, ◌∙◌, refl, sym, ap, subst, arith, ℕ, ◌+◌, ◌<◌, ◌≤◌, suc, Bool, true, false, cond, List, [], ◌∷◌, ◌++◌, map, take, drop, get_or, length, append_assoc, append-nil}
+use Rattle.std.specs.Prelude.{◌||◌, if◌then◌else◌, Some, Result, Ok, Err, OnErr}
 use Rattle.std.specs.List.{list_any}
 use Rattle.std.specs.Option.{is_some}
-use Rattle.std.proofs.lemmas.List.{map-append, take_more, take-append-drop}
+use Rattle.std.proofs.lemmas.List.{length-map, map-append, take_more}
 use Rattle.std.proofs.Math.Seq.{drop-cons}
+use Rattle.std.proofs.lemmas.List.Folds.{list_any-append}
+use Rattle.std.proofs.lemmas.Bool.{cases_Bool}
+use Rattle.std.proofs.Common.{inl, inr}
 use Rattle.cnb_world.specs.declared.child.DetectJob.{DetectJob}
+use Rattle.cnb_world.specs.declared.child.Probed.{Probed}
 use Rattle.cnb_world.specs.Runs.{Ran}
 use Rattle.cnb_toml.specs.declared.names.Key.{Key}
 use Rattle.cnb_toml.specs.Keys.{same_key}
 use Rattle.order_expand.specs.declared.member.Member.{Member}
+use Rattle.steps.specs.Asking.{AskedBy, AreSome}
+use Rattle.steps.specs.Outside.{SpawnerSeen}
+use Rattle.ticket_pool.specs.Deal.{recorded}
 use Rattle.detect_core.specs.declared.chosen.DetectFrame.{DetectFrame}
 use Rattle.detect_core.specs.declared.chosen.Verdict.{Verdict}
-use Rattle.detect_core.specs.Answer.{answer_of, build_plan, key_of}
+use Rattle.detect_core.specs.Answer.{answer_of, build_plan}
 use Rattle.detect_core.specs.Job.{detect_job}
 use Rattle.detect_core.specs.Kept.{AnswerRow, row_of, keys_of, kept_for, has_key}
-use Rattle.detect_core.specs.Asking.{unmet, Runs, RunsAll, RunsFirst}
+use Rattle.detect_core.specs.Asking.{unmet, rows_of, AreNew, RunsAll, RunsSome}
+use Rattle.detect_core.proofs.MemberLemmas.{keys_of_members}
+use Rattle.detect_core.proofs.OrderLemmas.{all_some}
 
 pub map-map : {X Y Z : Type 0} (g : Y → Z) (f : X → Y) (xs : List X) → map g (map f xs) ≡ map (λ x. g (f x)) xs
 map-map g f [] = refl
@@ -32,81 +41,6 @@ pub on_err : {A E : Type 0} {P : Type 0} (r : Result A E) → P → OnErr r P
 on_err (Ok value) p = tt
 on_err (Err fault) p = p
 
--- nobody was asked
-pub ran_none : (frame : DetectFrame) (runs : List Ran) (kept : List AnswerRow) → RunsAll frame [] runs runs kept kept
-ran_none frame runs kept = record {
-  run = record { ran = []; runs = sym (append-nil runs); jobs = refl };
-  kept = sym (append-nil kept);
-}
-
-pub first_none : (frame : DetectFrame) (members : List Member) (runs : List Ran) → RunsFirst frame members runs runs
-first_none frame members runs = record {
-  first = [];
-  later = members;
-  parts = refl;
-  run = record { ran = []; runs = sym (append-nil runs); jobs = refl };
-}
-
-pub met_before : (frame : DetectFrame) (member : Member) (runs : List Ran) (kept : List AnswerRow) → has_key kept member.key ≡ true →
-    RunsAll frame (if list_any (same_key member.key) (keys_of kept) then [] else member ∷ []) runs runs kept kept
-met_before frame member runs kept met =
-    subst (λ (b : Bool). RunsAll frame (if b then [] else member ∷ []) runs runs kept kept) (sym (any-keys kept member.key ∙ met)) (ran_none frame runs kept)
-
--- the child of one member ran
-ran_one : (frame : DetectFrame) (member : Member) (runs runs' : List Ran) (ran : Ran) →
-    ran.job ≡ detect_job frame member → runs' ≡ runs ++ ran ∷ [] → Runs frame (member ∷ []) runs runs'
-ran_one frame member runs runs' ran job grown = record { ran = ran ∷ []; runs = grown; jobs = ap (λ (j : DetectJob). j ∷ []) job }
-
-pub asked_one : (frame : DetectFrame) (member : Member) (runs runs' : List Ran) (kept kept' : List AnswerRow) (ran : Ran) (key : Key) (verdict : Verdict) →
-    has_key kept member.key ≡ false → ran.job ≡ detect_job frame member → key ≡ member.key → verdict ≡ answer_of build_plan ran.probed →
-    runs' ≡ runs ++ ran ∷ [] → kept' ≡ kept ++ (key, verdict) ∷ [] →
-    RunsAll frame (if list_any (same_key member.key) (keys_of kept) then [] else member ∷ []) runs runs' kept kept'
-unfolding ran_one
-asked_one frame member runs runs' kept kept' ran key verdict new job is_key said grown added =
-    let same : key ≡ key_of ran = is_key ∙ (λ i. let j = sym job i in record { id = j.id; version = j.version }) in
-    subst (λ (b : Bool). RunsAll frame (if b then [] else member ∷ []) runs runs' kept kept') (sym (any-keys kept member.key ∙ new)) record {
-      run = ran_one frame member runs runs' ran job grown;
-      kept = added ∙ (λ i. kept ++ (same i, said i) ∷ []);
-    }
-
-pub asked_first : (frame : DetectFrame) (member : Member) (runs runs' : List Ran) (kept : List AnswerRow) (ran : Ran) →
-    has_key kept member.key ≡ false → ran.job ≡ detect_job frame member → runs' ≡ runs ++ ran ∷ [] →
-    RunsFirst frame (if list_any (same_key member.key) (keys_of kept) then [] else member ∷ []) runs runs'
-asked_first frame member runs runs' kept ran new job grown =
-    subst (λ (b : Bool). RunsFirst frame (if b then [] else member ∷ []) runs runs') (sym (any-keys kept member.key ∙ new)) record {
-      first = member ∷ [];
-      later = [];
-      parts = refl;
-      run = ran_one frame member runs runs' ran job grown;
-    }
-
--- one run behind another
-pub runs_more : (frame : DetectFrame) (front behind : List Member) (r0 r1 r2 : List Ran) →
-    Runs frame front r0 r1 → Runs frame behind r1 r2 → Runs frame (front ++ behind) r0 r2
-runs_more frame front behind r0 r1 r2 a b = record {
-  ran = a.ran ++ b.ran;
-  runs = b.runs ∙ (ap (λ rs. rs ++ b.ran) a.runs ∙ append_assoc r0 a.ran b.ran);
-  jobs = map-append (λ (r : Ran). r.job) a.ran b.ran ∙ ((λ i. a.jobs i ++ b.jobs i) ∙ sym (map-append (detect_job frame) front behind));
-}
-
-pub runs_all_more : (frame : DetectFrame) (front behind : List Member) (r0 r1 r2 : List Ran) (k0 k1 k2 : List AnswerRow) →
-    RunsAll frame front r0 r1 k0 k1 → RunsAll frame behind r1 r2 k1 k2 → RunsAll frame (front ++ behind) r0 r2 k0 k2
-unfolding runs_more
-runs_all_more frame front behind r0 r1 r2 k0 k1 k2 a b = record {
-  run = runs_more frame front behind r0 r1 r2 a.run b.run;
-  kept = b.kept ∙ (ap (λ ks. ks ++ map row_of b.run.ran) a.kept ∙ (append_assoc k0 (map row_of a.run.ran) (map row_of b.run.ran)
-      ∙ ap (λ rows. k0 ++ rows) (sym (map-append row_of a.run.ran b.run.ran))));
-}
-
-pub runs_first_more : (frame : DetectFrame) (front behind : List Member) (r0 r1 r2 : List Ran) →
-    Runs frame front r0 r1 → RunsFirst frame behind r1 r2 → RunsFirst frame (front ++ behind) r0 r2
-runs_first_more frame front behind r0 r1 r2 a b = record {
-  first = front ++ b.first;
-  later = b.later;
-  parts = ap (λ ms. front ++ ms) b.parts ∙ sym (append_assoc front b.first b.later);
-  run = runs_more frame front b.first r0 r1 r2 a b.run;
-}
-
 -- the keys of the rows that running some members adds are those of the members
 pub ran_keys : (frame : DetectFrame) (members : List Member) (ran : List Ran) →
     map (λ r. r.job) ran ≡ map (detect_job frame) members → keys_of (map row_of ran) ≡ map (λ m. m.key) members
@@ -114,11 +48,6 @@ ran_keys frame members ran jobs =
     let key = λ (j : DetectJob). let k : Key = record { id = j.id; version = j.version } in k in
     map-map (λ (row : AnswerRow). row.0) row_of ran ∙ (sym (map-map key (λ (r : Ran). r.job) ran)
     ∙ (ap (map key) jobs ∙ map-map key (detect_job frame) members))
-
-pub kept_keys : (frame : DetectFrame) (members : List Member) (r0 r1 : List Ran) (k0 k1 : List AnswerRow) →
-    RunsAll frame members r0 r1 k0 k1 → keys_of k1 ≡ keys_of k0 ++ map (λ m. m.key) members
-kept_keys frame members r0 r1 k0 k1 a =
-    ap keys_of a.kept ∙ (map-append (λ (row : AnswerRow). row.0) k0 (map row_of a.run.ran) ∙ ap (λ ks. keys_of k0 ++ ks) (ran_keys frame members a.run.ran a.run.jobs))
 
 -- the members that are met in two lists, one behind the other
 pub unmet-append : (keys : List Key) (xs ys : List Member) → unmet keys (xs ++ ys) ≡ unmet keys xs ++ unmet (keys ++ map (λ m. m.key) (unmet keys xs)) ys
@@ -134,50 +63,103 @@ unmet-append keys (x ∷ xs) ys =
           ∙ ap (λ ks. unmet more xs ++ unmet ks ys) (append_assoc keys (x.key ∷ []) (keys_of_members (unmet more xs))))
     ]
 
--- one more member of a group
-pub asked_more : (frame : DetectFrame) (group : List Member) (at : ℕ) (member : Member) (r0 r1 r2 : List Ran) (k0 k1 k2 : List AnswerRow) →
-    at < length group → member ≡ get_or group at member →
-    RunsAll frame (unmet (keys_of k0) (take at group)) r0 r1 k0 k1 → RunsAll frame (unmet (keys_of k1) (member ∷ [])) r1 r2 k1 k2 →
-    RunsAll frame (unmet (keys_of k0) (take (at + 1) group)) r0 r2 k0 k2
-asked_more frame group at member r0 r1 r2 k0 k1 k2 lt is a b =
+-- one more member of a group: what it adds
+pub more_unmet : {X : Type 0} (f : Member → X) (known : List Key) (group : List Member) (at : ℕ) (member : Member) (met : List Key) (xs more : List X)
+    → at < length group → member ≡ get_or group at member → met ≡ keys_of_members (unmet known (take at group)) → xs ≡ map f (unmet known (take at group))
+    → more ≡ xs ++ map f (unmet (known ++ met) (member ∷ [])) → more ≡ map f (unmet known (take (at + 1) group))
+more_unmet f known group at member met xs more lt is keys so_far added =
     let front = take at group in
     let one_more : take (at + 1) group ≡ front ++ member ∷ [] = take_more group at member lt ∙ ap (λ m. front ++ m ∷ []) (sym is) in
-    let parts : unmet (keys_of k0) front ++ unmet (keys_of k1) (member ∷ []) ≡ unmet (keys_of k0) (take (at + 1) group) =
-    ap (λ ks. unmet (keys_of k0) front ++ unmet ks (member ∷ [])) (kept_keys frame (unmet (keys_of k0) front) r0 r1 k0 k1 a)
-    ∙ (sym (unmet-append (keys_of k0) front (member ∷ [])) ∙ ap (unmet (keys_of k0)) (sym one_more)) in
-    subst (λ (ms : List Member). RunsAll frame ms r0 r2 k0 k2) parts
-    (runs_all_more frame (unmet (keys_of k0) front) (unmet (keys_of k1) (member ∷ [])) r0 r1 r2 k0 k1 k2 a b)
+    let parts : unmet known (take (at + 1) group) ≡ unmet known front ++ unmet (known ++ met) (member ∷ []) =
+    ap (unmet known) one_more ∙ (unmet-append known front (member ∷ []) ∙ ap (λ ks. unmet known front ++ unmet (known ++ ks) (member ∷ [])) (sym keys)) in
+    added ∙ (ap (λ ys. ys ++ map f (unmet (known ++ met) (member ∷ []))) so_far
+    ∙ sym (ap (map f) parts ∙ map-append f (unmet known front) (unmet (known ++ met) (member ∷ []))))
 
--- the first of some members are the first of more
-pub runs_first_wider : (frame : DetectFrame) (front behind : List Member) (r0 r1 : List Ran) → RunsFirst frame front r0 r1 → RunsFirst frame (front ++ behind) r0 r1
-runs_first_wider frame front behind r0 r1 a = record {
-  first = a.first;
-  later = a.later ++ behind;
-  run = a.run;
-  parts = ap (λ ms. ms ++ behind) a.parts ∙ append_assoc a.first a.later behind;
+-- a member that was met adds nothing, and another itself
+pub adds_none : {X : Type 0} (f : Member → X) (known : List Key) (member : Member) (xs : List X) → list_any (same_key member.key) known ≡ true → xs ≡ xs ++ map f (unmet known (member ∷ []))
+adds_none f known member xs met = sym (ap (λ (b : Bool). xs ++ map f (if b then [] else member ∷ [])) met ∙ append-nil xs)
+
+pub adds_one : {X : Type 0} (f : Member → X) (known : List Key) (member : Member) (xs more : List X) (x : X) → list_any (same_key member.key) known ≡ false → x ≡ f member → more ≡ xs ++ x ∷ []
+    → more ≡ xs ++ map f (unmet known (member ∷ []))
+adds_one f known member xs more x new is added = added ∙ (ap (λ y. xs ++ y ∷ []) is ∙ sym (ap (λ (b : Bool). xs ++ map f (if b then [] else member ∷ [])) new))
+
+-- whether a buildpack has an answer or is among some
+pub met_by : (kept : List AnswerRow) (keys : List Key) (key : Key) → list_any (same_key key) (keys_of kept ++ keys) ≡ (has_key kept key || list_any (same_key key) keys)
+met_by kept keys key = list_any-append (same_key key) (keys_of kept) keys ∙ ap (λ b. b || list_any (same_key key) keys) (any-keys kept key)
+
+-- the members that are met first are new
+pub unmet_new : (known : List Key) (members : List Member) → AreNew known (keys_of_members (unmet known members))
+unmet_new known [] = tt
+unmet_new known (m ∷ members) = elim (cases_Bool (list_any (same_key m.key) known)) [
+  | inl e ↦ subst (λ (b : Bool). AreNew known (keys_of_members (if b then unmet known members else m ∷ unmet (known ++ m.key ∷ []) members))) (sym e) (unmet_new known members)
+  | inr e ↦ subst (λ (b : Bool). AreNew known (keys_of_members (if b then unmet known members else m ∷ unmet (known ++ m.key ∷ []) members))) (sym e) (e, unmet_new (known ++ m.key ∷ []) members)
+]
+
+-- what is kept of the members' children
+rows-recorded : (frame : DetectFrame) (members : List Member) (answers : List Probed) → rows_of (keys_of_members members) answers ≡ map row_of (recorded (map (detect_job frame) members) answers)
+rows-recorded frame [] answers = refl
+rows-recorded frame (m ∷ members) [] = refl
+rows-recorded frame (m ∷ members) (probed ∷ answers) = ap (λ rows. (m.key, answer_of build_plan probed) ∷ rows) (rows-recorded frame members answers)
+
+jobs-recorded : (jobs : List DetectJob) (answers : List Probed) → length answers ≡ length jobs → map (λ ran. ran.job) (recorded jobs answers) ≡ jobs
+jobs-recorded [] answers long = refl
+jobs-recorded (job ∷ jobs) [] long = absurd (omega arith)
+jobs-recorded (job ∷ jobs) (probed ∷ answers) long = ap (λ l. job ∷ l) (jobs-recorded jobs answers (omega arith))
+
+-- the group's children ran, and their answers are kept
+pub ran_all : (frame : DetectFrame) (members : List Member) (jobs : List DetectJob) (keys : List Key) (answers : List Probed) (old new : List SpawnerSeen) (k0 k1 : List AnswerRow)
+    → jobs ≡ map (detect_job frame) members → keys ≡ keys_of_members members → length answers ≡ length jobs → AskedBy (recorded jobs answers) old new → k1 ≡ k0 ++ rows_of keys answers → RunsAll frame members old new k0 k1
+ran_all frame members jobs keys answers old new k0 k1 are_jobs are_keys long asked kept = record {
+  answers = recorded jobs answers;
+  asked = asked;
+  jobs = jobs-recorded jobs answers long ∙ are_jobs;
+  kept = kept ∙ ap (λ rows. k0 ++ rows) (ap (λ ks. rows_of ks answers) are_keys ∙ (rows-recorded frame members answers ∙ ap (λ js. map row_of (recorded js answers)) (sym are_jobs)));
 }
 
--- the members of a group behind those that were met
-pub first_of_more : (frame : DetectFrame) (front group : List Member) (r0 r1 r2 : List Ran) (k0 k1 : List AnswerRow) →
-    RunsAll frame (unmet (keys_of k0) front) r0 r1 k0 k1 → RunsFirst frame (unmet (keys_of k1) group) r1 r2 → RunsFirst frame (unmet (keys_of k0) (front ++ group)) r0 r2
-first_of_more frame front group r0 r1 r2 k0 k1 a b =
-    let parts : unmet (keys_of k0) front ++ unmet (keys_of k1) group ≡ unmet (keys_of k0) (front ++ group) =
-    ap (λ ks. unmet (keys_of k0) front ++ unmet ks group) (kept_keys frame (unmet (keys_of k0) front) r0 r1 k0 k1 a)
-    ∙ sym (unmet-append (keys_of k0) front group) in
-    subst (λ (ms : List Member). RunsFirst frame ms r0 r2) parts
-    (runs_first_more frame (unmet (keys_of k0) front) (unmet (keys_of k1) group) r0 r1 r2 a.run b)
+-- they ran, but memory for keeping them ran out
+pub ran_unkept : (jobs : List DetectJob) (answers : List Probed) (old new : List SpawnerSeen) → length answers ≡ length jobs → AskedBy (recorded jobs answers) old new → RunsSome jobs old new
+ran_unkept jobs answers old new long asked = record {
+  answers = recorded jobs answers;
+  asked = asked;
+  some = subst (λ js. AreSome js jobs) (sym (jobs-recorded jobs answers long)) (all_some jobs);
+}
 
--- a failure at a member of a group
-pub stopped_at : (frame : DetectFrame) (group : List Member) (at : ℕ) (member : Member) (r0 r1 r2 : List Ran) (k0 k1 : List AnswerRow) →
-    at < length group → member ≡ get_or group at member →
-    RunsAll frame (unmet (keys_of k0) (take at group)) r0 r1 k0 k1 → RunsFirst frame (unmet (keys_of k1) (member ∷ [])) r1 r2 →
-    RunsFirst frame (unmet (keys_of k0) group) r0 r2
-stopped_at frame group at member r0 r1 r2 k0 k1 lt is a b =
-    let rest = drop (suc at) group in
-    let whole : take at group ++ member ∷ rest ≡ group =
-    ap (λ ms. take at group ++ ms) (ap (λ m. m ∷ rest) is ∙ sym (drop-cons group at member lt)) ∙ take-append-drop at group in
-    let wider : RunsFirst frame (unmet (keys_of k1) (member ∷ rest)) r1 r2 =
-    subst (λ (ms : List Member). RunsFirst frame ms r1 r2) (sym (unmet-append (keys_of k1) (member ∷ []) rest))
-    (runs_first_wider frame (unmet (keys_of k1) (member ∷ [])) (unmet (keys_of k1 ++ map (λ (m : Member). m.key) (unmet (keys_of k1) (member ∷ []))) rest) r1 r2 b) in
-    subst (λ (ms : List Member). RunsFirst frame (unmet (keys_of k0) ms) r0 r2) whole
-    (first_of_more frame (take at group) (member ∷ rest) r0 r1 r2 k0 k1 a wider)
+rest_is : {X : Type 0} (xs : List X) (i : ℕ) (x : X) → i < length xs → x ≡ get_or xs i x → drop i xs ≡ x ∷ drop (i + 1) xs
+rest_is xs i x lt is =
+    let next : suc i ≡ i + 1 = omega arith in
+    drop-cons xs i x lt ∙ ap (λ y. y ∷ drop (suc i) xs) (sym is) ∙ ap (λ n. x ∷ drop n xs) next
+
+-- one more answer is kept
+pub kept_more : (keys : List Key) (answers : List Probed) (at : ℕ) (k0 kept more : List AnswerRow) (key own : Key) (probed : Probed) (verdict : Verdict)
+    → at < length keys → at < length answers → key ≡ get_or keys at key → probed ≡ get_or answers at probed → own ≡ key → verdict ≡ answer_of build_plan probed
+    → kept ++ rows_of (drop at keys) (drop at answers) ≡ k0 ++ rows_of keys answers → more ≡ kept ++ (own, verdict) ∷ []
+    → more ++ rows_of (drop (at + 1) keys) (drop (at + 1) answers) ≡ k0 ++ rows_of keys answers
+kept_more keys answers at k0 kept more key own probed verdict lt lt' is is' copied said so_far added =
+    let row : AnswerRow = (key, answer_of build_plan probed) in
+    let rest = rows_of (drop (at + 1) keys) (drop (at + 1) answers) in
+    let here : rows_of (drop at keys) (drop at answers) ≡ row ∷ rest = λ i. rows_of (rest_is keys at key lt is i) (rest_is answers at probed lt' is' i) in
+    ap (λ l. l ++ rest) (added ∙ (λ i. kept ++ (copied i, said i) ∷ [])) ∙ (append_assoc kept (row ∷ []) rest ∙ (ap (λ l. kept ++ l) (sym here) ∙ so_far))
+
+-- the next buildpack is new, and those behind it stay so
+pub next_new : (keys : List Key) (at : ℕ) (kept : List AnswerRow) (key own : Key) → at < length keys → key ≡ get_or keys at key → own ≡ key → AreNew (keys_of kept) (drop at keys)
+    → (has_key kept own ≡ false) × ((verdict : Verdict) (more : List AnswerRow) → more ≡ kept ++ (own, verdict) ∷ [] → AreNew (keys_of more) (drop (at + 1) keys))
+next_new keys at kept key own lt is copied new =
+    let all : AreNew (keys_of kept) (key ∷ drop (at + 1) keys) = subst (AreNew (keys_of kept)) (rest_is keys at key lt is) new in (
+      ap (has_key kept) copied ∙ (sym (any-keys kept key) ∙ all.0),
+      λ verdict more added.
+          subst (λ ks. AreNew ks (drop (at + 1) keys))
+          (sym (ap keys_of added ∙ (map-append (λ (row : AnswerRow). row.0) kept ((own, verdict) ∷ []) ∙ ap (λ k. keys_of kept ++ k ∷ []) copied))) all.1,
+    )
+
+-- no more are met than there are members
+unmet-long : (known : List Key) (members : List Member) → length (unmet known members) ≤ length members
+unmet-long known [] = omega arith
+unmet-long known (m ∷ members) = elim (list_any (same_key m.key) known) as (λ b. length (if b then unmet known members else m ∷ unmet (known ++ m.key ∷ []) members) ≤ length (m ∷ members)) [
+  | true ↦ let r = unmet-long known members in omega arith
+  | false ↦ let r = unmet-long (known ++ m.key ∷ []) members in omega arith
+]
+
+pub few_jobs : (frame : DetectFrame) (known : List Key) (members : List Member) (jobs : List DetectJob) → jobs ≡ map (detect_job frame) (unmet known members) → length members ≤ 256 → length jobs ≤ 256
+few_jobs frame known members jobs are few =
+    let long : length jobs ≡ length (unmet known members) = ap length are ∙ length-map (unmet known members) (detect_job frame) in
+    let le = unmet-long known members in omega arith

@@ -1,5 +1,5 @@
 -- A buildpack that was not asked has no answer.
-use Rattle.std.proofs.Common.{◌≡◌, refl, Bool, true, false, List, is_some, Option, Some, None}
+use Rattle.std.proofs.Common.{◌≡◌, refl, false, List, is_some, Option, Some, None}
 use Rattle.cnb_toml.specs.declared.names.Key.{Key}
 use Rattle.detect_core.specs.Kept.{AnswerRow, kept_for, has_key}
 

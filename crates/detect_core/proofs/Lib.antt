@@ -1,3 +1,7 @@
+pub mod AskedLemmas
+pub mod CountLemmas
+pub mod OrderLemmas
+pub mod PoolLemmas
 pub mod KeptLemmas
 pub mod AskingLemmas
 pub mod JudgingLemmas
@@ -9,8 +13,6 @@ pub mod LimitLemmas
 pub mod TurnLemmas
 pub mod SpawnerLemmas
 pub mod PathLemmas
-pub mod EnvironmentLemmas
-pub mod PlanNameLemmas
 pub mod ListLemmas
 pub mod OwnIdLemmas
 pub mod PlanDocLemmas

@@ -1,5 +1,5 @@
 -- How many listed groups a checked order has, and how long they are.
-use Rattle.std.proofs.Common.{◌≡◌, ◌∙◌, refl, sym, ap, subst, ℕ, suc, ◌+◌, ◌<◌, ◌≤◌, ◌^◌, Bool, true, false, not, List, [], ◌∷◌, ◌++◌, map, length, arith, length-append}
+use Rattle.std.proofs.Common.{◌≡◌, ◌∙◌, refl, sym, subst, ℕ, suc, ◌+◌, ◌<◌, ◌≤◌, ◌^◌, Bool, true, false, not, List, [], ◌∷◌, ◌++◌, map, length, arith, length-append}
 use Rattle.std.specs.Prelude.{◌&&◌, ◌||◌, nat_lt, if◌then◌else◌, Option, Some, None, IfSome, Ok, Err, IsOk}
 use Rattle.std.specs.List.{filter, filter_map, list_all, list_any, cons_option}
 use Rattle.std.proofs.lemmas.Bool.{false≢true, le-ltb, ltb-false}

@@ -1,19 +1,9 @@
--- The folders and files of a detect child are paths.
-use Rattle.std.proofs.Common.{ℕ, ◌+◌, ◌≤◌, nat_le, nat_lt, Bool, true, false, not, IsTrue, List, [], ◌∷◌, ◌++◌, length, arith, length-append}
-use Rattle.std.specs.Prelude.{◌&&◌, if◌then◌else◌}
-use Rattle.std.specs.List.{list_all}
-use Rattle.std.specs.Str.{bytes_eq}
+-- The folders of a frame are short.
+use Rattle.std.proofs.Common.{◌≤◌, nat_le, IsTrue, length}
+use Rattle.std.specs.Prelude.{◌&&◌}
 use Rattle.std.proofs.lemmas.Bool.{and_parts, leb-true}
-use Rattle.cnb_world.specs.Path.{is_part, is_part_byte, joined}
 use Rattle.detect_core.specs.declared.chosen.DetectFrame.{DetectFrame}
 use Rattle.detect_core.specs.Search.{is_short}
-
-joined_by : (root : Bool) (path name : List ℕ) → length ((if root then path else path ++ 47 ∷ []) ++ name) ≤ length path + 1 + length name
-joined_by true path name = omega (arith, length-append path name)
-joined_by false path name = omega (arith, length-append (path ++ 47 ∷ []) name, length-append path (47 ∷ []))
-
-pub length_joined : (path name : List ℕ) → length (joined path name) ≤ length path + 1 + length name
-length_joined path name = joined_by (bytes_eq path (47 ∷ [])) path name
 
 -- the folders of a frame that paths are made of
 pub record AreShort (frame : DetectFrame) : Type 0 where
@@ -26,18 +16,3 @@ short_folders frame h =
     let (second, platform) = and_parts (nat_le (length frame.buildpacks) 4096 && nat_le (length frame.app) 4096) (nat_le (length frame.platform) 4096) first in
     let (buildpacks, app) = and_parts (nat_le (length frame.buildpacks) 4096) (nat_le (length frame.app) 4096) second in
     record { buildpacks = leb-true (length frame.buildpacks) 4096 buildpacks; work = leb-true (length frame.work) 4096 work }
-
-part_within : (name : List ℕ) → IsTrue (is_part name) → length name ≤ 255
-part_within name h =
-    let (most, bytes) = and_parts (nat_lt 0 (length name) && nat_le (length name) 255 && not (bytes_eq name (46 ∷ [])) && not (bytes_eq name (46 ∷ 46 ∷ []))) (list_all is_part_byte name) h in
-    let (more, dots) = and_parts (nat_lt 0 (length name) && nat_le (length name) 255 && not (bytes_eq name (46 ∷ []))) (not (bytes_eq name (46 ∷ 46 ∷ []))) most in
-    let (sized, dot) = and_parts (nat_lt 0 (length name) && nat_le (length name) 255) (not (bytes_eq name (46 ∷ []))) more in
-    let (some, few) = and_parts (nat_lt 0 (length name)) (nat_le (length name) 255) sized in
-    leb-true (length name) 255 few
-
--- the folder of a buildpack's version is short too
-pub folder_within : (buildpacks folder version : List ℕ) → length buildpacks ≤ 4096 → IsTrue (is_part folder) → IsTrue (is_part version) → length (joined (joined buildpacks folder) version) ≤ 8192
-folder_within buildpacks folder version short a b =
-    let first : length folder ≤ 255 = part_within folder a in
-    let second : length version ≤ 255 = part_within version b in
-    omega (arith, length_joined buildpacks folder, length_joined (joined buildpacks folder) version)

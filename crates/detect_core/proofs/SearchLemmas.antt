@@ -1,12 +1,15 @@
 -- How a search goes on, group by group.
-use Rattle.std.proofs.Common.{◌≡◌, ◌∙◌, ◌⊎◌, inl, inr, refl, sym, ap, subst, ℕ, ◌+◌, Bool, false, List, [], ◌∷◌, ◌++◌, map, take, length, append_assoc, append-nil, zero-add}
+use Rattle.std.proofs.Common.{◌≡◌, ◌∙◌, inl, inr, refl, sym, ap, subst, ℕ, ◌+◌, Bool, false, List, [], ◌∷◌, ◌++◌, map, length, append_assoc, append-nil, zero-add}
 use Rattle.std.specs.Prelude.{◌||◌, Option, Some, None, Result, Ok, Err}
 use Rattle.std.specs.List.{list_any}
 use Rattle.std.proofs.lemmas.Grind.{flat_map-append}
 use Rattle.std.proofs.lemmas.List.{map-append}
 use Rattle.std.proofs.lemmas.List.Folds.{list_any-append}
-use Rattle.std.proofs.Math.Seq.{take-append_seam}
 use Rattle.cnb_world.specs.Runs.{Ran}
+use Rattle.cnb_world.specs.declared.child.DetectJob.{DetectJob}
+use Rattle.steps.specs.Asking.{AskedBy, AreSome}
+use Rattle.steps.specs.Outside.{SpawnerSeen}
+use Rattle.steps.proofs.AskingLemmas.{asked_none}
 use Rattle.cnb_toml.specs.declared.names.Key.{Key}
 use Rattle.order_expand.specs.declared.member.Member.{Member}
 use Rattle.detect_core.specs.declared.chosen.Chosen.{Chosen}
@@ -16,59 +19,74 @@ use Rattle.detect_core.specs.declared.chosen.DetectFrame.{DetectFrame}
 use Rattle.detect_core.specs.declared.chosen.Verdict.{Verdict}
 use Rattle.detect_core.specs.declared.judging.Judged.{Judged}
 use Rattle.detect_core.specs.Answer.{is_error, key_of, recorded, answer_or_error, build_plan, says}
-use Rattle.detect_core.specs.Asking.{unmet, RunsAll, RunsFirst}
+use Rattle.detect_core.specs.Asking.{unmet, RunsAll, RunsSome}
 use Rattle.detect_core.specs.Detection.{Ending, TooManyTrials, FirstTrial, ending_of_rows, ending_at, first_ending, reached, members_of}
 use Rattle.detect_core.specs.Ending.{EndsGroup}
 use Rattle.detect_core.specs.Job.{detect_job}
 use Rattle.detect_core.specs.Judging.{IsJudged}
 use Rattle.detect_core.specs.Kept.{AnswerRow, row_of, keys_of, kept_says}
-use Rattle.detect_core.specs.Search.{DetectsAs, OnDetected, AsksSome}
+use Rattle.detect_core.specs.Search.{DetectsAs, OnDetected}
 use Rattle.detect_core.specs.Searching.{IsSearch}
+use Rattle.detect_core.proofs.AskedLemmas.{asked_then}
 use Rattle.detect_core.proofs.AskingLemmas.{map-map, ran_keys}
 use Rattle.detect_core.proofs.AnswerLemmas.{kept_says-says, agree_kept, any_same, first_ending_same, or_later, or_reached, first_ending-append, reached-append}
+use Rattle.detect_core.proofs.OrderLemmas.{all_some}
 use Rattle.detect_core.proofs.MemberLemmas.{any-distinct, keys_of_members, flat, members-push, members-front}
 
 -- A search that has asked and judged some groups, the first of which do not end it.
-pub record IsUnderWay (frame : DetectFrame) (asked done : List (List Member)) (runs_old runs_now : List Ran) (kept : List AnswerRow) (erred : Bool) : Type 0 where
+pub record IsUnderWay (frame : DetectFrame) (asked done : List (List Member)) (old now : List SpawnerSeen) (kept : List AnswerRow) (erred : Bool) : Type 0 where
   pub ran : List Ran
-  pub runs : runs_now ≡ runs_old ++ ran
+  pub by : AskedBy ran old now
   pub rows : kept ≡ map row_of ran
   pub jobs : map (λ r. r.job) ran ≡ map (detect_job frame) (members_of asked)
   pub none : first_ending (says build_plan ran) 0 done ≡ None
   pub errs : erred ≡ list_any (λ member. is_error (says build_plan ran member)) (flat asked)
 
-pub under_way_start : (frame : DetectFrame) (runs : List Ran) → IsUnderWay frame [] [] runs runs [] false
-under_way_start frame runs = record { ran = []; runs = sym (append-nil runs); rows = refl; jobs = refl; none = refl; errs = refl }
+pub under_way_start : (frame : DetectFrame) (old : List SpawnerSeen) → IsUnderWay frame [] [] old old [] false
+under_way_start frame old = record { ran = []; by = asked_none old; rows = refl; jobs = refl; none = refl; errs = refl }
 
--- a search that stopped for a failed spawner or for want of memory
-pub record IsStopped (frame : DetectFrame) (groups : List (List Member)) (runs_old runs_new : List Ran) : Type 0 where
-  pub ran : List Ran
-  pub runs : runs_new ≡ runs_old ++ ran
-  pub some : AsksSome frame groups ran
+-- a search that stopped for a child without an answer or for want of memory: some of the members' children were run
+abbrev pub IsStopped : DetectFrame → List (List Member) → List SpawnerSeen → List SpawnerSeen → Type 0
+IsStopped frame groups old new = RunsSome (map (detect_job frame) (members_of groups)) old new
 
-pub stopped_search : (frame : DetectFrame) (groups : List (List Member)) (r0 r1 : List Ran) (end : DetectEnd) →
-    (end ≡ Memory) ⊎ (end ≡ Child) → IsStopped frame groups r0 r1 → IsSearch frame groups r0 r1 (Err end)
-stopped_search frame groups r0 r1 end (inl e) s =
-    subst (λ (d : DetectEnd). IsSearch frame groups r0 r1 (Err d)) (sym e) record { ran = s.ran; runs = s.runs; some = s.some; asked = tt; detects = tt }
-stopped_search frame groups r0 r1 end (inr e) s =
-    subst (λ (d : DetectEnd). IsSearch frame groups r0 r1 (Err d)) (sym e) record { ran = s.ran; runs = s.runs; some = s.some; asked = tt; detects = tt }
+-- the first jobs of some, and some of those behind them
+some_behind : (first some jobs : List DetectJob) → AreSome some jobs → AreSome (first ++ some) (first ++ jobs)
+some_behind [] some jobs a = a
+some_behind (job ∷ first) some jobs a = inl (refl, some_behind first some jobs a)
 
--- some of the members were asked where they are the first of all
-asks_some : (frame : DetectFrame) (groups : List (List Member)) (first later : List Member) (ran : List Ran) →
-    members_of groups ≡ first ++ later → map (λ r. r.job) ran ≡ map (detect_job frame) first → AsksSome frame groups ran
-asks_some frame groups first later ran parts jobs =
-    (length first, jobs ∙ ap (map (detect_job frame)) (sym (ap (take (length first)) parts ∙ take-append_seam first later)))
+some_wider : (some jobs more : List DetectJob) → AreSome some jobs → AreSome some (jobs ++ more)
+some_wider [] jobs more a = tt
+some_wider (job ∷ some) [] more a = absurd a
+some_wider (job ∷ some) (first ∷ jobs) more (inl (is, a)) = inl (is, some_wider some jobs more a)
+some_wider (job ∷ some) (first ∷ jobs) more (inr a) = inr (some_wider (job ∷ some) jobs more a)
+
+-- the children of the first members were run, and some of those of the members behind them
+asks_some : (frame : DetectFrame) (groups : List (List Member)) (first next later : List Member) (ran more : List Ran) →
+    members_of groups ≡ first ++ (next ++ later) → map (λ r. r.job) ran ≡ map (detect_job frame) first → AreSome (map (λ r. r.job) more) (map (detect_job frame) next) →
+    AreSome (map (λ r. r.job) (ran ++ more)) (map (detect_job frame) (members_of groups))
+asks_some frame groups first next later ran more parts jobs some =
+    let job = λ (m : Member). detect_job frame m in
+    let own : map (λ r. r.job) (ran ++ more) ≡ map job first ++ map (λ r. r.job) more = map-append (λ (r : Ran). r.job) ran more ∙ ap (λ js. js ++ map (λ (r : Ran). r.job) more) jobs in
+    let all : map job (members_of groups) ≡ map job first ++ (map job next ++ map job later) =
+    ap (map job) parts ∙ (map-append job first (next ++ later) ∙ ap (λ js. map job first ++ js) (map-append job next later)) in
+    subst (λ (p : List DetectJob × List DetectJob). AreSome p.0 p.1) (λ i. (sym own i, sym all i))
+    (some_behind (map job first) (map (λ r. r.job) more) (map job next ++ map job later) (some_wider (map (λ r. r.job) more) (map job next) (map job later) some))
+
+asks_first : (frame : DetectFrame) (groups : List (List Member)) (first later : List Member) (ran : List Ran) →
+    members_of groups ≡ first ++ later → map (λ r. r.job) ran ≡ map (detect_job frame) first → AreSome (map (λ r. r.job) ran) (map (detect_job frame) (members_of groups))
+asks_first frame groups first later ran parts jobs =
+    subst (λ rs. AreSome (map (λ r. r.job) rs) (map (detect_job frame) (members_of groups))) (append-nil ran) (asks_some frame groups first [] later ran [] parts jobs tt)
 
 -- nothing more was asked
-pub stopped_between : (frame : DetectFrame) (done left : List (List Member)) (r0 r1 : List Ran) (kept : List AnswerRow) (erred : Bool) →
-    IsUnderWay frame done done r0 r1 kept erred → IsStopped frame (done ++ left) r0 r1
-stopped_between frame done left r0 r1 kept erred s = record {
-  ran = s.ran;
-  runs = s.runs;
-  some = asks_some frame (done ++ left) (members_of done) (unmet (keys_of_members (members_of done)) (flat left)) s.ran (members-front done left) s.jobs;
+pub stopped_between : (frame : DetectFrame) (done left : List (List Member)) (old now : List SpawnerSeen) (kept : List AnswerRow) (erred : Bool) →
+    IsUnderWay frame done done old now kept erred → IsStopped frame (done ++ left) old now
+stopped_between frame done left old now kept erred s = record {
+  answers = s.ran;
+  asked = s.by;
+  some = asks_first frame (done ++ left) (members_of done) (unmet (keys_of_members (members_of done)) (flat left)) s.ran (members-front done left) s.jobs;
 }
 
-module _ (frame : DetectFrame) (done : List (List Member)) (group : List Member) (left : List (List Member)) (r0 r1 : List Ran) (k1 : List AnswerRow) (erred : Bool)
+module _ (frame : DetectFrame) (done : List (List Member)) (group : List Member) (left : List (List Member)) (r0 r1 : List SpawnerSeen) (k1 : List AnswerRow) (erred : Bool)
     (s : IsUnderWay frame done done r0 r1 k1 erred) where
   abbrev met : List Member
   met = members_of done
@@ -79,39 +97,43 @@ module _ (frame : DetectFrame) (done : List (List Member)) (group : List Member)
   answered_keys : map key_of s.ran ≡ keys_of_members met
   answered_keys = sym (map-map (λ (row : AnswerRow). row.0) row_of s.ran) ∙ ran_keys frame met s.ran s.jobs
 
-  -- the first of the group's members were asked
-  pub stopped_in : (r2 : List Ran) → RunsFirst frame (unmet (keys_of k1) group) r1 r2 → IsStopped frame (done ++ group ∷ left) r0 r2
+  -- some of the group's members were asked
+  pub stopped_in : (r2 : List SpawnerSeen) → RunsSome (map (detect_job frame) (unmet (keys_of k1) group)) r1 r2 → IsStopped frame (done ++ group ∷ left) r0 r2
   stopped_in r2 a =
+      let next = unmet (keys_of k1) group in
       let behind = unmet (keys_of_members (members_of (done ++ group ∷ []))) (flat left) in
-      let parts : members_of (done ++ group ∷ left) ≡ (met ++ a.first) ++ (a.later ++ behind) =
+      let parts : members_of (done ++ group ∷ left) ≡ met ++ (next ++ behind) =
       ap members_of (sym (append_assoc done (group ∷ []) left))
       ∙ (members-front (done ++ group ∷ []) left
-      ∙ (ap (λ ms. ms ++ behind) (members-push done group ∙ ap (λ ks. met ++ unmet ks group) (sym met_keys) ∙ ap (λ ms. met ++ ms) a.parts)
-      ∙ (ap (λ ms. ms ++ behind) (sym (append_assoc met a.first a.later)) ∙ append_assoc (met ++ a.first) a.later behind))) in
+      ∙ (ap (λ ms. ms ++ behind) (members-push done group ∙ ap (λ ks. met ++ unmet ks group) (sym met_keys))
+      ∙ append_assoc met next behind)) in
       record {
-        ran = s.ran ++ a.run.ran;
-        runs = a.run.runs ∙ (ap (λ rs. rs ++ a.run.ran) s.runs ∙ append_assoc r0 s.ran a.run.ran);
-        some = asks_some frame (done ++ group ∷ left) (met ++ a.first) (a.later ++ behind) (s.ran ++ a.run.ran) parts
-            (map-append (λ (r : Ran). r.job) s.ran a.run.ran ∙ ((λ i. s.jobs i ++ a.run.jobs i) ∙ sym (map-append (detect_job frame) met a.first)));
+        answers = s.ran ++ a.answers;
+        asked = asked_then s.ran a.answers r0 r1 r2 s.by a.asked;
+        some = asks_some frame (done ++ group ∷ left) met next behind s.ran a.answers parts s.jobs a.some;
       }
 
-  pub stopped_behind : (r2 : List Ran) (k2 : List AnswerRow) → RunsAll frame (unmet (keys_of k1) group) r1 r2 k1 k2 → IsStopped frame (done ++ group ∷ left) r0 r2
-  stopped_behind r2 k2 a = stopped_in r2 record { first = unmet (keys_of k1) group; later = []; parts = sym (append-nil (unmet (keys_of k1) group)); run = a.run }
+  pub stopped_behind : (r2 : List SpawnerSeen) (k2 : List AnswerRow) → RunsAll frame (unmet (keys_of k1) group) r1 r2 k1 k2 → IsStopped frame (done ++ group ∷ left) r0 r2
+  stopped_behind r2 k2 a = stopped_in r2 record {
+    answers = a.answers;
+    asked = a.asked;
+    some = subst (λ (js : List DetectJob). AreSome (map (λ (r : Ran). r.job) a.answers) js) a.jobs (all_some (map (λ (r : Ran). r.job) a.answers));
+  }
 
   -- the whole group was asked and judged
-  pub asked_group : (r2 : List Ran) (k2 : List AnswerRow) (judged : Judged) → RunsAll frame (unmet (keys_of k1) group) r1 r2 k1 k2 → IsJudged (kept_says k2) group judged →
+  pub asked_group : (r2 : List SpawnerSeen) (k2 : List AnswerRow) (judged : Judged) → RunsAll frame (unmet (keys_of k1) group) r1 r2 k1 k2 → IsJudged (kept_says k2) group judged →
       IsUnderWay frame (done ++ group ∷ []) done r0 r2 k2 (erred || judged.erred)
   asked_group r2 k2 judged a j =
-      let new = a.run.ran in
+      let new = a.answers in
       let ran = s.ran ++ new in
       let rows : k2 ≡ map row_of ran = a.kept ∙ (ap (λ ks. ks ++ map row_of new) s.rows ∙ sym (map-append row_of s.ran new)) in
       let agree = agree_kept s.ran new done answered_keys in
       let says_now : kept_says k2 ≡ says build_plan ran = ap kept_says rows ∙ kept_says-says ran in
       record {
         ran = ran;
-        runs = a.run.runs ∙ (ap (λ rs. rs ++ new) s.runs ∙ append_assoc r0 s.ran new);
+        by = asked_then s.ran new r0 r1 r2 s.by a.asked;
         rows = rows;
-        jobs = map-append (λ (r : Ran). r.job) s.ran new ∙ ((λ i. s.jobs i ++ a.run.jobs i)
+        jobs = map-append (λ (r : Ran). r.job) s.ran new ∙ ((λ i. s.jobs i ++ a.jobs i)
             ∙ (sym (map-append (detect_job frame) met (unmet (keys_of k1) group))
             ∙ ap (map (detect_job frame)) (ap (λ ks. met ++ unmet ks group) met_keys ∙ sym (members-push done group))));
         none = first_ending_same (says build_plan ran) (says build_plan s.ran) 0 done agree ∙ s.none;
@@ -130,12 +152,12 @@ on_detected (Err Child) p = tt
 on_detected (Err Memory) p = tt
 
 -- what a judged group leads to
-abbrev pub GroupLeads : DetectFrame → List (List Member) → List Member → List (List Member) → List Ran → List Ran → List AnswerRow → Bool → Result (Option Chosen) DetectEnd → Type 0
+abbrev pub GroupLeads : DetectFrame → List (List Member) → List Member → List (List Member) → List SpawnerSeen → List SpawnerSeen → List AnswerRow → Bool → Result (Option Chosen) DetectEnd → Type 0
 GroupLeads frame done group left r0 r2 k2 erred (Ok None) = IsUnderWay frame (done ++ group ∷ []) (done ++ group ∷ []) r0 r2 k2 erred
 GroupLeads frame done group left r0 r2 k2 erred (Ok (Some chosen)) = IsSearch frame (done ++ group ∷ left) r0 r2 (Ok chosen)
 GroupLeads frame done group left r0 r2 k2 erred (Err end) = IsSearch frame (done ++ group ∷ left) r0 r2 (Err end)
 
-module _ (frame : DetectFrame) (done : List (List Member)) (group : List Member) (left : List (List Member)) (r0 r2 : List Ran) (k2 : List AnswerRow) (erred : Bool)
+module _ (frame : DetectFrame) (done : List (List Member)) (group : List Member) (left : List (List Member)) (r0 r2 : List SpawnerSeen) (k2 : List AnswerRow) (erred : Bool)
     (u : IsUnderWay frame (done ++ group ∷ []) done r0 r2 k2 erred) where
   abbrev say : Member → Verdict
   say = says build_plan u.ran
@@ -146,8 +168,8 @@ module _ (frame : DetectFrame) (done : List (List Member)) (group : List Member)
   reached_after : (later : List (List Member)) → reached say 0 (done ++ group ∷ later) ≡ done ++ group ∷ or_reached (ending_at say (length done) group) (reached say (length done + 1) later)
   reached_after later = reached-append say 0 done (group ∷ later) u.none ∙ ap (λ p. done ++ reached say p (group ∷ later)) (zero-add (length done))
 
-  asked_so_far : AsksSome frame (done ++ group ∷ left) u.ran
-  asked_so_far = asks_some frame (done ++ group ∷ left) (members_of (done ++ group ∷ [])) (unmet (keys_of_members (members_of (done ++ group ∷ []))) (flat left)) u.ran
+  asked_so_far : AreSome (map (λ r. r.job) u.ran) (map (detect_job frame) (members_of (done ++ group ∷ left)))
+  asked_so_far = asks_first frame (done ++ group ∷ left) (members_of (done ++ group ∷ [])) (unmet (keys_of_members (members_of (done ++ group ∷ []))) (flat left)) u.ran
       (ap members_of (sym (append_assoc done (group ∷ []) left)) ∙ members-front (done ++ group ∷ []) left) u.jobs
 
   all_keys : keys_of k2 ≡ keys_of_members (members_of (done ++ group ∷ []))
@@ -164,8 +186,8 @@ module _ (frame : DetectFrame) (done : List (List Member)) (group : List Member)
       ap (λ gs. keys_of_members (members_of gs)) whole ∙ sym all_keys in
       let told = list_any (λ (m : Member). is_error (say m)) (members_of (reached say 0 (done ++ group ∷ left))) in
       record {
-        ran = u.ran;
-        runs = u.runs;
+        answers = u.ran;
+        asked_by = u.by;
         some = asked_so_far;
         asked = on_detected r (u.jobs ∙ ap (λ gs. map (detect_job frame) (members_of gs)) (sym whole));
         detects =
@@ -176,7 +198,7 @@ module _ (frame : DetectFrame) (done : List (List Member)) (group : List Member)
   leads_by : (r : Result (Option Chosen) DetectEnd) (o : Option Ending) → ending_at say (length done) group ≡ o → EndsGroup r o (keys_of k2) → GroupLeads frame done group left r0 r2 k2 erred r
   leads_by (Ok None) None e h = record {
     ran = u.ran;
-    runs = u.runs;
+    by = u.by;
     rows = u.rows;
     jobs = u.jobs;
     errs = u.errs;
@@ -189,7 +211,7 @@ module _ (frame : DetectFrame) (done : List (List Member)) (group : List Member)
   leads_by (Err ManyTrials) None e h = absurd h
   leads_by (Err ManyTrials) (Some (TooManyTrials place)) e h = ends_with (Err ManyTrials) (TooManyTrials place) e (λ b. tt)
   leads_by (Err ManyTrials) (Some (FirstTrial place resolved kept)) e h = absurd h
-  leads_by (Err Memory) o e h = record { ran = u.ran; runs = u.runs; some = asked_so_far; asked = tt; detects = tt }
+  leads_by (Err Memory) o e h = record { answers = u.ran; asked_by = u.by; some = asked_so_far; asked = tt; detects = tt }
   leads_by (Err (NoGroup told)) o e h = absurd h
   leads_by (Err Child) o e h = absurd h
 
@@ -202,7 +224,7 @@ module _ (frame : DetectFrame) (done : List (List Member)) (group : List Member)
       leads_by r (ending_of_rows place judged.alive) is h
 
 -- all groups were gone through, and none ends the search
-pub no_group : (frame : DetectFrame) (groups : List (List Member)) (r0 r1 : List Ran) (kept : List AnswerRow) (erred : Bool) →
+pub no_group : (frame : DetectFrame) (groups : List (List Member)) (r0 r1 : List SpawnerSeen) (kept : List AnswerRow) (erred : Bool) →
     IsUnderWay frame groups groups r0 r1 kept erred → IsSearch frame groups r0 r1 (Err (NoGroup erred))
 no_group frame groups r0 r1 kept erred u =
     let say = says build_plan u.ran in
@@ -211,17 +233,17 @@ no_group frame groups r0 r1 kept erred u =
     let told : erred ≡ list_any (λ m. is_error (say m)) (members_of (reached say 0 groups)) =
     u.errs ∙ (sym (any-distinct (λ m. is_error (say m)) (λ a b e. ap (λ (key : Key). is_error (answer_or_error build_plan (recorded u.ran key))) e) (flat groups)) ∙ ap (λ gs. list_any (λ m. is_error (say m)) (members_of gs)) (sym whole)) in
     record {
-      ran = u.ran;
-      runs = u.runs;
-      some = asks_some frame groups (members_of groups) [] u.ran (sym (append-nil (members_of groups))) u.jobs;
+      answers = u.ran;
+      asked_by = u.by;
+      some = asks_first frame groups (members_of groups) [] u.ran (sym (append-nil (members_of groups))) u.jobs;
       asked = u.jobs ∙ ap (λ gs. map (detect_job frame) (members_of gs)) (sym whole);
       detects = subst (λ (o : Option Ending). DetectsAs (Err (NoGroup erred)) o (keys_of_members (members_of (reached say 0 groups))) (list_any (λ m. is_error (say m)) (members_of (reached say 0 groups))))
           (sym u.none) told;
     }
 
 -- a search between two groups, of which these are left
-pub record IsAt (frame : DetectFrame) (listed left : List (List Member)) (place : ℕ) (runs_old runs_now : List Ran) (kept : List AnswerRow) (erred : Bool) : Type 0 where
+pub record IsAt (frame : DetectFrame) (listed left : List (List Member)) (place : ℕ) (old now : List SpawnerSeen) (kept : List AnswerRow) (erred : Bool) : Type 0 where
   pub done : List (List Member)
   pub parts : listed ≡ done ++ left
   pub at : place ≡ length done
-  pub under_way : IsUnderWay frame done done runs_old runs_now kept erred
+  pub under_way : IsUnderWay frame done done old now kept erred

@@ -1,9 +1,9 @@
 -- One turn of the search: the next group is asked, judged, and ends the search or not.
-use Rattle.std.proofs.Common.{◌≡◌, ◌∙◌, refl, sym, ap, subst, ℕ, ◌+◌, ◌<◌, ◌≤◌, ◌^◌, Bool, false, List, [], ◌∷◌, ◌++◌, length, arith, append_assoc, append-nil, length-append}
+use Rattle.std.proofs.Common.{◌≡◌, ◌∙◌, refl, sym, ap, subst, ℕ, ◌+◌, ◌<◌, ◌≤◌, ◌^◌, Bool, false, List, [], ◌∷◌, ◌++◌, map, length, arith, append_assoc, append-nil, length-append}
 use Rattle.std.specs.Prelude.{◌||◌, Option, Some, None, IfSome, Result, Ok, Err, IsErrAnd}
-use Rattle.cnb_world.specs.declared.child.DetectFault.{DetectFault}
-use Rattle.cnb_world.specs.declared.child.DetectFault.TheVariants as fault
-use Rattle.cnb_world.specs.Runs.{Ran}
+use Rattle.steps.specs.Outside.{SpawnerSeen}
+use Rattle.ticket_pool.specs.declared.fault.PoolFault.{PoolFault}
+use Rattle.ticket_pool.specs.declared.fault.PoolFault.TheVariants as pool
 use Rattle.order_expand.specs.declared.member.Member.{Member}
 use Rattle.detect_core.specs.declared.chosen.Chosen.{Chosen}
 use Rattle.detect_core.specs.declared.chosen.DetectEnd.{DetectEnd}
@@ -11,9 +11,10 @@ use Rattle.detect_core.specs.declared.chosen.DetectEnd.TheVariants.{NoGroup}
 use Rattle.detect_core.specs.declared.chosen.DetectFrame.{DetectFrame}
 use Rattle.detect_core.specs.declared.judging.Judged.{Judged}
 use Rattle.detect_core.specs.Kept.{AnswerRow}
-use Rattle.detect_core.specs.Asking.{unmet, RunsAll, RunsFirst}
+use Rattle.detect_core.specs.Asking.{unmet, RunsAll, RunsSome}
 use Rattle.detect_core.specs.Detection.{ending_of_rows}
 use Rattle.detect_core.specs.Ending.{EndsGroup}
+use Rattle.detect_core.specs.Job.{detect_job}
 use Rattle.detect_core.specs.Judging.{IsJudged}
 use Rattle.detect_core.specs.Kept.{keys_of, kept_says}
 use Rattle.detect_core.specs.Searching.{IsSearch, end_of_fault}
@@ -24,20 +25,20 @@ pub err_result : (P : Result Chosen DetectEnd → Type 0) (r : Result Chosen Det
 err_result P (Ok chosen) end h p = absurd h
 err_result P (Err e) end h p = subst (λ (d : DetectEnd). P (Err d)) (sym h) p
 
-pub stopped_by : (frame : DetectFrame) (listed : List (List Member)) (r0 r1 : List Ran) (f : DetectFault) → IsStopped frame listed r0 r1 → IsSearch frame listed r0 r1 (Err (end_of_fault f))
-stopped_by frame listed r0 r1 fault.Failed s = record { ran = s.ran; runs = s.runs; some = s.some; asked = tt; detects = tt }
-stopped_by frame listed r0 r1 fault.Memory s = record { ran = s.ran; runs = s.runs; some = s.some; asked = tt; detects = tt }
+pub stopped_by : (frame : DetectFrame) (listed : List (List Member)) (r0 r1 : List SpawnerSeen) (f : PoolFault) → IsStopped frame listed r0 r1 → IsSearch frame listed r0 r1 (Err (end_of_fault f))
+stopped_by frame listed r0 r1 pool.Child s = record { answers = s.answers; asked_by = s.asked; some = s.some; asked = tt; detects = tt }
+stopped_by frame listed r0 r1 pool.Memory s = record { answers = s.answers; asked_by = s.asked; some = s.some; asked = tt; detects = tt }
 
 -- nobody was asked yet
-pub search_start : (frame : DetectFrame) (listed : List (List Member)) (r0 : List Ran) → IsAt frame listed listed 0 r0 r0 [] false
+pub search_start : (frame : DetectFrame) (listed : List (List Member)) (r0 : List SpawnerSeen) → IsAt frame listed listed 0 r0 r0 [] false
 search_start frame listed r0 = record { done = []; parts = refl; at = refl; under_way = under_way_start frame r0 }
 
-pub search_starts : (frame : DetectFrame) (listed left : List (List Member)) (r0 : List Ran) (kept : List AnswerRow) → left ≡ listed → kept ≡ [] → IsAt frame listed left 0 r0 r0 kept false
+pub search_starts : (frame : DetectFrame) (listed left : List (List Member)) (r0 : List SpawnerSeen) (kept : List AnswerRow) → left ≡ listed → kept ≡ [] → IsAt frame listed left 0 r0 r0 kept false
 search_starts frame listed left r0 kept all none =
     subst (λ (gs : List (List Member)). IsAt frame listed gs 0 r0 r0 kept false) (sym all)
     (subst (λ (rows : List AnswerRow). IsAt frame listed listed 0 r0 r0 rows false) (sym none) (search_start frame listed r0))
 
-module _ (frame : DetectFrame) (listed left : List (List Member)) (place : ℕ) (r0 r1 : List Ran) (k1 : List AnswerRow) (erred : Bool) (s : IsAt frame listed left place r0 r1 k1 erred) where
+module _ (frame : DetectFrame) (listed left : List (List Member)) (place : ℕ) (r0 r1 : List SpawnerSeen) (k1 : List AnswerRow) (erred : Bool) (s : IsAt frame listed left place r0 r1 k1 erred) where
   -- no memory for the next group
   pub stopped_next : IsStopped frame listed r0 r1
   stopped_next = subst (λ (gs : List (List Member)). IsStopped frame gs r0 r1) (sym s.parts) (stopped_between frame s.done left r0 r1 k1 erred s.under_way)
@@ -53,12 +54,12 @@ module _ (frame : DetectFrame) (listed left : List (List Member)) (place : ℕ) 
     whole = ap (λ gs. s.done ++ gs) (sym next) ∙ sym s.parts
 
     -- a failed spawner, or no memory
-    pub stopped_asking : (asked : List Member) (r2 : List Ran) → asked ≡ group → RunsFirst frame (unmet (keys_of k1) asked) r1 r2 → IsStopped frame listed r0 r2
+    pub stopped_asking : (asked : List Member) (r2 : List SpawnerSeen) → asked ≡ group → RunsSome (map (detect_job frame) (unmet (keys_of k1) asked)) r1 r2 → IsStopped frame listed r0 r2
     stopped_asking asked r2 is a =
         subst (λ (gs : List (List Member)). IsStopped frame gs r0 r2) whole
-        (stopped_in frame s.done group later r0 r1 k1 erred s.under_way r2 (subst (λ (ms : List Member). RunsFirst frame (unmet (keys_of k1) ms) r1 r2) is a))
+        (stopped_in frame s.done group later r0 r1 k1 erred s.under_way r2 (subst (λ (ms : List Member). RunsSome (map (detect_job frame) (unmet (keys_of k1) ms)) r1 r2) is a))
 
-    pub stopped_asked : (asked : List Member) (r2 : List Ran) (k2 : List AnswerRow) → asked ≡ group → RunsAll frame (unmet (keys_of k1) asked) r1 r2 k1 k2 → IsStopped frame listed r0 r2
+    pub stopped_asked : (asked : List Member) (r2 : List SpawnerSeen) (k2 : List AnswerRow) → asked ≡ group → RunsAll frame (unmet (keys_of k1) asked) r1 r2 k1 k2 → IsStopped frame listed r0 r2
     stopped_asked asked r2 k2 is a =
         subst (λ (gs : List (List Member)). IsStopped frame gs r0 r2) whole
         (stopped_behind frame s.done group later r0 r1 k1 erred s.under_way r2 k2 (subst (λ (ms : List Member). RunsAll frame (unmet (keys_of k1) ms) r1 r2 k1 k2) is a))
@@ -68,6 +69,9 @@ module _ (frame : DetectFrame) (listed left : List (List Member)) (place : ℕ) 
         judged_rows (kept_says k2) judged_group judged j
         (subst (λ (ms : List Member). length ms ≤ 256) (sym is) (within_group s.done group later (subst AreWithin (sym whole) w)))
 
+    pub few_members : (asked : List Member) → AreWithin listed → asked ≡ group → length asked ≤ 256
+    few_members asked w is = subst (λ (ms : List Member). length ms ≤ 256) (sym is) (within_group s.done group later (subst AreWithin (sym whole) w))
+
     pub few_places : AreWithin listed → place + 1 ≤ 4096
     few_places w =
         let h : length s.done + 1 ≤ 4096 = within_place s.done group later (subst AreWithin (sym whole) w) in
@@ -75,12 +79,12 @@ module _ (frame : DetectFrame) (listed left : List (List Member)) (place : ℕ) 
         omega arith
 
     -- what the judged group leads to
-    abbrev pub Leads : List Ran → List AnswerRow → Bool → Result (Option Chosen) DetectEnd → Type 0
+    abbrev pub Leads : List SpawnerSeen → List AnswerRow → Bool → Result (Option Chosen) DetectEnd → Type 0
     Leads r2 k2 erred' (Ok None) = IsAt frame listed later (place + 1) r0 r2 k2 erred'
     Leads r2 k2 erred' (Ok (Some chosen)) = IsSearch frame listed r0 r2 (Ok chosen)
     Leads r2 k2 erred' (Err end) = IsSearch frame listed r0 r2 (Err end)
 
-    lead : (r2 : List Ran) (k2 : List AnswerRow) (erred' : Bool) (r : Result (Option Chosen) DetectEnd) → GroupLeads frame s.done group later r0 r2 k2 erred' r → Leads r2 k2 erred' r
+    lead : (r2 : List SpawnerSeen) (k2 : List AnswerRow) (erred' : Bool) (r : Result (Option Chosen) DetectEnd) → GroupLeads frame s.done group later r0 r2 k2 erred' r → Leads r2 k2 erred' r
     lead r2 k2 erred' (Ok None) u = record {
       done = s.done ++ group ∷ [];
       parts = sym whole ∙ sym (append_assoc s.done (group ∷ []) later);
@@ -90,7 +94,7 @@ module _ (frame : DetectFrame) (listed left : List (List Member)) (place : ℕ) 
     lead r2 k2 erred' (Ok (Some chosen)) u = subst (λ (gs : List (List Member)). IsSearch frame gs r0 r2 (Ok chosen)) whole u
     lead r2 k2 erred' (Err end) u = subst (λ (gs : List (List Member)). IsSearch frame gs r0 r2 (Err end)) whole u
 
-    pub turn : (asked judged_group : List Member) (r2 : List Ran) (k2 : List AnswerRow) (judged : Judged) (erred' : Bool) (r : Result (Option Chosen) DetectEnd) →
+    pub turn : (asked judged_group : List Member) (r2 : List SpawnerSeen) (k2 : List AnswerRow) (judged : Judged) (erred' : Bool) (r : Result (Option Chosen) DetectEnd) →
         asked ≡ group → judged_group ≡ group → RunsAll frame (unmet (keys_of k1) asked) r1 r2 k1 k2 → IsJudged (kept_says k2) judged_group judged →
         erred' ≡ (erred || judged.erred) → EndsGroup r (ending_of_rows place judged.alive) (keys_of k2) → Leads r2 k2 erred' r
     turn asked judged_group r2 k2 judged erred' r is_asked is_judged a j errs h =

@@ -6,6 +6,5 @@ pub mod Examples
 pub mod Job
 pub mod Judging
 pub mod Kept
-pub mod PlanName
 pub mod Search
 pub mod Searching

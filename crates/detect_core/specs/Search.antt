@@ -1,27 +1,22 @@
 -- What a call that detects says of its answer, of the children that it ran and of the spawners' faults.
-use Rattle.std.specs.Prelude.{ℕ, ◌≡◌, ◌≤◌, ◌&&◌, Bool, List, [], ◌∷◌, ◌++◌, codes, drop, length, map, nat_le, take, Option, Some, None, Result, Ok, Err}
-use Rattle.cnb_world.specs.Calls.{Rose}
+use Rattle.std.specs.Prelude.{ℕ, ◌≡◌, ◌&&◌, Bool, List, codes, length, map, nat_le, Option, Some, None, Result, Ok, Err, OnErr}
 use Rattle.cnb_world.specs.Runs.{Ran}
 use Rattle.cnb_toml.specs.declared.names.Key.{Key}
 use Rattle.run_docs.specs.declared.group.GroupRow.{GroupRow}
-use Rattle.order_expand.specs.declared.member.Member.{Member}
+use Rattle.bp_docs.specs.declared.descriptor.Descriptor.{Descriptor}
+use Rattle.bp_docs.specs.declared.descriptor.Entry.{Entry}
+use Rattle.order_expand.specs.Groups.{listed_groups}
 use Rattle.plan_resolve.specs.declared.rows.Resolved.{Resolved}
 use Rattle.detect_core.specs.declared.chosen.Chosen.{Chosen}
 use Rattle.detect_core.specs.declared.chosen.DetectEnd.{DetectEnd}
 use Rattle.detect_core.specs.declared.chosen.DetectEnd.TheVariants.{NoGroup, ManyTrials, Child, Memory}
 use Rattle.detect_core.specs.declared.chosen.DetectFrame.{DetectFrame}
-use Rattle.detect_core.specs.Detection.{Ending, TooManyTrials, FirstTrial, members_of}
+use Rattle.detect_core.specs.Answer.{build_plan, says}
+use Rattle.detect_core.specs.Detection.{Ending, TooManyTrials, FirstTrial, asked_members, members_of}
 use Rattle.detect_core.specs.Job.{detect_job}
+use Rattle.steps.specs.Asking.{AskedBy, AreSome}
 use Rattle.steps.specs.Causes.{Cause, ChildFailed, OutOfMemory, Decided}
-
--- the children that a spawner ran in the call
-abbrev pub since : List Ran → List Ran → List Ran
-since old new = drop (length old) new
-
--- what the first of some spawners has run
-abbrev pub first_runs : {S : Type 0} → (S → List Ran) → List S → List Ran
-first_runs runs [] = []
-first_runs runs (spawner ∷ spawners) = runs spawner
+use Rattle.steps.specs.Outside.{SpawnerSeen}
 
 -- the chosen group, each buildpack with the API that it is written for
 abbrev pub group_rows : List Key → List GroupRow
@@ -64,19 +59,14 @@ end_cause Memory = OutOfMemory
 end_cause (NoGroup erred) = Decided
 end_cause ManyTrials = Decided
 
--- a spawner's faults: `Child` comes where the count rose
-abbrev pub CountsDetection : {T : Type 0} → Result T DetectEnd → ℕ → ℕ → Type 0
-CountsDetection (Err Child) before now = Rose before now
-CountsDetection (Err Memory) before now = before ≤ now
-CountsDetection result before now = now ≡ before
-
--- the new list is the old with more behind it
-abbrev pub IsExtended : List Ran → List Ran → Type 0
-IsExtended old new = (more : List Ran) × (new ≡ old ++ more)
-
--- the first of the members of some groups, each buildpack once, were asked in order
-abbrev pub AsksSome : DetectFrame → List (List Member) → List Ran → Type 0
-AsksSome frame groups rans = (count : ℕ) × (map (λ ran. ran.job) rans ≡ map (detect_job frame) (take count (members_of groups)))
+-- The children that spawners ran between them: exactly those that have to be asked, by what they answered, each once;
+-- after a failure some of those that the order lists, each at most once.
+pub record RunsAsked (frame : DetectFrame) (catalog : List Descriptor) (order : List (List Entry)) (old : List SpawnerSeen)
+    (result : Result Chosen DetectEnd) (new : List SpawnerSeen) : Type 0 where
+  pub answers : List Ran
+  pub asked : AskedBy answers old new
+  pub exactly : OnDetected result (map (λ ran. ran.job) answers ≡ map (detect_job frame) (asked_members (says build_plan answers) catalog order))
+  pub some : OnErr result (AreSome (map (λ ran. ran.job) answers) (map (detect_job frame) (members_of (listed_groups catalog order))))
 
 -- the folders of a frame are short enough that every path that is made of them is a path
 abbrev pub is_short : DetectFrame → Bool

@@ -1,69 +1,47 @@
 // Asking the members of a group.
-ghost use Rattle.std.specs.Prelude.{[], ◌∷◌, IsTrue, OnOk, OnErr};
-ghost use Rattle.cnb_world.specs.Calls.{CountsDetect};
-ghost use Rattle.detect_core.specs.Asking.{unmet, RunsAll, RunsFirst};
+ghost use Rattle.std.specs.Prelude.{◌<◌, ◌≤◌, IsTrue, OnOk, OnErr, length, map};
+ghost use Rattle.detect_core.specs.Asking.{unmet, pool_cause, RunsAll, RunsSome};
+ghost use Rattle.detect_core.specs.Job.{detect_job};
 ghost use Rattle.detect_core.specs.Kept.{keys_of};
 ghost use Rattle.detect_core.specs.Search.{is_short};
-ghost use Rattle.steps.specs.Asking.{Grows};
-ghost use Rattle.steps.specs.Outside.{spawner_seen};
+ghost use Rattle.steps.specs.Asking.{CountsSpawners};
+ghost use Rattle.steps.specs.Outside.{faults_of, spawners_seen};
 
-use crate::answers::answer;
 use crate::chosen::DetectFrame;
-use crate::job::job_of;
+use crate::keeping::keep_answers;
 use crate::kept::Kept;
-use cnb_world::{DetectFault, Spawner};
+use crate::questions::questions_of;
+use crate::side_by_side::run_jobs;
+use cnb_world::Spawner;
 use order_expand::Member;
 use std::alloc::Global;
+use std::thread::Threads;
+use ticket_pool::PoolFault;
 
-/// Runs the children of those members that were not asked before in this call, each once and in order.
-pub fn ask_group<S: Spawner>(
+/// Runs the children of those members that were not asked before in this call, each once, by spawners side by side.
+pub fn ask_group<S: Spawner + Send, R: Threads + Sync>(
+    rt: &R,
     alloc: Global,
-    spawner: &mut S,
+    spawners: &mut Vec<S>,
+    workers: usize,
     frame: &DetectFrame,
     group: &[Member],
     kept: &mut Kept,
-) -> Result<(), DetectFault>
-    requires { IsTrue (is_short frame.now) }
-    ensures all { OnOk result (RunsAll frame.now (unmet (keys_of kept.old) group.now) (S.runs spawner.old) (S.runs spawner.new) kept.old kept.new) }
-    ensures first { OnErr result (RunsFirst frame.now (unmet (keys_of kept.old) group.now) (S.runs spawner.old) (S.runs spawner.new)) }
-    ensures grows { Grows (spawner_seen S.Spawner spawner.old) (spawner_seen S.Spawner spawner.new) }
-    ensures faults { CountsDetect result (S.faults spawner.old) (S.faults spawner.new) }
+) -> Result<(), PoolFault>
+    requires spawners { 0 < length spawners.old.items }
+    requires workers { 0 < workers }
+    requires short { IsTrue (is_short frame.now) }
+    requires few { length group.now ≤ 256 }
+    ensures all { OnOk result (RunsAll frame.now (unmet (keys_of kept.old) group.now)
+        (spawners_seen S.Spawner spawners.old.items) (spawners_seen S.Spawner spawners.new.items) kept.old kept.new) }
+    ensures some { OnErr result (RunsSome (map (detect_job frame.now) (unmet (keys_of kept.old) group.now))
+        (spawners_seen S.Spawner spawners.old.items) (spawners_seen S.Spawner spawners.new.items)) }
+    ensures faults { CountsSpawners pool_cause result
+        (faults_of (spawners_seen S.Spawner spawners.old.items))
+        (faults_of (spawners_seen S.Spawner spawners.new.items)) }
 {
-    for member in group {
-        ask(alloc, spawner, frame, member, kept)?;
-    }
-    Ok(())
-}
-
-// Runs the child of a member, unless it was asked before.
-fn ask<S: Spawner>(
-    alloc: Global,
-    spawner: &mut S,
-    frame: &DetectFrame,
-    member: &Member,
-    kept: &mut Kept,
-) -> Result<(), DetectFault>
-    requires { IsTrue (is_short frame.now) }
-    ensures all { OnOk result (RunsAll frame.now (unmet (keys_of kept.old) (member.now ∷ [])) (S.runs spawner.old) (S.runs spawner.new) kept.old kept.new) }
-    ensures first { OnErr result (RunsFirst frame.now (unmet (keys_of kept.old) (member.now ∷ [])) (S.runs spawner.old) (S.runs spawner.new)) }
-    ensures grows { Grows (spawner_seen S.Spawner spawner.old) (spawner_seen S.Spawner spawner.new) }
-    ensures faults { CountsDetect result (S.faults spawner.old) (S.faults spawner.new) }
-{
-    if kept.has(&member.key) {
-        return Ok(());
-    }
-    let Ok(job) = job_of(alloc, frame, member) else {
-        return Err(DetectFault::Memory);
-    };
-    let Ok(key) = member.key.copy(alloc) else {
-        return Err(DetectFault::Memory);
-    };
-    let probed = spawner.detect(&job)?;
-    let Ok(verdict) = answer(alloc, &probed) else {
-        return Err(DetectFault::Memory);
-    };
-    let Ok(_) = kept.add(key, verdict) else {
-        return Err(DetectFault::Memory);
-    };
+    let asked = questions_of(alloc, frame, group, kept)?;
+    let answers = run_jobs(rt, alloc, spawners, workers, asked.jobs.as_slice())?;
+    keep_answers(alloc, kept, asked.keys.as_slice(), answers.as_slice())?;
     Ok(())
 }

@@ -2,8 +2,9 @@
 use bp_docs::PlanOption;
 use cnb_env::EnvFile;
 use cnb_toml::Key;
-use cnb_world::{DetectFault, Env, List, Memory, Path};
+use cnb_world::{Env, List, Memory, Path};
 use run_docs::{GroupDoc, PlanDoc};
+use ticket_pool::PoolFault;
 
 /// What all detect children of one call have in common: the folders, the environment that was handed in, and the
 /// platform's environment files.
@@ -57,16 +58,16 @@ impl From<Memory> for DetectEnd {
     }
 }
 
-impl From<DetectFault> for DetectEnd {
+impl From<PoolFault> for DetectEnd {
     ghost use Rattle.std.specs.Prelude.{◌≡◌};
     ghost use Rattle.detect_core.specs.Searching.{end_of_fault};
 
     ghost from_gives = { λ fault end. end ≡ end_of_fault fault };
 
-    fn from(fault: DetectFault) -> Self {
+    fn from(fault: PoolFault) -> Self {
         match fault {
-            DetectFault::Failed => DetectEnd::Child,
-            DetectFault::Memory => DetectEnd::Memory,
+            PoolFault::Child => DetectEnd::Child,
+            PoolFault::Memory => DetectEnd::Memory,
         }
     }
 }

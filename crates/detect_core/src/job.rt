@@ -1,12 +1,12 @@
 // The detect child of a buildpack.
 ghost use Rattle.std.specs.Prelude.{◌≡◌, ◌≤◌, IfOk, IsTrue, codes, length};
-ghost use Rattle.cnb_world.specs.Path.{is_part, joined};
-ghost use Rattle.detect_core.specs.Job.{buildpack_folder, plan_path, detect_job};
-ghost use Rattle.detect_core.specs.PlanName.{plan_name_of};
+ghost use Rattle.cnb_world.specs.Path.{joined};
+ghost use Rattle.detect_core.specs.Job.{plan_path, detect_job};
 ghost use Rattle.detect_core.specs.Search.{is_short};
 
 use crate::chosen::DetectFrame;
 use crate::environment::environment;
+use cnb_env::{buildpack_folder, plan_name};
 use cnb_toml::Key;
 use cnb_world::{DetectJob, Memory, Path, Text};
 use order_expand::Member;
@@ -18,7 +18,7 @@ pub fn job_of(alloc: Global, frame: &DetectFrame, member: &Member) -> Result<Det
     requires { IsTrue (is_short frame.now) }
     ensures { IfOk result (λ job. job ≡ detect_job frame.now member.now) }
 {
-    let folder = folder(alloc, &frame.buildpacks, &member.key)?;
+    let folder = buildpack_folder(alloc, &frame.buildpacks, &member.key)?;
     let program = program(alloc, &folder)?;
     let plan = plan(alloc, &frame.work, &member.key)?;
     let env = environment(alloc, frame, member, &folder, &plan)?;
@@ -37,19 +37,6 @@ pub fn job_of(alloc: Global, frame: &DetectFrame, member: &Member) -> Result<Det
     })
 }
 
-// The folder of a buildpack's version.
-#[tactic(auto, using(crate::proofs::PathLemmas::folder_within))]
-fn folder(alloc: Global, buildpacks: &Path, key: &Key) -> Result<Path, Memory>
-    requires { length buildpacks.now ≤ 4096 }
-    ensures folder { IfOk result (λ folder. folder ≡ buildpack_folder buildpacks.now key.now) }
-    ensures short { IfOk result (λ folder. length folder ≤ 8192) }
-{
-    let name = key.id.folder(alloc)?;
-    let id_folder = buildpacks.below(alloc, name.as_str())?;
-    let folder = id_folder.below(alloc, key.version.as_str())?;
-    Ok(folder)
-}
-
 fn program(alloc: Global, folder: &Path) -> Result<Path, Memory>
     requires { length folder.now ≤ 8192 }
     ensures { IfOk result (λ program. program ≡ joined (joined folder.now (codes "bin")) (codes "detect")) }
@@ -66,18 +53,4 @@ fn plan(alloc: Global, work: &Path, key: &Key) -> Result<Path, Memory>
     let name = plan_name(alloc, key)?;
     let folder = work.below(alloc, "detect")?;
     folder.below(alloc, name.as_str())
-}
-
-fn plan_name(alloc: Global, key: &Key) -> Result<Text, Memory>
-    ensures name { IfOk result (λ name. name ≡ plan_name_of key.now) }
-    ensures part { IfOk result (λ name. IsTrue (is_part name)) }
-{
-    let _id = key.id.as_str();
-    let version = key.version.as_str();
-    let folder = key.id.folder(alloc)?;
-    let mut name = String::from_str(alloc, folder.as_str())?;
-    name.push_str("@")?;
-    name.push_str(version)?;
-    name.push_str(".toml")?;
-    Ok(Text::from_string(name))
 }

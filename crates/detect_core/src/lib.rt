@@ -8,10 +8,11 @@ mod ending;
 mod environment;
 mod job;
 mod judging;
+mod keeping;
 mod kept;
+mod questions;
 mod search;
-#[cfg(test)]
-mod tests;
+mod side_by_side;
 
 pub use answers::answer;
 pub use chosen::{Chosen, DetectEnd, DetectFrame, Verdict};

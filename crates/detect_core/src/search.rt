@@ -1,16 +1,16 @@
-// The detection over a spawner.
-ghost use Rattle.std.specs.Prelude.{◌≡◌, ◌≤◌, ◌<◌, IfOk, IsOk, IsTrue, OnErr, drop, length, map};
+// The detection over spawners.
+ghost use Rattle.std.specs.Prelude.{◌<◌, List as Seq, IfOk, IsOk, IsTrue, length};
+ghost use Rattle.cnb_world.specs.Runs.{Ran};
 ghost use Rattle.order_expand.specs.Check.{checked};
 ghost use Rattle.order_expand.specs.Groups.{listed_groups};
 ghost use Rattle.run_docs.specs.Group.{is_group_doc};
 ghost use Rattle.run_docs.specs.Plan.{is_plan_doc};
 ghost use Rattle.detect_core.specs.Answer.{says, build_plan};
-ghost use Rattle.detect_core.specs.Detection.{first_trial, asked_members, asked_keys, has_erred};
-ghost use Rattle.detect_core.specs.Job.{detect_job};
-ghost use Rattle.steps.specs.Asking.{AskedBy, CountsSpawners, Grows};
-ghost use Rattle.steps.specs.Outside.{faults_of, spawner_seen, spawners_seen};
-ghost use Rattle.detect_core.specs.Search.{since, first_runs, DetectsAs, OnDetected, CountsDetection, IsExtended, AsksSome, end_cause, is_short};
+ghost use Rattle.detect_core.specs.Detection.{first_trial, asked_keys, has_erred};
+ghost use Rattle.detect_core.specs.Search.{DetectsAs, RunsAsked, end_cause, is_short};
 ghost use Rattle.detect_core.specs.Searching.{IsSearch};
+ghost use Rattle.steps.specs.Asking.{AskedBy, CountsSpawners};
+ghost use Rattle.steps.specs.Outside.{faults_of, spawners_seen};
 
 use crate::asking::ask_group;
 use crate::chosen::{Chosen, DetectEnd, DetectFrame};
@@ -23,7 +23,8 @@ use order_expand::{Catalog, Walk};
 use std::alloc::Global;
 use std::thread::Threads;
 
-/// Chooses the first group and plan that pass (buildpack.md, "Phase #1: Detection"). The first spawner runs all children.
+/// Chooses the first group and plan that pass (buildpack.md, "Phase #1: Detection"). The children of a group are run by
+/// spawners side by side, as many as there are workers.
 pub fn detect<S: Spawner + Send, R: Threads + Sync>(
     rt: &R,
     alloc: Global,
@@ -38,49 +39,60 @@ pub fn detect<S: Spawner + Send, R: Threads + Sync>(
     requires workers { 0 < workers }
     requires short { IsTrue (is_short frame.now) }
 
-    // The answer is that of the first trial that passes, by what the children of this call answered.
-    ensures detects { let answers = since (first_runs S.runs spawners.old.items) (first_runs S.runs spawners.new.items) in
-        DetectsAs result (first_trial (says build_plan answers) catalog.now order.now) (asked_keys (says build_plan answers) catalog.now order.now) (has_erred (says build_plan answers) catalog.now order.now) }
+    // However many workers run the children, and in whatever order they finish: the answer is that of the first trial
+    // that passes, by what they answered.
+    ensures detects { (finished : Seq Ran)
+        → AskedBy finished (spawners_seen S.Spawner spawners.old.items) (spawners_seen S.Spawner spawners.new.items)
+        → DetectsAs result (first_trial (says build_plan finished) catalog.now order.now)
+        (asked_keys (says build_plan finished) catalog.now order.now)
+        (has_erred (says build_plan finished) catalog.now order.now) }
+    // All spawners together run exactly the children that have to be asked, each once; after a failure some of those
+    // that the order lists, each at most once. Each answers as its spawner says beforehand.
+    ensures asked { RunsAsked frame.now catalog.now order.now
+        (spawners_seen S.Spawner spawners.old.items) result (spawners_seen S.Spawner spawners.new.items) }
     // What was chosen can be written and read back.
     ensures written { IfOk result (λ chosen. IsTrue (is_group_doc chosen.group) × IsTrue (is_plan_doc chosen.plan)) }
-
-    // Exactly the children were run that had to be asked, each once and in order.
-    ensures asked { let answers = since (first_runs S.runs spawners.old.items) (first_runs S.runs spawners.new.items) in
-        OnDetected result (map (λ ran. ran.job) answers ≡ map (detect_job frame.now) (asked_members (says build_plan answers) catalog.now order.now)) }
-    // After a failure some of the listed groups' members were asked, each at most once.
-    ensures some { OnErr result (AsksSome frame.now (listed_groups catalog.now order.now) (since (first_runs S.runs spawners.old.items) (first_runs S.runs spawners.new.items))) }
-    ensures grows { IsExtended (first_runs S.runs spawners.old.items) (first_runs S.runs spawners.new.items) }
-    ensures others { drop 1 spawners.new.items ≡ drop 1 spawners.old.items }
-    // The spawners ran these children between them, and answered as they say beforehand.
-    ensures asked_by { AskedBy (since (first_runs S.runs spawners.old.items) (first_runs S.runs spawners.new.items))
-        (spawners_seen S.Spawner spawners.old.items) (spawners_seen S.Spawner spawners.new.items) }
     ensures faults { CountsSpawners end_cause result
         (faults_of (spawners_seen S.Spawner spawners.old.items))
         (faults_of (spawners_seen S.Spawner spawners.new.items)) }
 {
-    search(alloc, order, catalog, &mut spawners[0], frame)
+    search(rt, alloc, order, catalog, spawners, workers, frame)
 }
 
 /// Goes through the listed groups until one ends the search.
-fn search<S: Spawner>(
+fn search<S: Spawner + Send, R: Threads + Sync>(
+    rt: &R,
     alloc: Global,
     order: &Order,
     catalog: &Catalog,
-    spawner: &mut S,
+    spawners: &mut Vec<S>,
+    workers: usize,
     frame: &DetectFrame,
 ) -> Result<Chosen, DetectEnd>
     requires order { IsOk (checked catalog.now order.now) }
+    requires spawners { 0 < length spawners.old.items }
+    requires workers { 0 < workers }
     requires short { IsTrue (is_short frame.now) }
-    ensures search { IsSearch frame.now (listed_groups catalog.now order.now) (S.runs spawner.old) (S.runs spawner.new) result }
-    ensures grows { Grows (spawner_seen S.Spawner spawner.old) (spawner_seen S.Spawner spawner.new) }
-    ensures faults { CountsDetection result (S.faults spawner.old) (S.faults spawner.new) }
+    ensures search { IsSearch frame.now (listed_groups catalog.now order.now)
+        (spawners_seen S.Spawner spawners.old.items) (spawners_seen S.Spawner spawners.new.items) result }
+    ensures faults { CountsSpawners end_cause result
+        (faults_of (spawners_seen S.Spawner spawners.old.items))
+        (faults_of (spawners_seen S.Spawner spawners.new.items)) }
 {
     let mut walk = Walk::new(alloc, order, catalog)?;
     let mut kept = Kept::new(alloc);
     let mut erred = false;
     let mut place = 0u32;
     while let Some(group) = walk.next()? {
-        ask_group(alloc, spawner, frame, group.as_slice(), &mut kept)?;
+        ask_group(
+            rt,
+            alloc,
+            spawners,
+            workers,
+            frame,
+            group.as_slice(),
+            &mut kept,
+        )?;
         let judged = judge(alloc, group.as_slice(), &kept)?;
         erred |= judged.erred;
         if let Some(chosen) = end_of(alloc, &judged, place, &kept)? {

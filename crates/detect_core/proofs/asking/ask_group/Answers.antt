@@ -1,37 +1,50 @@
-use Rattle.std.proofs.Common.{refl, ◌<◌, ◌∙◌, length, arith, subst, List}
-use Rattle.std.proofs.lemmas.List.{take_all}
-use Rattle.order_expand.specs.declared.member.Member.{Member}
+use Rattle.std.proofs.Common.{◌∙◌, ◌++◌, refl, sym, ap, subst, List}
+use Rattle.std.proofs.lemmas.Result.{err_from_is_err_and}
+use Rattle.cnb_toml.specs.declared.names.Key.{Key}
+use Rattle.cnb_world.specs.declared.child.DetectJob.{DetectJob}
+use Rattle.cnb_world.specs.declared.child.Probed.{Probed}
+use Rattle.steps.specs.Outside.{faults_of, spawners_seen}
+use Rattle.detect_core.specs.Asking.{rows_of, unmet, AreNew, RunsSome}
 use Rattle.detect_core.specs.Kept.{keys_of}
-use Rattle.detect_core.specs.Asking.{unmet, RunsAll}
-use Rattle.detect_core.proofs.AskingLemmas.{ran_none, asked_more, stopped_at, on_err}
-use Rattle.steps.proofs.AskingLemmas.{ran_none as grown_none, ran_then}
+use Rattle.detect_core.proofs.AskingLemmas.{few_jobs, on_err, ran_all, ran_unkept, unmet_new}
+use Rattle.detect_core.proofs.CountLemmas.{stayed}
+use Rattle.detect_core.proofs.PoolLemmas.{ran_nobody}
 use Rattle.detect_core.proofs.asking.ask_group.Goals as goal
 
-pub loop-member-init : goal.loop-member-init
-loop-member-init g c = (ran_none c.args.frame.now (g.S.Spawner.runs c.args.spawner.now) c.args.kept.now, refl, grown_none _ _ refl refl)
+pub returns-in_err-asked-clause-some : goal.returns-in_err-asked-clause-some
+returns-in_err-asked-clause-some g c = on_err c.from_residual.result (ran_nobody _ (spawners_seen g.S.Spawner c.args.spawners.now.items))
 
-pub returns-in_err-ask-clause-first : goal.returns-in_err-ask-clause-first
-returns-in_err-ask-clause-first g c =
-    let lt : c.loop-member.member-index < length c.args.group.now = omega arith in
-    on_err c.from_residual.result
-    (stopped_at c.args.frame.now c.args.group.now c.loop-member.member-index c.member-item.result
-    (g.S.Spawner.runs c.args.spawner.now) (g.S.Spawner.runs c.loop-member.spawner) (g.S.Spawner.runs c.ask.new.spawner) c.args.kept.now c.loop-member.kept
-    lt c.member-item.is c.loop-member.invariant.0 c.in_err-ask.ensures.first)
+pub returns-in_err-asked-clause-faults : goal.returns-in_err-asked-clause-faults
+returns-in_err-asked-clause-faults g c =
+    let exit = err_from_is_err_and c.from_residual.result c.from_residual.ensures.1 in
+    let counts = faults_of (spawners_seen g.S.Spawner c.args.spawners.now.items) in
+    rw (exit.1, exit.2) (stayed counts counts refl)
 
-pub loop-member-preserved : goal.loop-member-preserved
-loop-member-preserved g c =
-    let lt : c.loop-member.member-index < length c.args.group.now = omega arith in (
-      asked_more c.args.frame.now c.args.group.now c.loop-member.member-index c.member-item.result
-          (g.S.Spawner.runs c.args.spawner.now) (g.S.Spawner.runs c.loop-member.spawner) (g.S.Spawner.runs c.ask.new.spawner) c.args.kept.now c.loop-member.kept c.ask.new.kept
-          lt c.member-item.is c.loop-member.invariant.0 c.in_ok-ask.ensures.all,
-      c.in_ok-ask.ensures.faults ∙ c.loop-member.invariant.1,
-      ran_then _ _ _ c.loop-member.invariant.2 c.ask.ensures.grows,
-    )
+pub run_jobs-requires-clause-few : goal.run_jobs-requires-clause-few
+run_jobs-requires-clause-few g c κs within =
+    few_jobs c.args.frame.now (keys_of c.args.kept.now) c.args.group.now c.as_slice.result.now (c.as_slice.ensures ∙ c.in_ok-asked.ensures.jobs) c.requires.few
+
+pub keep_answers-requires-clause-new : goal.keep_answers-requires-clause-new
+keep_answers-requires-clause-new g c =
+    subst (λ (keys : List Key). AreNew (keys_of c.args.kept.now) keys) (sym (c.as_slice-2.ensures ∙ c.in_ok-asked.ensures.keys)) (unmet_new (keys_of c.args.kept.now) c.args.group.now)
+
+pub returns-in_err-keep_answers-clause-some : goal.returns-in_err-keep_answers-clause-some
+returns-in_err-keep_answers-clause-some g c =
+    let old = spawners_seen g.S.Spawner c.args.spawners.now.items in
+    let new = spawners_seen g.S.Spawner c.run_jobs.new.spawners.items in
+    on_err c.from_residual-in_err-keep_answers.result
+    (subst (λ (jobs : List DetectJob). RunsSome jobs old new) (c.as_slice.ensures ∙ c.in_ok-asked.ensures.jobs)
+    (ran_unkept c.as_slice.result.now c.in_ok-answers.answers.items old new c.in_ok-answers.ensures.answers c.in_ok-answers.ensures.all))
+
+pub returns-in_err-keep_answers-clause-faults : goal.returns-in_err-keep_answers-clause-faults
+returns-in_err-keep_answers-clause-faults g c =
+    let exit = err_from_is_err_and c.from_residual-in_err-keep_answers.result c.from_residual-in_err-keep_answers.ensures.1 in
+    rw (exit.1, exit.2)
+    (stayed (faults_of (spawners_seen g.S.Spawner c.args.spawners.now.items)) (faults_of (spawners_seen g.S.Spawner c.run_jobs.new.spawners.items)) c.in_ok-answers.ensures.faults)
 
 pub returns-clause-all : goal.returns-clause-all
 returns-clause-all g c =
-    subst (λ (ms : List Member). RunsAll c.args.frame.now (unmet (keys_of c.args.kept.now) ms) (g.S.Spawner.runs c.args.spawner.now) (g.S.Spawner.runs c.loop-member.spawner) c.args.kept.now c.loop-member.kept)
-    (take_all c.loop-member.member-index c.args.group.now (omega arith)) c.loop-member.invariant.0
-
-pub returns-in_err-ask-clause-grows : goal.returns-in_err-ask-clause-grows
-returns-in_err-ask-clause-grows g c = ran_then _ _ _ c.loop-member.invariant.2 c.ask.ensures.grows
+    ran_all c.args.frame.now (unmet (keys_of c.args.kept.now) c.args.group.now) c.as_slice.result.now c.as_slice-2.result.now c.in_ok-answers.answers.items
+    (spawners_seen g.S.Spawner c.args.spawners.now.items) (spawners_seen g.S.Spawner c.run_jobs.new.spawners.items) c.args.kept.now c.keep_answers.new.kept
+    (c.as_slice.ensures ∙ c.in_ok-asked.ensures.jobs) (c.as_slice-2.ensures ∙ c.in_ok-asked.ensures.keys) c.in_ok-answers.ensures.answers c.in_ok-answers.ensures.all
+    (c.in_ok-keep_answers.ensures ∙ ap (λ (answers : List Probed). c.args.kept.now ++ rows_of c.as_slice-2.result.now answers) c.as_slice-3.ensures.value)
