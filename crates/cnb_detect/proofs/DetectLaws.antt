@@ -1,5 +1,5 @@
 -- What follows from the definition of `detect`.
-use Rattle.std.proofs.Common.{◌≡◌, ◌∙◌, refl, sym, ap, subst, ℕ, Bool, true, false, ◌&&◌, List, Option, Some, None, Result, Ok, Err, inl, inr, ◌⊎◌}
+use Rattle.std.proofs.Common.{◌≡◌, refl, ℕ, Bool, true, false, ◌&&◌, List, Option, Some, None, Result, Ok, Err}
 use Rattle.std.specs.Prelude.{IfSome}
 use Rattle.cnb_world.specs.Tree.{Tree}
 use Rattle.cnb_world.specs.declared.env.Variable.{Variable}
@@ -15,14 +15,14 @@ use Rattle.bp_docs.specs.declared.descriptor.Entry.{Entry}
 use Rattle.order_expand.specs.Check.{checked}
 use Rattle.order_expand.specs.declared.order.OrderFault.{OrderFault}
 use Rattle.order_expand.specs.declared.order.OrderFault.TheVariants as order
-use Rattle.steps.specs.Outside.{Outside, Seen}
+use Rattle.steps.specs.Outside.{Outside}
 use Rattle.steps.specs.Results.{with_fault}
 use Rattle.steps.specs.Steps.{gives, map_err, reads}
 use Rattle.steps.proofs.ReadingLaws.{OnlyReads, gives_known, may_as, reads_files, reads_then, reads_told}
 use Rattle.steps.proofs.StepLemmas.{allowed_by, ended, mapped_fault, within}
 use Rattle.cnb_detect.specs.declared.refusal.DetectRefusal.{DetectRefusal}
 use Rattle.cnb_detect.specs.declared.refusal.DetectRefusal.TheVariants.{Memory}
-use Rattle.cnb_detect.specs.Detects.{detects}
+use Rattle.cnb_detect.specs.Detects.{chooses, detects}
 use Rattle.cnb_detect.specs.declared.preparation.Prepared.{Prepared}
 use Rattle.cnb_detect.specs.Outcome.{prepared_in}
 use Rattle.cnb_detect.specs.Preparation.{frame_of, is_fit_preparation, prepares}
@@ -34,16 +34,16 @@ any_files (Some files) = tt
 
 -- memory may run out before anything is done
 pub no_memory_at_once : (options : DetectWords) (env : List Variable) (old : Outside) → detects options env old (Err Memory) old
-unfolding detects prepares reads
+unfolding detects chooses prepares reads
 no_memory_at_once options env old =
-    ended _ _ old old Memory (within _ old.world old.world old.spawners (Err Memory)
+    ended _ _ old old Memory (ended _ _ old old Memory (within _ old.world old.world old.spawners (Err Memory)
     (ended _ _ old.world old.world Memory (mapped_fault of_read_fault _ old.world old.world read.Memory
     (record {
       same = record { files = refl; runs = refl };
       answer = any_files old.world.files;
       cause = tt;
       allows = allowed_by (is_fit_order_file options.order) old.world.files old.world.misused old.world.misused refl;
-    }))))
+    })))))
 
 -- ---- what is read
 

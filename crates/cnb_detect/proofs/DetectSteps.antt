@@ -1,34 +1,33 @@
 -- What the calls of the layers below say, as steps.
-use Rattle.std.proofs.Common.{◌≡◌, ◌∙◌, refl, sym, ap, subst, ℕ, ◌≤◌, Bool, zero, suc, List, [], ◌∷◌, map, take, Option, Some, None, Result, Ok, Err, arith}
-use Rattle.std.specs.Prelude.{IfErr, IfSome, OnErr}
+use Rattle.std.proofs.Common.{◌≡◌, refl, sym, ap, ℕ, Bool, List, map, Option, Some, None, Result, Ok, Err, arith}
+use Rattle.std.specs.Prelude.{IfErr, IfSome}
 use Rattle.std.specs.Option.{option_map}
 use Rattle.cnb_world.specs.Calls.{MayMisuse, Rose}
 use Rattle.cnb_world.specs.Runs.{Ran}
 use Rattle.cnb_world.specs.Tree.{Tree}
-use Rattle.cnb_world.specs.declared.child.DetectJob.{DetectJob}
+use Rattle.cnb_toml.specs.declared.names.Key.{Key}
 use Rattle.doc_files.specs.declared.fault.ReadFault.{ReadFault}
 use Rattle.doc_files.specs.declared.fault.ReadFault.TheVariants as read
 use Rattle.doc_files.specs.Reading as reading
 use Rattle.order_expand.specs.Check.{ChecksAs}
-use Rattle.order_expand.specs.Groups.{listed_groups}
-use Rattle.order_expand.specs.declared.member.Member.{Member}
 use Rattle.order_expand.specs.declared.order.OrderFault.{OrderFault}
 use Rattle.order_expand.specs.declared.order.OrderFault.TheVariants as order
-use Rattle.detect_core.specs.Detection.{members_of}
-use Rattle.detect_core.specs.Job.{detect_job}
-use Rattle.detect_core.specs.Search.{AsksSome}
+use Rattle.detect_core.specs.Answer.{build_plan, says}
+use Rattle.detect_core.specs.Detection.{Ending, FirstTrial, TooManyTrials, asked_keys, first_trial, has_erred}
+use Rattle.detect_core.specs.Search.{DetectsAs, OnDetected, RunsAsked}
+use Rattle.detect_core.specs.declared.chosen.DetectEnd.{DetectEnd}
+use Rattle.detect_core.specs.declared.chosen.DetectEnd.TheVariants as end
 use Rattle.detect_core.specs.declared.chosen.Chosen.{Chosen}
 use Rattle.steps.specs.Asking.{AreSome, AskedBy, AsksBy, asks}
-use Rattle.steps.specs.Causes.{Cause, FileFailed, ChildFailed, OutOfMemory, Decided, CountsFiles, FilesBy, IsAnswer, OnAnswer, IsReadCause, WhereDecided}
+use Rattle.steps.specs.Causes.{Cause, FileFailed, ChildFailed, OutOfMemory, Decided, FilesBy, IsAnswer, IsReadCause, WhereDecided}
 use Rattle.cnb_world.specs.declared.world.World as world
 use Rattle.steps.specs.Outside.{SpawnerSeen, seen}
 use Rattle.steps.specs.Steps.{gives, reads}
-use Rattle.steps.proofs.AskingLemmas.{some_by_take}
 use Rattle.steps.proofs.StepLemmas.{given_fault, read_so}
 use Rattle.cnb_detect.specs.declared.preparation.Prepared.{Prepared}
-use Rattle.cnb_detect.specs.declared.refusal.DetectRefusal.{DetectRefusal}
-use Rattle.cnb_detect.specs.Choice.{Choice, as_choice, choice_of, jobs_of, listed_jobs}
-use Rattle.cnb_detect.specs.Refusals.{cause_of, order_cause, read_cause}
+use Rattle.cnb_detect.specs.Choice.{as_choice, choice_by, choice_in, choice_of, jobs_of, listed_jobs}
+use Rattle.cnb_detect.specs.declared.refusal.DetectRefusal.TheVariants.{NoGroup}
+use Rattle.cnb_detect.specs.Refusals.{cause_of, of_detect_end, order_cause, read_cause}
 
 answer_of : {T : Type 0} (result want : Result T ReadFault) → reading.Reads result want → IsAnswer read_cause result want
 answer_of (Ok value) want h = h
@@ -65,17 +64,6 @@ check_step order.ManyGroups want old h = given_fault order_cause want old order.
 check_step order.LongGroup want old h = given_fault order_cause want old order.LongGroup (sym h) tt
 check_step order.Memory want old h = given_fault order_cause want old order.Memory tt tt
 
-map-take : {A B : Type 0} (f : A → B) (n : ℕ) (xs : List A) → map f (take n xs) ≡ take n (map f xs)
-map-take f zero xs = refl
-map-take f (suc n) [] = refl
-map-take f (suc n) (x ∷ xs) = ap (λ rest. f x ∷ rest) (map-take f n xs)
-
-some_of : (prepared : Prepared) (rans : List Ran) → AsksSome prepared.frame (listed_groups prepared.catalog prepared.order) rans → AreSome (map (λ ran. ran.job) rans) (listed_jobs prepared)
-some_of prepared rans (count, jobs) =
-    subst (λ (some : List DetectJob). AreSome some (listed_jobs prepared))
-    (sym (jobs ∙ map-take (detect_job prepared.frame) count (members_of (listed_groups prepared.catalog prepared.order))))
-    (some_by_take count (listed_jobs prepared))
-
 -- a refusal of the children that were asked: no call on a file is made
 asks_by : (cause : Cause) (Few P Q : Type 0) → ((n : ℕ) → FilesBy cause n n) → Few → WhereDecided cause P → WhereDecided cause Q → AsksBy cause Few (P × Q)
 asks_by (FileFailed path) Few P Q quiet few p q = let rose : Rose 0 0 = quiet 0 in let up = rose.up in absurd (omega arith)
@@ -83,15 +71,55 @@ asks_by ChildFailed Few P Q quiet few p q = few
 asks_by OutOfMemory Few P Q quiet few p q = few
 asks_by Decided Few P Q quiet few p q = (p, q)
 
--- children that were asked
-pub asked_step : (prepared : Prepared) (answers : List Ran) (old new : List SpawnerSeen) (result : Result Chosen DetectRefusal)
-    → IsAnswer cause_of (as_choice result) (choice_of prepared answers) → OnAnswer cause_of result (map (λ ran. ran.job) answers ≡ jobs_of prepared answers)
-    → OnErr result (AsksSome prepared.frame (listed_groups prepared.catalog prepared.order) answers) → AskedBy answers old new → ((n : ℕ) → CountsFiles cause_of result n n)
-    → asks cause_of (listed_jobs prepared) (jobs_of prepared) (choice_of prepared) old (as_choice result) new
-unfolding asks
-asked_step prepared answers old new (Ok chosen) chooses jobs some asked quiet = record { answers = answers; asked = asked; meets = (jobs, chooses) }
-asked_step prepared answers old new (Err refusal) chooses jobs some asked quiet = record {
-  answers = answers;
-  asked = asked;
-  meets = asks_by (cause_of refusal) (AreSome (map (λ ran. ran.job) answers) (listed_jobs prepared)) (map (λ ran. ran.job) answers ≡ jobs_of prepared answers) (choice_of prepared answers ≡ Err refusal) quiet (some_of prepared answers some) jobs chooses;
-}
+-- the choice of a detection that ended so
+chosen_so : (chosen : Chosen) (ending : Option Ending) (asked : List Key) (erred : Bool) → DetectsAs (Ok chosen) ending asked erred → choice_by erred ending ≡ Ok (choice_in chosen)
+chosen_so chosen (Some (FirstTrial place resolved kept)) asked erred h = λ i. Ok (record { group = sym h.group i; plan = sym h.plan i })
+chosen_so chosen (Some (TooManyTrials place)) asked erred h = absurd h
+chosen_so chosen None asked erred h = absurd h
+
+refused_so : (end : DetectEnd) (ending : Option Ending) (asked : List Key) (erred : Bool) → DetectsAs (Err end) ending asked erred
+    → WhereDecided (cause_of (of_detect_end end)) (choice_by erred ending ≡ Err (of_detect_end end))
+refused_so end.ManyTrials (Some (TooManyTrials place)) asked erred h = refl
+refused_so end.ManyTrials (Some (FirstTrial place resolved kept)) asked erred h = absurd h
+refused_so end.ManyTrials None asked erred h = absurd h
+refused_so (end.NoGroup told) None asked erred h = ap (λ e. Err (NoGroup e)) (sym h)
+refused_so (end.NoGroup told) (Some ending) asked erred h = absurd h
+refused_so end.Child ending asked erred h = tt
+refused_so end.Memory ending asked erred h = tt
+
+jobs_where : (end : DetectEnd) (P : Type 0) → OnDetected (Err end) P → WhereDecided (cause_of (of_detect_end end)) P
+jobs_where end.ManyTrials P h = h
+jobs_where (end.NoGroup erred) P h = h
+jobs_where end.Child P h = tt
+jobs_where end.Memory P h = tt
+
+no_file : (end : DetectEnd) (n : ℕ) → FilesBy (cause_of (of_detect_end end)) n n
+no_file end.ManyTrials n = refl
+no_file (end.NoGroup erred) n = refl
+no_file end.Child n = refl
+no_file end.Memory n = omega arith
+
+-- children that were asked, and that decided or did not
+module _ (prepared : Prepared) (old new : List SpawnerSeen) where
+  pub asked_chosen : (chosen : Chosen) → RunsAsked prepared.frame prepared.catalog prepared.order old (Ok chosen) new → ((finished : List Ran) → AskedBy finished old new
+      → DetectsAs (Ok chosen) (first_trial (says build_plan finished) prepared.catalog prepared.order) (asked_keys (says build_plan finished) prepared.catalog prepared.order) (has_erred (says build_plan finished) prepared.catalog prepared.order))
+      → asks cause_of (listed_jobs prepared) (jobs_of prepared) (choice_of prepared) old (as_choice (Ok chosen)) new
+  unfolding asks choice_of
+  asked_chosen chosen r detects = record {
+    answers = r.answers;
+    asked = r.asked;
+    meets = (r.exactly, chosen_so chosen _ _ _ (detects r.answers r.asked));
+  }
+
+  pub asked_refused : (end : DetectEnd) → RunsAsked prepared.frame prepared.catalog prepared.order old (Err end) new → ((finished : List Ran) → AskedBy finished old new
+      → DetectsAs (Err end) (first_trial (says build_plan finished) prepared.catalog prepared.order) (asked_keys (says build_plan finished) prepared.catalog prepared.order) (has_erred (says build_plan finished) prepared.catalog prepared.order))
+      → asks cause_of (listed_jobs prepared) (jobs_of prepared) (choice_of prepared) old (as_choice (Err (of_detect_end end))) new
+  unfolding asks choice_of
+  asked_refused end r detects = record {
+    answers = r.answers;
+    asked = r.asked;
+    meets = asks_by (cause_of (of_detect_end end)) (AreSome (map (λ ran. ran.job) r.answers) (listed_jobs prepared)) (map (λ ran. ran.job) r.answers ≡ jobs_of prepared r.answers)
+        (choice_by (has_erred (says build_plan r.answers) prepared.catalog prepared.order) (first_trial (says build_plan r.answers) prepared.catalog prepared.order) ≡ Err (of_detect_end end)) (no_file end) r.some
+        (jobs_where end (map (λ ran. ran.job) r.answers ≡ jobs_of prepared r.answers) r.exactly)
+        (refused_so end _ _ _ (detects r.answers r.asked));
+  }

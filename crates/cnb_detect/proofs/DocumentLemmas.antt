@@ -1,5 +1,5 @@
 -- The two documents of a choice: what each write leaves at both paths.
-use Rattle.std.proofs.Common.{◌≡◌, ◌∙◌, refl, ap, ℕ, ◌+◌, ◌<◌, Bool, true, false, cond, List, [], ◌∷◌, ◌++◌, length, length-append, codes, arith, Option, Some, None, inl, inr}
+use Rattle.std.proofs.Common.{◌≡◌, ◌∙◌, refl, ap, ℕ, ◌+◌, ◌<◌, Bool, true, false, cond, List, [], ◌∷◌, ◌++◌, length, length-append, codes, arith, take, Option, Some, None, inl, inr}
 use Rattle.std.specs.Option.{option_map}
 use Rattle.std.specs.Str.{bytes_eq}
 use Rattle.std.specs.FinMap.{get}
@@ -7,11 +7,12 @@ use Rattle.cnb_world.specs.declared.world.Item.{Item}
 use Rattle.cnb_world.specs.declared.world.Item.TheVariants.{Folder, File}
 use Rattle.cnb_world.specs.Path.{parent_of, beside, is_path, joined}
 use Rattle.cnb_world.specs.Tree.{Tree, item_at, is_root, folder_made}
-use Rattle.cnb_world.specs.Whole.{written, left_of, LeavesPart}
+use Rattle.cnb_world.specs.Whole.{Progress, Unbegun, FolderMade, PartBeside, written, left_of}
 use Rattle.cnb_world.proofs.Joins.{parent_of_file}
 use Rattle.cnb_world.proofs.Trees.{get-insert_bytes, get-remove_bytes, get-insert_same, get-insert_other, bytes_eq-other}
 use Rattle.cnb_world.proofs.Folders.{get-folder_made_longer, not_longer}
 use Rattle.steps.specs.Frames.{standing, IsOldOrNew}
+use Rattle.steps.specs.Steps.{LeavesSome}
 use Rattle.cnb_detect.specs.Documents.{group_document, plan_document}
 
 -- two documents of one folder, neither of which is where the other is written before it gets its name
@@ -75,18 +76,17 @@ written_other t p q bytes ne besides below =
 written_same : (t : Tree) (p bytes : List ℕ) → 1 < length p → item_at (written p bytes t) p ≡ Some (File false bytes)
 written_same t p bytes long = ap (λ b. cond b (Some Folder) (get (written p bytes t) p)) (no_root p long) ∙ get-insert_same _ p _
 
-left_other : (made : Bool) (part : Option (List ℕ)) (t : Tree) (p q : List ℕ) → (length q ≡ length p + 4 → ⊥) → length (parent_of p) < length q → item_at (left_of made part p t) q ≡ item_at t q
-left_other true None t p q besides below = at_get _ _ q (get-folder_made_longer (parent_of p) q t below)
-left_other false None t p q besides below = refl
-left_other true (Some bytes) t p q besides below =
-    at_get _ _ q (get-insert_bytes _ (beside p) _ q ∙ ap (λ b. cond b (Some (File false bytes)) (get (folder_made (parent_of p) t) q)) (unlike q (beside p) (λ e. besides (e ∙ longer p))) ∙ get-folder_made_longer (parent_of p) q t below)
-left_other false (Some bytes) t p q besides below =
-    at_get _ _ q (get-insert_bytes _ (beside p) _ q ∙ ap (λ b. cond b (Some (File false bytes)) (get t q)) (unlike q (beside p) (λ e. besides (e ∙ longer p))))
+left_other : (progress : Progress) (bytes : List ℕ) (t : Tree) (p q : List ℕ) → (length q ≡ length p + 4 → ⊥) → length (parent_of p) < length q → item_at (left_of progress p bytes t) q ≡ item_at t q
+left_other Unbegun bytes t p q besides below = refl
+left_other FolderMade bytes t p q besides below = at_get _ _ q (get-folder_made_longer (parent_of p) q t below)
+left_other (PartBeside count) bytes t p q besides below =
+    at_get _ _ q (get-insert_bytes _ (beside p) _ q ∙ ap (λ b. cond b (Some (File false (take count bytes))) (get (folder_made (parent_of p) t) q)) (unlike q (beside p) (λ e. besides (e ∙ longer p))) ∙ get-folder_made_longer (parent_of p) q t below)
 
 -- the same where the tree may not be told
-left_standing : (o o1 : Option Tree) (p q : List ℕ) → (length q ≡ length p + 4 → ⊥) → length (parent_of p) < length q → LeavesPart o o1 p → standing o1 q ≡ standing o q
-left_standing None o1 p q besides below (made, part, e) = ap (λ x. standing x q) e
-left_standing (Some t) o1 p q besides below (made, part, e) = ap (λ x. standing x q) e ∙ ap Some (left_other made part t p q besides below)
+left_standing : (o o1 : Option Tree) (p q : List ℕ) (Says : List ℕ → Type 0) → (length q ≡ length p + 4 → ⊥) → length (parent_of p) < length q → LeavesSome p Says o o1 → standing o1 q ≡ standing o q
+left_standing o o1 p q Says besides below (inl same) = ap (λ x. standing x q) same
+left_standing None o1 p q Says besides below (inr (bytes, says, (progress, fits, e))) = ap (λ x. standing x q) e
+left_standing (Some t) o1 p q Says besides below (inr (bytes, says, (progress, fits, e))) = ap (λ x. standing x q) e ∙ ap Some (left_other progress bytes t p q besides below)
 
 other_standing : (o o1 : Option Tree) (p q bytes : List ℕ) → (length q ≡ length p → ⊥) → (length q ≡ length p + 4 → ⊥) → length (parent_of p) < length q → o1 ≡ option_map (written p bytes) o → standing o1 q ≡ standing o q
 other_standing None o1 p q bytes ne besides below e = ap (λ x. standing x q) e
@@ -111,20 +111,20 @@ module _ (work : List ℕ) (path : is_path work ≡ true) where
   plan_below folder e = let same : length folder ≡ length work = ap length e in let less = a.plan_below in omega arith
 
   -- the group's write was refused
-  pub first_refused_group : (o o1 : Option Tree) (Reads : List ℕ → Type 0) → LeavesPart o o1 (group_document work) → IsOldOrNew o o1 (group_document work) Reads
-  first_refused_group o o1 Reads h = inl (left_standing o o1 (group_document work) (group_document work) (λ e. omega (arith, e)) (group_below _ a.folder) h)
+  pub first_refused_group : (o o1 : Option Tree) (Reads Says : List ℕ → Type 0) → LeavesSome (group_document work) Says o o1 → IsOldOrNew o o1 (group_document work) Reads
+  first_refused_group o o1 Reads Says h = inl (left_standing o o1 (group_document work) (group_document work) Says (λ e. omega (arith, e)) (group_below _ a.folder) h)
 
-  pub first_refused_plan : (o o1 : Option Tree) (Reads : List ℕ → Type 0) → LeavesPart o o1 (group_document work) → IsOldOrNew o o1 (plan_document work) Reads
-  first_refused_plan o o1 Reads h = inl (left_standing o o1 (group_document work) (plan_document work) (λ e. let more = a.other in omega (arith, e, more)) (plan_below _ a.folder) h)
+  pub first_refused_plan : (o o1 : Option Tree) (Reads Says : List ℕ → Type 0) → LeavesSome (group_document work) Says o o1 → IsOldOrNew o o1 (plan_document work) Reads
+  first_refused_plan o o1 Reads Says h = inl (left_standing o o1 (group_document work) (plan_document work) Says (λ e. let more = a.other in omega (arith, e, more)) (plan_below _ a.folder) h)
 
   -- the plan's write was refused
-  pub second_refused_group : (o o1 o2 : Option Tree) (bytes : List ℕ) (Reads : List ℕ → Type 0) → Reads bytes → o1 ≡ option_map (written (group_document work) bytes) o → LeavesPart o1 o2 (plan_document work) → IsOldOrNew o o2 (group_document work) Reads
-  second_refused_group o o1 o2 bytes Reads reads e h =
-      inr (bytes, reads, left_standing o1 o2 (plan_document work) (group_document work) (λ x. let more = a.other in omega (arith, x, more)) (group_below _ a.plan_folder) h ∙ same_standing o o1 (group_document work) bytes a.long e)
+  pub second_refused_group : (o o1 o2 : Option Tree) (bytes : List ℕ) (Reads Says : List ℕ → Type 0) → Reads bytes → o1 ≡ option_map (written (group_document work) bytes) o → LeavesSome (plan_document work) Says o1 o2 → IsOldOrNew o o2 (group_document work) Reads
+  second_refused_group o o1 o2 bytes Reads Says reads e h =
+      inr (bytes, reads, left_standing o1 o2 (plan_document work) (group_document work) Says (λ x. let more = a.other in omega (arith, x, more)) (group_below _ a.plan_folder) h ∙ same_standing o o1 (group_document work) bytes a.long e)
 
-  pub second_refused_plan : (o o1 o2 : Option Tree) (bytes : List ℕ) (Reads : List ℕ → Type 0) → o1 ≡ option_map (written (group_document work) bytes) o → LeavesPart o1 o2 (plan_document work) → IsOldOrNew o o2 (plan_document work) Reads
-  second_refused_plan o o1 o2 bytes Reads e h =
-      inl (left_standing o1 o2 (plan_document work) (plan_document work) (λ x. omega (arith, x)) (plan_below _ a.plan_folder) h
+  pub second_refused_plan : (o o1 o2 : Option Tree) (bytes : List ℕ) (Reads Says : List ℕ → Type 0) → o1 ≡ option_map (written (group_document work) bytes) o → LeavesSome (plan_document work) Says o1 o2 → IsOldOrNew o o2 (plan_document work) Reads
+  second_refused_plan o o1 o2 bytes Reads Says e h =
+      inl (left_standing o1 o2 (plan_document work) (plan_document work) Says (λ x. omega (arith, x)) (plan_below _ a.plan_folder) h
       ∙ other_standing o o1 (group_document work) (plan_document work) bytes (λ x. let more = a.other in omega (arith, x, more)) (λ x. let more = a.other in omega (arith, x, more)) (plan_below _ a.folder) e)
 
   -- both were written

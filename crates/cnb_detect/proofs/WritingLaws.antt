@@ -1,23 +1,22 @@
 -- What follows from the writing of a choice.
-use Rattle.std.proofs.Common.{◌≡◌, ◌∙◌, refl, sym, ap, subst, ℕ, ◌≤◌, Bool, true, false, ◌&&◌, List, Option, Some, None, Result, Ok, Err, inl, inr, ◌⊎◌, arith}
+use Rattle.std.proofs.Common.{◌≡◌, ◌∙◌, refl, sym, ap, subst, ℕ, true, List, Option, Some, None, Result, Ok, Err, inl, inr}
 use Rattle.std.specs.Option.{option_map}
 use Rattle.cnb_world.specs.Calls.{MayMisuse}
 use Rattle.cnb_world.specs.Path.{is_path}
 use Rattle.cnb_world.specs.Tree.{Tree}
-use Rattle.cnb_world.specs.Whole.{can_write, left_of, written, LeavesPart}
+use Rattle.cnb_world.specs.Whole.{can_write, written}
 use Rattle.run_docs.specs.Group.{group_in}
 use Rattle.run_docs.specs.Plan.{plan_in}
-use Rattle.steps.specs.Causes.{Cause, FileFailed, ChildFailed, OutOfMemory, Decided, IsWriteCause, WhereDecided}
+use Rattle.steps.specs.Causes.{IsWriteCause}
 use Rattle.steps.specs.Frames.{IsOldOrNew, is_free, standing, touched}
 use Rattle.steps.specs.Outside.{Seen}
 use Rattle.steps.specs.Steps.{◌>>=◌, LeavesUnwritten, Writes, writes, yields}
-use Rattle.steps.proofs.FrameLaws.{left_free, step_at, written_free}
+use Rattle.steps.proofs.FrameLaws.{some_left, step_at, written_free}
 use Rattle.steps.proofs.ReadingLaws.{may_first}
 use Rattle.cnb_detect.specs.declared.refusal.DetectRefusal.{DetectRefusal}
-use Rattle.cnb_detect.specs.declared.refusal.DetectRefusal.TheVariants.{File, Memory, Child}
+use Rattle.cnb_detect.specs.declared.refusal.DetectRefusal.TheVariants.{File, Memory}
 use Rattle.cnb_detect.specs.Choice.{Choice}
 use Rattle.cnb_detect.specs.Documents.{can_write_choice, group_document, plan_document, writes_choice}
-use Rattle.cnb_detect.specs.Outcome.{KeepsFiles}
 use Rattle.cnb_detect.specs.Refusals.{cause_of}
 use Rattle.cnb_detect.proofs.DocumentLemmas.{first_refused_group, first_refused_plan, second_refused_group, second_refused_plan, both_group, both_plan}
 use Rattle.cnb_detect.proofs.FitLemmas.{may_write}
@@ -62,9 +61,6 @@ composed : (o : Option Tree) (f g : Tree → Tree) → option_map g (option_map 
 composed None f g = refl
 composed (Some t) f g = refl
 
-left_standing_free : (p q : List ℕ) (o o1 : Option Tree) → is_free (touched p) q ≡ true → LeavesPart o o1 p → standing o1 q ≡ standing o q
-left_standing_free p q o o1 free (made, part, e) = step_at o o1 (left_of made part p) q (λ t. left_free made part t p q free) e
-
 module _ (work : List ℕ) (choice : Choice) (path : is_path work ≡ true) where
   abbrev IsGroup : List ℕ → Type 0
   IsGroup bytes = group_in bytes ≡ Ok choice.group
@@ -90,24 +86,24 @@ module _ (work : List ℕ) (choice : Choice) (path : is_path work ≡ true) wher
     misused = may_write work h.bytes old.files mid.files old.misused mid.misused new.misused path h.files h.allows k.allows;
   }
 
-  group_refused : (old new : Seen) (refusal : DetectRefusal) → IsWriteCause (group_document work) (cause_of refusal) → LeavesUnwritten (group_document work) old new → ChoiceWritten work choice old (Err refusal) new
+  group_refused : (old new : Seen) (refusal : DetectRefusal) → IsWriteCause (group_document work) (cause_of refusal) → LeavesUnwritten (group_document work) IsGroup old new → ChoiceWritten work choice old (Err refusal) new
   group_refused old new refusal cause h = record {
     both = tt;
     cause = refusal_of_write (group_document work) refusal cause;
-    group = first_refused_group work path old.files new.files IsGroup h.files;
-    plan = first_refused_plan work path old.files new.files IsPlan h.files;
-    others = λ q g p. left_standing_free (group_document work) q old.files new.files g h.files;
+    group = first_refused_group work path old.files new.files IsGroup IsGroup h.files;
+    plan = first_refused_plan work path old.files new.files IsPlan IsGroup h.files;
+    others = λ q g p. some_left old.files new.files (group_document work) q IsGroup g h.files;
     runs = h.runs;
     misused = may_first (can_write (group_document work)) (can_write (plan_document work)) old.files old.misused new.misused h.allows;
   }
 
-  plan_refused : (old mid new : Seen) (refusal : DetectRefusal) → Writes (group_document work) IsGroup old mid → IsWriteCause (plan_document work) (cause_of refusal) → LeavesUnwritten (plan_document work) mid new → ChoiceWritten work choice old (Err refusal) new
+  plan_refused : (old mid new : Seen) (refusal : DetectRefusal) → Writes (group_document work) IsGroup old mid → IsWriteCause (plan_document work) (cause_of refusal) → LeavesUnwritten (plan_document work) IsPlan mid new → ChoiceWritten work choice old (Err refusal) new
   plan_refused old mid new refusal h cause k = record {
     both = tt;
     cause = refusal_of_write (plan_document work) refusal cause;
-    group = second_refused_group work path old.files mid.files new.files h.bytes IsGroup h.says h.files k.files;
-    plan = second_refused_plan work path old.files mid.files new.files h.bytes IsPlan h.files k.files;
-    others = λ q g p. left_standing_free (plan_document work) q mid.files new.files p k.files
+    group = second_refused_group work path old.files mid.files new.files h.bytes IsGroup IsPlan h.says h.files k.files;
+    plan = second_refused_plan work path old.files mid.files new.files h.bytes IsPlan IsPlan h.files k.files;
+    others = λ q g p. some_left mid.files new.files (plan_document work) q IsPlan p k.files
         ∙ step_at old.files mid.files (written (group_document work) h.bytes) q (λ t. written_free t (group_document work) q h.bytes g) h.files;
     runs = k.runs ∙ h.runs;
     misused = may_write work h.bytes old.files mid.files old.misused mid.misused new.misused path h.files h.allows k.allows;

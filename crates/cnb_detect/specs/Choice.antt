@@ -10,7 +10,7 @@ use Rattle.detect_core.specs.declared.chosen.Chosen.{Chosen}
 use Rattle.detect_core.specs.Answer.{says, build_plan}
 use Rattle.detect_core.specs.Detection.{Ending, TooManyTrials, FirstTrial, first_trial, asked_members, has_erred, members_of}
 use Rattle.detect_core.specs.Job.{detect_job}
-use Rattle.detect_core.specs.Search.{first_runs, group_rows, since}
+use Rattle.detect_core.specs.Search.{group_rows}
 use Rattle.cnb_detect.specs.declared.preparation.Prepared.{Prepared}
 use Rattle.cnb_detect.specs.declared.refusal.DetectRefusal.{DetectRefusal}
 use Rattle.cnb_detect.specs.declared.refusal.DetectRefusal.TheVariants.{Limit, NoGroup}
@@ -42,10 +42,6 @@ listed_jobs prepared = map (detect_job prepared.frame) (members_of (listed_group
 abbrev pub choice_in : Chosen → Choice
 choice_in chosen = record { group = chosen.group; plan = chosen.plan }
 
-abbrev pub as_choice : Result Chosen DetectRefusal → Result Choice DetectRefusal
+abbrev pub as_choice : {E : Type 0} → Result Chosen E → Result Choice E
 as_choice (Ok chosen) = Ok (choice_in chosen)
 as_choice (Err refusal) = Err refusal
-
--- the children that the first of some spawners ran in a call
-abbrev pub new_runs : {S : Type 0} → (S → List Ran) → List S → List S → List Ran
-new_runs runs old new = since (first_runs runs old) (first_runs runs new)

@@ -17,11 +17,16 @@ use Rattle.cnb_detect.specs.Report.{choice_text}
 abbrev pub text_of : Choice → List ℕ
 text_of choice = choice_text choice.group (length choice.plan)
 
--- The files are read, the children are asked and decide, the text is made, and the choice is written.
+-- The files are read, and the children are asked and decide.
+unfoldable pub chooses : DetectWords → List Variable → Outside → Result Choice DetectRefusal → Outside → Type 0
+chooses options env = do
+  prepared ← in_world (prepares options env)
+  in_spawners (asks cause_of (listed_jobs prepared) (jobs_of prepared) (choice_of prepared))
+
+-- A group and its plan are chosen, the text is made, and the choice is written.
 unfoldable pub detects : DetectWords → List Variable → Outside → Result (List ℕ) DetectRefusal → Outside → Type 0
 detects options env = do
-  prepared ← in_world (prepares options env)
-  choice ← in_spawners (asks cause_of (listed_jobs prepared) (jobs_of prepared) (choice_of prepared))
+  choice ← chooses options env
   text ← gives cause_of (Ok (text_of choice))
   written ← in_world (writes_choice options.work choice)
   yields text

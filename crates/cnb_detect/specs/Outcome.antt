@@ -11,6 +11,7 @@ use Rattle.order_files.specs.Catalog.{catalog_in}
 use Rattle.order_files.specs.OrderFile.{order_file_in}
 use Rattle.cnb_env.specs.Files.{platform_files_in}
 use Rattle.order_expand.specs.Check.{checked}
+use Rattle.detect_core.specs.Answer.{build_plan, says}
 use Rattle.run_docs.specs.Group.{group_in}
 use Rattle.run_docs.specs.Plan.{plan_in}
 use Rattle.steps.specs.Asking.{AskedBy}
@@ -68,6 +69,8 @@ WritesBoth (Ok text) work IsChosen old new =
 pub record ComesTo (options : DetectWords) (env : List Variable) (old : Outside) (end : Result (List ℕ) DetectRefusal) (new : Outside) : Type 0 where
   pub answers : List Ran
   pub asked : AskedBy answers old.spawners new.spawners
+  -- in whatever order all spawners' children finished, they say the same
+  pub any_order : (finished : List Ran) → AskedBy finished old.spawners new.spawners → says build_plan finished ≡ says build_plan answers
   pub comes : IfSome old.world.files (λ files. IsAnswer cause_of end (outcome_of (detect_choice options env answers files)))
   pub group : IsOldOrNew old.world.files new.world.files (group_document options.work)
       (λ bytes. IfSome old.world.files (λ files. IsChoiceWith (detect_choice options env answers files) (λ choice. group_in bytes ≡ Ok choice.group)))

@@ -1,26 +1,27 @@
 // The choice of a group and its plan.
-ghost use Rattle.std.specs.Prelude.{◌≡◌, ◌<◌, ℕ, IfOk, IsOk, IsTrue, OnErr, drop, length, map};
+ghost use Rattle.std.specs.Prelude.{◌≡◌, ◌<◌, ℕ, IfOk, IsOk, IsTrue, length};
+ghost use Rattle.cnb_words.specs.Detect.{KeepsLimits};
 ghost use Rattle.order_expand.specs.Check.{checked};
-ghost use Rattle.order_expand.specs.Groups.{listed_groups};
 ghost use Rattle.run_docs.specs.Group.{is_group_doc};
 ghost use Rattle.run_docs.specs.Plan.{is_plan_doc};
-ghost use Rattle.detect_core.specs.Search.{is_short, AsksSome};
-ghost use Rattle.steps.specs.Asking.{AskedBy, CountsSpawners};
-ghost use Rattle.steps.specs.Causes.{CountsFiles, IsAnswer, OnAnswer};
-ghost use Rattle.steps.specs.Outside.{faults_of, spawners_seen};
-ghost use Rattle.cnb_detect.specs.Choice.{as_choice, choice_of, jobs_of, new_runs};
+ghost use Rattle.detect_core.specs.Search.{is_short};
+ghost use Rattle.steps.specs.Asking.{asks, CountsSpawners};
+ghost use Rattle.steps.specs.Causes.{CountsFiles};
+ghost use Rattle.steps.specs.Outside.{faults_of, outside, spawners_seen};
+ghost use Rattle.cnb_detect.specs.Choice.{as_choice, choice_of, jobs_of, listed_jobs};
+ghost use Rattle.cnb_detect.specs.Detects.{chooses};
 ghost use Rattle.cnb_detect.specs.Refusals.{cause_of};
 
-use crate::preparation::Prepared;
+use crate::preparation::{Prepared, prepare};
 use crate::refusal::DetectRefusal;
-use cnb_world::Spawner;
+use cnb_words::DetectWords;
+use cnb_world::{Env, Spawner, World};
 use detect_core::{Chosen, detect};
 use std::alloc::Global;
 use std::thread::Threads;
 
-/// Runs the detect children that have to be asked, and chooses by what they answer.
-#[tactic(auto, unfolding(crate::specs::Choice::choice_of))]
-pub(crate) fn choose<S: Spawner + Send, R: Threads + Sync>(
+// Runs the detect children that have to be asked, and chooses by what they answer.
+fn choose<S: Spawner + Send, R: Threads + Sync>(
     rt: &R,
     alloc: Global,
     prepared: &Prepared,
@@ -31,16 +32,9 @@ pub(crate) fn choose<S: Spawner + Send, R: Threads + Sync>(
     requires short { IsTrue (is_short prepared.now.frame) }
     requires spawners { 0 < length spawners.old.items }
     requires workers { 0 < workers }
-    ensures chooses { let answers = new_runs S.runs spawners.old.items spawners.new.items in
-        IsAnswer cause_of (as_choice result) (choice_of prepared.now answers) }
-    ensures asks { let answers = new_runs S.runs spawners.old.items spawners.new.items in
-        OnAnswer cause_of result (map (λ ran. ran.job) answers ≡ jobs_of prepared.now answers) }
-    ensures some { OnErr result (AsksSome prepared.now.frame (listed_groups prepared.now.catalog prepared.now.order)
-        (new_runs S.runs spawners.old.items spawners.new.items)) }
-    ensures asked_by { AskedBy (new_runs S.runs spawners.old.items spawners.new.items)
-        (spawners_seen S.Spawner spawners.old.items) (spawners_seen S.Spawner spawners.new.items) }
+    ensures step { asks cause_of (listed_jobs prepared.now) (jobs_of prepared.now) (choice_of prepared.now)
+        (spawners_seen S.Spawner spawners.old.items) (as_choice result) (spawners_seen S.Spawner spawners.new.items) }
     ensures written { IfOk result (λ chosen. IsTrue (is_group_doc chosen.group) × IsTrue (is_plan_doc chosen.plan)) }
-    ensures others { drop 1 spawners.new.items ≡ drop 1 spawners.old.items }
     ensures files { (n : ℕ) → CountsFiles cause_of result n n }
     ensures spawners { CountsSpawners cause_of result
         (faults_of (spawners_seen S.Spawner spawners.old.items))
@@ -55,5 +49,32 @@ pub(crate) fn choose<S: Spawner + Send, R: Threads + Sync>(
         workers,
         &prepared.frame,
     )?;
+    Ok(chosen)
+}
+
+/// Chooses the first group that passes, and its plan. Nothing is written (platform.md, "detector").
+pub fn choose_group<W: World, S: Spawner + Send, R: Threads + Sync>(
+    rt: &R,
+    alloc: Global,
+    options: &DetectWords,
+    env: &Env,
+    world: &mut W,
+    spawners: &mut Vec<S>,
+) -> Result<Chosen, DetectRefusal>
+    requires limits { KeepsLimits options.now }
+    requires spawners { 0 < length spawners.old.items }
+    ensures steps { chooses options.now env.now
+        (outside W.World S.Spawner world.old spawners.old.items)
+        (as_choice result)
+        (outside W.World S.Spawner world.new spawners.new.items) }
+    ensures written { IfOk result (λ chosen. IsTrue (is_group_doc chosen.group) × IsTrue (is_plan_doc chosen.plan)) }
+    ensures files { CountsFiles cause_of result (W.file_faults world.old) (W.file_faults world.new) }
+    ensures children { W.child_faults world.new ≡ W.child_faults world.old }
+    ensures spawners { CountsSpawners cause_of result
+        (faults_of (spawners_seen S.Spawner spawners.old.items))
+        (faults_of (spawners_seen S.Spawner spawners.new.items)) }
+{
+    let prepared = prepare(alloc, options, env, world)?;
+    let chosen = choose(rt, alloc, &prepared, spawners, options.workers)?;
     Ok(chosen)
 }

@@ -1,5 +1,5 @@
 // The command `detect`.
-ghost use Rattle.std.specs.Prelude.{◌≡◌, ◌<◌, drop, length};
+ghost use Rattle.std.specs.Prelude.{◌≡◌, ◌<◌, length};
 ghost use Rattle.cnb_words.specs.Detect.{KeepsLimits};
 ghost use Rattle.steps.specs.Asking.{CountsSpawners};
 ghost use Rattle.steps.specs.Causes.{CountsFiles};
@@ -8,9 +8,8 @@ ghost use Rattle.cnb_detect.specs.Detects.{detects};
 ghost use Rattle.cnb_detect.specs.Outcome.{ComesTo};
 ghost use Rattle.cnb_detect.specs.Refusals.{cause_of};
 
-use crate::choosing::choose;
+use crate::choosing::choose_group;
 use crate::documents::write_choice;
-use crate::preparation::prepare;
 use crate::refusal::DetectRefusal;
 use crate::report::choice_text;
 use cnb_words::DetectWords;
@@ -35,13 +34,12 @@ pub fn detect<W: World, S: Spawner + Send, R: Threads + Sync>(
         (outside W.World S.Spawner world.old spawners.old.items)
         result
         (outside W.World S.Spawner world.new spawners.new.items) }
-    // So it comes to the first trial that passes, by the files and by what its children answered, or to its refusal.
+    // So it comes to the first trial that passes, by the files and by what its children answered, however many workers
+    // ran them and in whatever order they finished, or to its refusal.
     ensures outcome { ComesTo options.now env.now
         (outside W.World S.Spawner world.old spawners.old.items)
         result
         (outside W.World S.Spawner world.new spawners.new.items) }
-    // One worker runs all children.
-    ensures others { drop 1 spawners.new.items ≡ drop 1 spawners.old.items }
     ensures files { CountsFiles cause_of result (W.file_faults world.old) (W.file_faults world.new) }
     ensures children { W.child_faults world.new ≡ W.child_faults world.old }
     ensures spawners { CountsSpawners cause_of result
@@ -49,9 +47,8 @@ pub fn detect<W: World, S: Spawner + Send, R: Threads + Sync>(
         (faults_of (spawners_seen S.Spawner spawners.new.items)) }
 {
     let _work = options.work.as_str();
-    let prepared = prepare(alloc, options, env, world)?;
-    let chosen = choose(rt, alloc, &prepared, spawners, options.workers)?;
-    let text = choice_text(alloc, &chosen.group, &chosen.plan)?;
+    let chosen = choose_group(rt, alloc, options, env, world, spawners)?;
+    let text = choice_text(alloc, &chosen.group, chosen.plan.as_slice().len())?;
     write_choice(alloc, world, &options.work, &chosen.group, &chosen.plan)?;
     Ok(text)
 }

@@ -1,5 +1,5 @@
 // The documents of a choice.
-ghost use Rattle.std.specs.Prelude.{◌≡◌, ◌≤◌, ◌<◌, ℕ, List as Seq, IfErr, IsTrue, OnOk, OnErr, length};
+ghost use Rattle.std.specs.Prelude.{◌≡◌, ◌≤◌, ◌<◌, ℕ, List as Seq, IfErr, IfSome, IsTrue, OnOk, OnErr, length};
 ghost use Rattle.std.specs.Option.{option_map};
 ghost use Rattle.cnb_world.specs.Calls.{MayMisuse};
 ghost use Rattle.cnb_world.specs.Path.{beside, is_part, joined};
@@ -32,7 +32,10 @@ fn write_document<W: World>(
     requires short { length folder.now ≤ 4096 }
     ensures ok { OnOk result
         (W.tree world.new ≡ option_map (written (joined folder.now name.now) bytes.now) (W.tree world.old)) }
-    ensures err { OnErr result (LeavesPart (W.tree world.old) (W.tree world.new) (joined folder.now name.now)) }
+    ensures fit { OnOk result
+        (IfSome (W.tree world.old) (λ files. IsTrue (can_write (joined folder.now name.now) files))) }
+    ensures err { OnErr result
+        (LeavesPart (W.tree world.old) (W.tree world.new) (joined folder.now name.now) bytes.now) }
     ensures cause { IfErr result (λ refusal. IsWriteCause (joined folder.now name.now) (cause_of refusal)) }
     ensures files { CountsFiles cause_of result (W.file_faults world.old) (W.file_faults world.new) }
     ensures children { W.child_faults world.new ≡ W.child_faults world.old }
@@ -50,7 +53,7 @@ fn write_document<W: World>(
 }
 
 /// Writes `group.toml` and then `plan.toml` (platform.md, "group.toml (TOML)", "plan.toml (TOML)").
-pub(crate) fn write_choice<W: World>(
+pub fn write_choice<W: World>(
     alloc: Global,
     world: &mut W,
     work: &Path,

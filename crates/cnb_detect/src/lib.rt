@@ -10,6 +10,9 @@ mod preparation;
 mod refusal;
 mod report;
 
+pub use choosing::choose_group;
 pub use detection::detect;
+pub use documents::write_choice;
 pub use preparation::Prepared;
 pub use refusal::DetectRefusal;
+pub use report::choice_text;

@@ -1,17 +1,16 @@
 // What `detect` prints.
-ghost use Rattle.std.specs.Prelude.{◌≡◌, ◌++◌, IfOk, OnOk, length, string_bytes};
+ghost use Rattle.std.specs.Prelude.{◌≡◌, ◌++◌, IfOk, OnOk, string_bytes};
 ghost use Rattle.cnb_detect.specs.Report.{choice_text, pass_line, pass_lines};
 
 use cnb_world::{Memory, Text};
-use run_docs::{GroupDoc, GroupRow, PlanDoc};
+use run_docs::{GroupDoc, GroupRow};
 use std::alloc::{AllocError, Global};
 
 /// The lines of a choice: its buildpacks, and how many entries the plan has.
-pub(crate) fn choice_text(alloc: Global, group: &GroupDoc, plan: &PlanDoc) -> Result<Text, Memory>
-    ensures { IfOk result (λ text. text ≡ choice_text group.now (length plan.now)) }
+pub fn choice_text(alloc: Global, group: &GroupDoc, entries: usize) -> Result<Text, Memory>
+    ensures { IfOk result (λ text. text ≡ choice_text group.now entries) }
 {
     let mut text = pass_lines(alloc, group.as_slice())?;
-    let entries = plan.as_slice().len();
     text.push_str(format!(in alloc; "plan {entries}\n")?.as_str())?;
     Ok(Text::from_string(text))
 }
