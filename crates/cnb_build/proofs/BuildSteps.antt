@@ -1,0 +1,144 @@
+-- What the calls of the layers below say, as steps of a build.
+use Rattle.std.proofs.Common.{◌≡◌, ap, refl, sym, subst, arith, ℕ, Bool, List, Option, Some, None, Result, Ok, Err, inl, inr}
+use Rattle.std.specs.Prelude.{IfSome}
+use Rattle.std.specs.Option.{option_map}
+use Rattle.cnb_world.specs.Calls.{MayMisuse, Rose}
+use Rattle.cnb_world.specs.Tree.{Tree}
+use Rattle.cnb_world.specs.declared.world.FileFault.{FileFault}
+use Rattle.cnb_world.specs.declared.world.FileFault.TheVariants as file_fault
+use Rattle.cnb_world.specs.declared.world.World as world
+use Rattle.cnb_toml.specs.Reading.{Answers}
+use Rattle.cnb_toml.specs.declared.fault.DocFault.{DocFault}
+use Rattle.cnb_toml.specs.declared.fault.DocFault.TheVariants as doc_fault
+use Rattle.doc_files.specs.Counts.{CountsFiles as FileCounts}
+use Rattle.doc_files.specs.Reading as reading
+use Rattle.doc_files.specs.declared.fault.ReadFault.{ReadFault}
+use Rattle.doc_files.specs.declared.fault.ReadFault.TheVariants as read
+use Rattle.steps.specs.Causes.{FilesBy, IsAnswer, IsGivenCause, IsReadCause, IsWriteCause}
+use Rattle.steps.specs.Each.{for_each}
+use Rattle.steps.specs.Outside.{Seen, seen}
+use Rattle.steps.specs.Results.{with_fault}
+use Rattle.steps.specs.Steps.{LeavesSome, reads, writes}
+use Rattle.steps.proofs.StepLemmas.{allowed_by, read_so}
+use Rattle.cnb_build.specs.declared.fault.BuildFault.{BuildFault}
+use Rattle.cnb_build.specs.declared.fault.BuildFault.TheVariants as build
+use Rattle.cnb_build.specs.Reading.{reads_files, value_at}
+use Rattle.cnb_build.specs.Refusals.{cause_of, of_read_fault}
+
+answer_of : {T : Type 0} (result want : Result T ReadFault) → reading.Reads result want → IsAnswer cause_of (with_fault of_read_fault result) (with_fault of_read_fault want)
+answer_of (Ok value) want h = ap (with_fault of_read_fault) h
+answer_of (Err (read.File path)) want h = tt
+answer_of (Err (read.Document path fault)) want h = ap (with_fault of_read_fault) h
+answer_of (Err (read.Limit kind)) want h = ap (with_fault of_read_fault) h
+answer_of (Err read.Memory) want h = tt
+
+answer_where : {T : Type 0} (result : Result T ReadFault) (o : Option Tree) (want : Tree → Result T ReadFault) → IfSome o (λ files. reading.Reads result (want files))
+    → IfSome o (λ files. IsAnswer cause_of (with_fault of_read_fault result) (with_fault of_read_fault (want files)))
+answer_where result None want h = tt
+answer_where result (Some files) want h = answer_of result (want files) h
+
+is_read_cause : (fault : ReadFault) → IsReadCause (cause_of (of_read_fault fault))
+is_read_cause (read.File path) = tt
+is_read_cause (read.Document path fault) = tt
+is_read_cause (read.Limit kind) = tt
+is_read_cause read.Memory = tt
+
+-- files that were read, and files whose reading was refused
+pub read_done : {W T : Type 0} (ghosts : world.Ghosts W) (fits : Tree → Bool) (want : Tree → Result T ReadFault) (value : T) (old new : W)
+    → IfSome (ghosts.tree old) (λ files. reading.Reads (Ok value) (want files)) → ghosts.tree new ≡ ghosts.tree old → ghosts.runs new ≡ ghosts.runs old
+    → MayMisuse (option_map fits (ghosts.tree old)) (ghosts.misused old) (ghosts.misused new) → reads_files fits want (seen ghosts old) (Ok value) (seen ghosts new)
+read_done ghosts fits want value old new answer files runs allows =
+    read_so ghosts cause_of fits (λ files. with_fault of_read_fault (want files)) (Ok value) old new (answer_where (Ok value) (ghosts.tree old) want answer) tt files runs allows
+
+pub read_refused : {W T : Type 0} (ghosts : world.Ghosts W) (fits : Tree → Bool) (want : Tree → Result T ReadFault) (fault : ReadFault) (old new : W)
+    → IfSome (ghosts.tree old) (λ files. reading.Reads {T = T} (Err fault) (want files)) → ghosts.tree new ≡ ghosts.tree old → ghosts.runs new ≡ ghosts.runs old
+    → MayMisuse (option_map fits (ghosts.tree old)) (ghosts.misused old) (ghosts.misused new) → reads_files {A = T} fits want (seen ghosts old) (Err (of_read_fault fault)) (seen ghosts new)
+read_refused ghosts fits want fault old new answer files runs allows =
+    read_so ghosts cause_of fits (λ files. with_fault of_read_fault (want files)) (Err (of_read_fault fault)) old new (answer_where (Err fault) (ghosts.tree old) want answer) (is_read_cause fault) files runs allows
+
+free_where : (o : Option Tree) → IfSome o (λ files. Unit {0})
+free_where None = tt
+free_where (Some files) = tt
+
+-- memory ran out before files were read
+pub not_read : {T : Type 0} (fits : Tree → Bool) (want : Tree → Result T ReadFault) (old : Seen) → reads_files fits want old (Err build.Memory) old
+unfolding reads
+not_read fits want old = record {
+  same = record { files = refl; runs = refl };
+  answer = free_where old.files;
+  cause = tt;
+  allows = allowed_by fits old.files old.misused old.misused refl;
+}
+
+-- two spellings of what is read
+pub reads_same : {B T : Type 0} (fits : B → Tree → Bool) (want : B → Tree → Result T ReadFault) (one other : B) (result : Result T BuildFault) (old new : Seen) → one ≡ other
+    → reads_files (fits one) (want one) old result new → reads_files (fits other) (want other) old result new
+reads_same {B} {T} fits want one other result old new same h = subst (λ b. reads_files {A = T} (fits b) (want b) old result new) same h
+
+more_left : (path : List ℕ) (Says Means : List ℕ → Type 0) → ((bytes : List ℕ) → Says bytes → Means bytes) → (old new : Option Tree) → LeavesSome path Says old new → LeavesSome path Means old new
+more_left path Says Means means old new (inl same) = inl same
+more_left path Says Means means old new (inr (bytes, says, part)) = inr (bytes, means bytes says, part)
+
+-- bytes that were written, and of which more is known
+pub writes_as : (path : List ℕ) (Says Means : List ℕ → Type 0) → ((bytes : List ℕ) → Says bytes → Means bytes) → (result : Result (Unit {0}) BuildFault) (old new : Seen)
+    → writes cause_of path Says old result new → writes cause_of path Means old result new
+unfolding writes
+writes_as path Says Means means (Ok done) old new h = record { bytes = h.bytes; says = means h.bytes h.says; files = h.files; fits = h.fits; runs = h.runs; allows = h.allows }
+writes_as path Says Means means (Err fault) old new h = (h.0, record { files = more_left path Says Means means old.files new.files h.1.files; runs = h.1.runs; allows = h.1.allows })
+
+-- what is known of a document that was read costs no call
+no_call : (path : List ℕ) → ((n : ℕ) → FileCounts {T = Unit {0}} (Err (read.File path)) n n) → ⊥
+no_call path h = let rose : Rose 0 0 = h 0 in let up = rose.up in omega arith
+
+pub given_cause : (T : Type 0) (fault : ReadFault) → ((n : ℕ) → FileCounts {T = T} (Err fault) n n) → IsGivenCause (cause_of (of_read_fault fault))
+given_cause T (read.File path) h = no_call path h
+given_cause T (read.Document path fault) h = tt
+given_cause T (read.Limit kind) h = tt
+given_cause T read.Memory h = tt
+
+pub given_files : (T : Type 0) (fault : ReadFault) → ((n : ℕ) → FileCounts {T = T} (Err fault) n n) → (n : ℕ) → FilesBy (cause_of (of_read_fault fault)) n n
+given_files T (read.File path) h n = h n
+given_files T (read.Document path fault) h n = h n
+given_files T (read.Limit kind) h n = h n
+given_files T read.Memory h n = h n
+
+memory_at : {T : Type 0} (path : List ℕ) (result : Result T BuildFault) → IsAnswer cause_of result (value_at {A = T} path (Err doc_fault.Memory)) → (want : Result T BuildFault) → IsAnswer cause_of result want
+memory_at path (Ok value) h want = absurd (cc)
+memory_at path (Err (build.BuildFailed id code)) h want = absurd (cc)
+memory_at path (Err (build.UnknownUnmet id name)) h want = absurd (cc)
+memory_at path (Err (build.Api text)) h want = absurd (cc)
+memory_at path (Err (build.Document at fault)) h want = absurd (cc)
+memory_at path (Err (build.Limit kind)) h want = absurd (cc)
+memory_at path (Err build.Child) h want = tt
+memory_at path (Err (build.File at)) h want = tt
+memory_at path (Err build.Memory) h want = tt
+
+-- what was read of a document is what its bytes read as
+pub answered_at : {T : Type 0} (path : List ℕ) (answer want : Result T DocFault) (result : Result T BuildFault) → Answers answer want → IsAnswer cause_of result (value_at path answer) → IsAnswer cause_of result (value_at path want)
+answered_at path (Ok value) want result is h = subst (λ a. IsAnswer cause_of result (value_at path a)) is h
+answered_at path (Err doc_fault.Memory) want result is h = memory_at path result h (value_at path want)
+answered_at path (Err doc_fault.Absent) want result is h = subst (λ a. IsAnswer cause_of result (value_at path a)) is h
+answered_at path (Err doc_fault.NotUtf8) want result is h = subst (λ a. IsAnswer cause_of result (value_at path a)) is h
+answered_at path (Err doc_fault.NotToml) want result is h = subst (λ a. IsAnswer cause_of result (value_at path a)) is h
+answered_at path (Err (doc_fault.MetaKind text)) want result is h = subst (λ a. IsAnswer cause_of result (value_at path a)) is h
+answered_at path (Err (doc_fault.Missing text)) want result is h = subst (λ a. IsAnswer cause_of result (value_at path a)) is h
+answered_at path (Err (doc_fault.Wrong text)) want result is h = subst (λ a. IsAnswer cause_of result (value_at path a)) is h
+answered_at path (Err (doc_fault.Name text)) want result is h = subst (λ a. IsAnswer cause_of result (value_at path a)) is h
+
+-- two spellings of a list
+pub all_same : {X A : Type 0} (step : X → A → Seen → Result A BuildFault → Seen → Type 0) (xs ys : List X) (value : A) (result : Result A BuildFault) (old new : Seen) → xs ≡ ys → for_each step xs value old result new → for_each step ys value old result new
+all_same step xs ys value result old new same h = subst (λ zs. for_each step zs value old result new) same h
+
+-- a write that failed is told with its path
+pub write_cause : (path : List ℕ) (fault : FileFault) (refusal : ReadFault) (given : BuildFault) → reading.Blames path fault refusal → given ≡ of_read_fault refusal → IsWriteCause path (cause_of given)
+write_cause path fault refusal given blames is = subst (λ f. IsWriteCause path (cause_of f)) (sym is) (by fault refusal blames)
+  where
+    by : (f : FileFault) (r : ReadFault) → reading.Blames path f r → IsWriteCause path (cause_of (of_read_fault r))
+    by file_fault.Failed (read.File failed) h = h
+    by file_fault.Failed read.Memory h = tt
+    by file_fault.Failed (read.Document at fault) h = absurd h
+    by file_fault.Failed (read.Limit kind) h = absurd h
+    by file_fault.Memory (read.File failed) h = absurd h
+    by file_fault.Memory read.Memory h = tt
+    by file_fault.Memory (read.Document at fault) h = absurd h
+    by file_fault.Memory (read.Limit kind) h = absurd h

@@ -1,0 +1,12 @@
+pub mod Builds
+pub mod Command
+pub mod Descriptor
+pub mod Given
+pub mod Job
+pub mod Layers
+pub mod Outcome
+pub mod Places
+pub mod Plan
+pub mod Reading
+pub mod Refusals
+pub mod Report

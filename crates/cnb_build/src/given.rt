@@ -1,0 +1,182 @@
+// What a build is given by files.
+ghost use Rattle.std.specs.Prelude.{◌≡◌, ◌≤◌, ℕ, IfErr, IfOk, IsTrue, codes, length};
+ghost use Rattle.std.specs.Option.{option_copied};
+ghost use Rattle.cnb_words.specs.Build.{KeepsLimits as WithinLimits};
+ghost use Rattle.cnb_env.specs.Files.{is_fit_platform, platform_files_in};
+ghost use Rattle.run_docs.specs.Group.{group_in};
+ghost use Rattle.run_docs.specs.Plan.{is_plan_doc, plan_in};
+ghost use Rattle.steps.specs.Causes.{CountsChildren, CountsFiles, IsAnswer, IsGivenCause};
+ghost use Rattle.steps.specs.Outside.{seen};
+ghost use Rattle.cnb_build.specs.Given.{documents_of, foreign_among, frame_of, has_known_api, known_apis, needed, reads_given, reads_needed};
+ghost use Rattle.cnb_build.specs.Places.{KeepsLimits};
+ghost use Rattle.cnb_build.specs.Reading.{reads_files};
+ghost use Rattle.cnb_build.specs.Refusals.{cause_of};
+
+use crate::fault::BuildFault;
+use crate::frame::BuildFrame;
+use crate::reading::{read_document, value_at};
+use cnb_env::{EnvFile, platform_files};
+use cnb_toml::DocFault;
+use cnb_words::BuildWords;
+use cnb_world::{Bytes, Env, List, Memory, Path, World};
+use run_docs::{GroupDoc, GroupRow, PlanDoc, read_group, read_plan};
+use std::alloc::Global;
+
+/// The chosen group, its plan, and what all builds have in common.
+#[derive(Drop)]
+pub struct Given {
+    pub group: GroupDoc,
+    pub plan: PlanDoc,
+    pub frame: BuildFrame,
+}
+
+/// The documents of a work folder that a build reads.
+#[derive(Drop)]
+pub(crate) struct Documents {
+    pub(crate) group: Path,
+    pub(crate) plan: Path,
+}
+
+fn documents_of(alloc: Global, work: &Path) -> Result<Documents, Memory>
+    requires { length work.now ≤ 4096 }
+    ensures { IfOk result (λ documents. documents ≡ documents_of work.now) }
+{
+    Ok(Documents {
+        group: work.below(alloc, "group.toml")?,
+        plan: work.below(alloc, "plan.toml")?,
+    })
+}
+
+fn group_of(alloc: Global, path: &Path, found: Option<Bytes>) -> Result<GroupDoc, BuildFault>
+    ensures answer { IsAnswer cause_of result (needed group_in path.now found) }
+    ensures cause { IfErr result (λ fault. IsGivenCause (cause_of fault)) }
+    ensures files { (n : ℕ) → CountsFiles cause_of result n n }
+    ensures children { (n : ℕ) → CountsChildren cause_of result n n }
+{
+    match found {
+        Some(bytes) => value_at(alloc, path, read_group(alloc, bytes.as_slice())),
+        None => Err(BuildFault::Document(path.copy(alloc)?, DocFault::Absent)),
+    }
+}
+
+#[tactic(auto, using(crate::proofs::PlanRead::kept_plan))]
+fn plan_of(alloc: Global, path: &Path, found: Option<Bytes>) -> Result<PlanDoc, BuildFault>
+    ensures answer { IsAnswer cause_of result (needed plan_in path.now found) }
+    ensures cause { IfErr result (λ fault. IsGivenCause (cause_of fault)) }
+    ensures files { (n : ℕ) → CountsFiles cause_of result n n }
+    ensures children { (n : ℕ) → CountsChildren cause_of result n n }
+    ensures kept { IfOk result (λ plan. IsTrue (is_plan_doc plan)) }
+{
+    match found {
+        Some(bytes) => value_at(alloc, path, read_plan(alloc, bytes.as_slice())),
+        None => Err(BuildFault::Document(path.copy(alloc)?, DocFault::Absent)),
+    }
+}
+
+fn read_group_at<W: World>(
+    alloc: Global,
+    world: &mut W,
+    path: &Path,
+) -> Result<GroupDoc, BuildFault>
+    ensures step { reads_needed group_in path.now (seen W.World world.old) result (seen W.World world.new) }
+    ensures files { CountsFiles cause_of result (W.file_faults world.old) (W.file_faults world.new) }
+    ensures children { CountsChildren cause_of result (W.child_faults world.old) (W.child_faults world.new) }
+{
+    let found = read_document(alloc, world, path)?;
+    let group = group_of(alloc, path, found)?;
+    Ok(group)
+}
+
+fn read_plan_at<W: World>(alloc: Global, world: &mut W, path: &Path) -> Result<PlanDoc, BuildFault>
+    ensures step { reads_needed plan_in path.now (seen W.World world.old) result (seen W.World world.new) }
+    ensures files { CountsFiles cause_of result (W.file_faults world.old) (W.file_faults world.new) }
+    ensures children { CountsChildren cause_of result (W.child_faults world.old) (W.child_faults world.new) }
+    ensures kept { IfOk result (λ plan. IsTrue (is_plan_doc plan)) }
+{
+    let found = read_document(alloc, world, path)?;
+    let plan = plan_of(alloc, path, found)?;
+    Ok(plan)
+}
+
+fn has_known_api(row: &GroupRow) -> bool
+    ensures { result ≡ has_known_api row.now }
+{
+    row.api.as_str() == "0.10"
+}
+
+fn foreign_among(group: &[GroupRow]) -> Option<&GroupRow>
+    ensures { option_copied result ≡ foreign_among group.now }
+{
+    group.iter().find(|row| !has_known_api(row))
+}
+
+// Refuses a group that has a buildpack of another Buildpack API.
+fn check_apis(alloc: Global, group: &GroupDoc) -> Result<(), BuildFault>
+    ensures answer { IsAnswer cause_of result (known_apis group.now) }
+    ensures cause { IfErr result (λ fault. IsGivenCause (cause_of fault)) }
+    ensures files { (n : ℕ) → CountsFiles cause_of result n n }
+    ensures children { (n : ℕ) → CountsChildren cause_of result n n }
+{
+    match foreign_among(group.as_slice()) {
+        Some(row) => Err(BuildFault::Api(row.api.copy(alloc)?)),
+        None => Ok(()),
+    }
+}
+
+fn read_files<W: World>(
+    alloc: Global,
+    world: &mut W,
+    platform: &Path,
+) -> Result<List<EnvFile>, BuildFault>
+    requires { length platform.now ≤ 4096 }
+    ensures step { reads_files (is_fit_platform platform.now) (platform_files_in platform.now)
+        (seen W.World world.old) result (seen W.World world.new) }
+    ensures files { CountsFiles cause_of result (W.file_faults world.old) (W.file_faults world.new) }
+    ensures children { CountsChildren cause_of result (W.child_faults world.old) (W.child_faults world.new) }
+{
+    let files = platform_files(alloc, world, platform)?;
+    Ok(files)
+}
+
+fn frame_of(
+    alloc: Global,
+    options: &BuildWords,
+    env: &Env,
+    files: List<EnvFile>,
+) -> Result<BuildFrame, Memory>
+    ensures { IfOk result (λ frame. frame ≡ frame_of options.now env.now files) }
+{
+    Ok(BuildFrame {
+        buildpacks: options.buildpacks.copy(alloc)?,
+        app: options.app.copy(alloc)?,
+        platform: options.platform.copy(alloc)?,
+        layers: options.layers.copy(alloc)?,
+        work: options.work.copy(alloc)?,
+        env: env.copy()?,
+        files,
+    })
+}
+
+/// Reads the group, the plan and the platform's environment files. A group with a buildpack of another Buildpack API is
+/// refused before the plan is read.
+pub(crate) fn read_given<W: World>(
+    alloc: Global,
+    options: &BuildWords,
+    env: &Env,
+    world: &mut W,
+) -> Result<Given, BuildFault>
+    requires { WithinLimits options.now }
+    ensures step { reads_given options.now env.now (seen W.World world.old) result (seen W.World world.new) }
+    ensures kept { IfOk result (λ given. IsTrue (is_plan_doc given.plan)) }
+    ensures limits { IfOk result (λ given. KeepsLimits given.frame) }
+    ensures files { CountsFiles cause_of result (W.file_faults world.old) (W.file_faults world.new) }
+    ensures children { CountsChildren cause_of result (W.child_faults world.old) (W.child_faults world.new) }
+{
+    let documents = documents_of(alloc, &options.work)?;
+    let group = read_group_at(alloc, world, &documents.group)?;
+    check_apis(alloc, &group)?;
+    let plan = read_plan_at(alloc, world, &documents.plan)?;
+    let files = read_files(alloc, world, &options.platform)?;
+    let frame = frame_of(alloc, options, env, files)?;
+    Ok(Given { group, plan, frame })
+}

@@ -1,0 +1,66 @@
+// Where the files of a buildpack's build stand.
+ghost use Rattle.std.specs.Prelude.{◌≡◌, ◌≤◌, IfOk, IsTrue, false, length};
+ghost use Rattle.cnb_world.specs.Path.{beside, is_path};
+ghost use Rattle.cnb_world.specs.Tree.{is_root};
+ghost use Rattle.cnb_build.specs.Places.{HasRoom, KeepsLimits, layers_folder, places_of, plan_path};
+
+use crate::frame::BuildFrame;
+use cnb_env::{buildpack_folder, plan_name};
+use cnb_toml::Key;
+use cnb_world::{Memory, Path};
+use std::alloc::Global;
+
+/// The folder of a buildpack's version and its descriptor, the folder of its layers, its Buildpack Plan, and the
+/// documents that its child may leave: `build.toml`, `launch.toml` and `store.toml`.
+#[derive(Drop)]
+pub(crate) struct Places {
+    pub(crate) buildpack: Path,
+    pub(crate) descriptor: Path,
+    pub(crate) layers: Path,
+    pub(crate) plan: Path,
+    pub(crate) unmet: Path,
+    pub(crate) launch: Path,
+    pub(crate) store: Path,
+}
+
+#[tactic(auto, using(crate::proofs::PlaceLemmas::layers_short))]
+fn layers_folder(alloc: Global, frame: &BuildFrame, key: &Key) -> Result<Path, Memory>
+    requires { KeepsLimits frame.now }
+    ensures folder { IfOk result (λ folder. folder ≡ layers_folder frame.now key.now) }
+    ensures short { IfOk result (λ folder. length folder ≤ 4352) }
+{
+    let name = key.id.folder(alloc)?;
+    frame.layers.below(alloc, name.as_str())
+}
+
+#[tactic(auto, using(crate::proofs::PlaceLemmas::beside_plan, crate::proofs::PlaceLemmas::no_root, cnb_env::proofs::Lengths::length_joined))]
+fn plan_path(alloc: Global, frame: &BuildFrame, key: &Key) -> Result<Path, Memory>
+    requires { KeepsLimits frame.now }
+    ensures path { IfOk result (λ path. path ≡ plan_path frame.now key.now) }
+    ensures beside { IfOk result (λ path. IsTrue (is_path (beside path))) }
+    ensures not_root { IfOk result (λ path. is_root path ≡ false) }
+{
+    let name = plan_name(alloc, key)?;
+    let folder = frame.work.below(alloc, "plans")?;
+    folder.below(alloc, name.as_str())
+}
+
+/// The places of a buildpack.
+pub(crate) fn places_of(alloc: Global, frame: &BuildFrame, key: &Key) -> Result<Places, Memory>
+    requires { KeepsLimits frame.now }
+    ensures places { IfOk result (λ places. places ≡ places_of frame.now key.now) }
+    ensures room { IfOk result HasRoom }
+{
+    let buildpack = buildpack_folder(alloc, &frame.buildpacks, key)?;
+    let layers = layers_folder(alloc, frame, key)?;
+    let plan = plan_path(alloc, frame, key)?;
+    Ok(Places {
+        descriptor: buildpack.below(alloc, "buildpack.toml")?,
+        unmet: layers.below(alloc, "build.toml")?,
+        launch: layers.below(alloc, "launch.toml")?,
+        store: layers.below(alloc, "store.toml")?,
+        buildpack,
+        layers,
+        plan,
+    })
+}

@@ -1,0 +1,51 @@
+// Reading documents.
+ghost use Rattle.std.specs.Prelude.{◌≡◌, ℕ, IfErr, IfOk, unwrap_or, []};
+ghost use Rattle.cnb_world.specs.Tree.{is_file_or_absent, item_at};
+ghost use Rattle.steps.specs.Causes.{CountsChildren, CountsFiles, IsAnswer, IsGivenCause};
+ghost use Rattle.steps.specs.Outside.{seen};
+ghost use Rattle.cnb_build.specs.Reading.{reads_document, value_at};
+ghost use Rattle.cnb_build.specs.Refusals.{cause_of};
+
+use crate::fault::BuildFault;
+use cnb_toml::DocFault;
+use cnb_world::{Bytes, Path, World};
+use std::alloc::Global;
+
+/// The bytes of the document at a path, where one is there.
+pub(crate) fn read_document<W: World>(
+    alloc: Global,
+    world: &mut W,
+    path: &Path,
+) -> Result<Option<Bytes>, BuildFault>
+    ensures step { reads_document path.now (seen W.World world.old) result (seen W.World world.new) }
+    ensures files { CountsFiles cause_of result (W.file_faults world.old) (W.file_faults world.new) }
+    ensures children { CountsChildren cause_of result (W.child_faults world.old) (W.child_faults world.new) }
+{
+    let found = doc_files::read_document(alloc, world, path)?;
+    Ok(found)
+}
+
+/// The bytes of a document, of which there are none where it isn't there.
+pub(crate) fn bytes_of(found: &Option<Bytes>) -> &[u8]
+    ensures { result.now ≡ unwrap_or found.now [] }
+{
+    match found {
+        Some(bytes) => bytes.as_slice(),
+        None => &[],
+    }
+}
+
+/// What the reader of a document answered, for the document at a path.
+pub(crate) fn value_at<T: Drop>(
+    alloc: Global,
+    path: &Path,
+    answer: Result<T, DocFault>,
+) -> Result<T, BuildFault>
+    ensures answer { IsAnswer cause_of result (value_at path.now answer) }
+    ensures cause { IfErr result (λ fault. IsGivenCause (cause_of fault)) }
+    ensures files { (n : ℕ) → CountsFiles cause_of result n n }
+    ensures children { (n : ℕ) → CountsChildren cause_of result n n }
+{
+    let value = doc_files::read_at(alloc, path, answer)?;
+    Ok(value)
+}
