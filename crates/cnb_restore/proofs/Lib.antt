@@ -1,0 +1,5 @@
+pub mod Ascending
+pub mod CommandLemmas
+pub mod LayingLemmas
+pub mod ReadLemmas
+pub mod RestoreLemmas

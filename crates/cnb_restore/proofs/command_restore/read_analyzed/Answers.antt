@@ -1,0 +1,25 @@
+use Rattle.std.proofs.Common.{Ok}
+use Rattle.std.proofs.lemmas.Result.{err_from_is_err_and}
+use Rattle.image_docs.specs.Analyzed.{table_in}
+use Rattle.cnb_restore.proofs.CommandLemmas.{needed_failed, needed_then}
+use Rattle.cnb_restore.proofs.ReadLemmas.{nothing_read}
+use Rattle.cnb_restore.proofs.command_restore.read_analyzed.Goals as goal
+
+pub returns-in_err-path-clause-step : goal.returns-in_err-path-clause-step
+returns-in_err-path-clause-step g c =
+    let exit = err_from_is_err_and c.from_residual.result c.from_residual.ensures.1 in
+    rw (exit.1, exit.2) (nothing_read g.W.World _ _ _)
+
+pub returns-in_err-found-clause-step : goal.returns-in_err-found-clause-step
+returns-in_err-found-clause-step g c =
+    let exit = err_from_is_err_and c.from_residual-in_err-found.result c.from_residual-in_err-found.ensures.1 in
+    rw (exit.1, exit.2) (needed_failed table_in g.W.World _ _ _ _ _ c.in_ok-path.ensures c.in_err-found.ensures.reads c.in_err-found.ensures.tree c.in_err-found.ensures.runs c.in_err-found.ensures.misused)
+
+pub returns-in_err-analyzed-clause-step : goal.returns-in_err-analyzed-clause-step
+returns-in_err-analyzed-clause-step g c =
+    let exit = err_from_is_err_and c.from_residual-in_err-analyzed.result c.from_residual-in_err-analyzed.ensures.1 in
+    rw (exit.1, exit.2) (needed_then table_in g.W.World _ _ c.in_ok-found.found _ _ _ c.in_ok-path.ensures c.in_ok-found.ensures.reads c.in_ok-found.ensures.tree c.in_ok-found.ensures.runs c.in_ok-found.ensures.misused c.in_err-analyzed.ensures.answer c.in_err-analyzed.ensures.cause)
+
+pub returns-clause-step : goal.returns-clause-step
+returns-clause-step g c =
+    needed_then table_in g.W.World _ _ c.in_ok-found.found (Ok c.in_ok-analyzed.analyzed) _ _ c.in_ok-path.ensures c.in_ok-found.ensures.reads c.in_ok-found.ensures.tree c.in_ok-found.ensures.runs c.in_ok-found.ensures.misused c.in_ok-analyzed.ensures.answer tt

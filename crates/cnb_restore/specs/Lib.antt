@@ -1,0 +1,10 @@
+pub mod Analyzes
+pub mod Commands
+pub mod Faults
+pub mod Images
+pub mod Layers
+pub mod Paths
+pub mod Report
+pub mod Restored
+pub mod Restores
+pub mod Rows

@@ -1,0 +1,150 @@
+// A buildpack's folder of layers.
+ghost use Rattle.std.specs.Prelude.{◌≡◌, ◌≤◌, ◌<◌, ◌+◌, ◌^◌, ℕ, IfOk, length, map};
+ghost use Rattle.shelf_set.specs.ShelfState.{state_of};
+ghost use Rattle.shelf_set.specs.Caches.{caches_of, world_and_caches};
+ghost use Rattle.shelf_set.specs.Dropping.{AreStanding};
+ghost use Rattle.steps.specs.Causes.{CountsFiles};
+ghost use Rattle.steps.specs.Outside.{seen};
+ghost use Rattle.cnb_restore.specs.Faults.{cause_of};
+ghost use Rattle.cnb_restore.specs.Restores.{prepares_folder, restores_buildpack, restores_group, restores_rows};
+
+use crate::fault::RestoreFault;
+use crate::folders::{make_folder, remove};
+use crate::layer::write_store_document;
+use crate::layers::restore_layers;
+use crate::paths::layers_folder;
+use crate::restored::Restored;
+use crate::rows::{kept_for, rows_of};
+use crate::sources::{Sources, layers_of, store_of};
+use cnb_toml::BpId;
+use cnb_world::{List, Path, Shelf, World};
+use image_docs::StoreRow;
+use run_docs::GroupRow;
+use shelf_set::Shelves;
+use std::alloc::Global;
+
+// Removes a buildpack's folder and makes it anew, with what the previous image keeps for it.
+fn prepare_folder<W: World>(
+    alloc: Global,
+    world: &mut W,
+    folder: &Path,
+    id: &BpId,
+    kept: &[StoreRow],
+) -> Result<(), RestoreFault>
+    requires { length folder.now ≤ 4352 }
+    ensures step { prepares_folder folder.now id.now kept.now (seen W.World world.old) result (seen W.World world.new) }
+    ensures files { CountsFiles cause_of result (W.file_faults world.old) (W.file_faults world.new) }
+    ensures children { W.child_faults world.new ≡ W.child_faults world.old }
+{
+    remove(alloc, world, folder)?;
+    make_folder(alloc, world, folder)?;
+    write_store_document(alloc, world, folder, kept_for(id, kept))?;
+    Ok(())
+}
+
+// Restores the layers of a buildpack in its folder.
+fn restore_rows<W: World>(
+    alloc: Global,
+    world: &mut W,
+    shelves: &mut Shelves,
+    places: &mut List<u32>,
+    folder: &Path,
+    sources: &Sources,
+    id: &BpId,
+    restored: Restored,
+) -> Result<Restored, RestoreFault>
+    requires short { length folder.now ≤ 4352 }
+    requires standing { AreStanding places.old (map (λ s. state_of (held s) (rows s) (faults s)) shelves.old.items) }
+    requires few { length restored.gone + length places.old < 2 ^ 32 }
+    ensures step { restores_rows folder.now sources.now id.now restored
+        (world_and_caches (seen W.World world.old)
+        (caches_of (map (λ s. state_of (held s) (rows s) (faults s)) shelves.old.items) places.old)) result
+        (world_and_caches (seen W.World world.new)
+        (caches_of (map (λ s. state_of (held s) (rows s) (faults s)) shelves.new.items) places.new)) }
+    ensures again { AreStanding places.new (map (λ s. state_of (held s) (rows s) (faults s)) shelves.new.items) }
+    ensures count { IfOk result (λ after. length after.gone + length places.new
+        ≡ length restored.gone + length places.old) }
+    ensures files { CountsFiles cause_of result (W.file_faults world.old) (W.file_faults world.new) }
+    ensures children { W.child_faults world.new ≡ W.child_faults world.old }
+{
+    let app = rows_of(alloc, id, layers_of(&sources.previous))?;
+    let cache = rows_of(alloc, id, sources.rows.as_slice())?;
+    let after = restore_layers(
+        alloc, world, shelves, places, folder, &app, &cache, restored,
+    )?;
+    Ok(after)
+}
+
+// Restores a buildpack.
+fn restore_buildpack<W: World>(
+    alloc: Global,
+    world: &mut W,
+    shelves: &mut Shelves,
+    places: &mut List<u32>,
+    layers: &Path,
+    sources: &Sources,
+    id: &BpId,
+    restored: Restored,
+) -> Result<Restored, RestoreFault>
+    requires short { length layers.now ≤ 4096 }
+    requires standing { AreStanding places.old (map (λ s. state_of (held s) (rows s) (faults s)) shelves.old.items) }
+    requires few { length restored.gone + length places.old < 2 ^ 32 }
+    ensures step { restores_buildpack layers.now sources.now id.now restored
+        (world_and_caches (seen W.World world.old)
+        (caches_of (map (λ s. state_of (held s) (rows s) (faults s)) shelves.old.items) places.old)) result
+        (world_and_caches (seen W.World world.new)
+        (caches_of (map (λ s. state_of (held s) (rows s) (faults s)) shelves.new.items) places.new)) }
+    ensures again { AreStanding places.new (map (λ s. state_of (held s) (rows s) (faults s)) shelves.new.items) }
+    ensures count { IfOk result (λ after. length after.gone + length places.new
+        ≡ length restored.gone + length places.old) }
+    ensures files { CountsFiles cause_of result (W.file_faults world.old) (W.file_faults world.new) }
+    ensures children { W.child_faults world.new ≡ W.child_faults world.old }
+{
+    let folder = layers_folder(alloc, layers, id)?;
+    prepare_folder(alloc, world, &folder, id, store_of(&sources.previous))?;
+    let after = restore_rows(
+        alloc, world, shelves, places, &folder, sources, id, restored,
+    )?;
+    Ok(after)
+}
+
+/// Restores the buildpacks of a group, in order.
+pub(crate) fn restore_group<W: World>(
+    alloc: Global,
+    world: &mut W,
+    shelves: &mut Shelves,
+    places: &mut List<u32>,
+    layers: &Path,
+    sources: &Sources,
+    group: &[GroupRow],
+    restored: Restored,
+) -> Result<Restored, RestoreFault>
+    requires short { length layers.now ≤ 4096 }
+    requires standing { AreStanding places.old (map (λ s. state_of (held s) (rows s) (faults s)) shelves.old.items) }
+    requires few { length restored.gone + length places.old < 2 ^ 32 }
+    ensures step { restores_group layers.now sources.now group.now restored
+        (world_and_caches (seen W.World world.old)
+        (caches_of (map (λ s. state_of (held s) (rows s) (faults s)) shelves.old.items) places.old)) result
+        (world_and_caches (seen W.World world.new)
+        (caches_of (map (λ s. state_of (held s) (rows s) (faults s)) shelves.new.items) places.new)) }
+    ensures again { AreStanding places.new (map (λ s. state_of (held s) (rows s) (faults s)) shelves.new.items) }
+    ensures count { IfOk result (λ after. length after.gone + length places.new
+        ≡ length restored.gone + length places.old) }
+    ensures files { CountsFiles cause_of result (W.file_faults world.old) (W.file_faults world.new) }
+    ensures children { W.child_faults world.new ≡ W.child_faults world.old }
+{
+    let mut so_far = restored;
+    for row in group {
+        so_far = restore_buildpack(
+            alloc,
+            world,
+            shelves,
+            places,
+            layers,
+            sources,
+            &row.key.id,
+            so_far,
+        )?;
+    }
+    Ok(so_far)
+}

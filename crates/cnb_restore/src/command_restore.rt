@@ -1,0 +1,122 @@
+// The command `restore`.
+ghost use Rattle.std.specs.Prelude.{◌≡◌, ◌≤◌, ◌<◌, ◌^◌, ℕ, IfErr, length, map};
+ghost use Rattle.cnb_words.specs.Restore.{KeepsLimits};
+ghost use Rattle.shelf_set.specs.ShelfState.{state_of};
+ghost use Rattle.shelf_set.specs.Caches.{caches_of, world_and_caches};
+ghost use Rattle.shelf_set.specs.Dropping.{AreStanding};
+ghost use Rattle.steps.specs.Causes.{CountsFiles, IsAnswer, IsGivenCause, IsReadCause};
+ghost use Rattle.steps.specs.Outside.{seen};
+ghost use Rattle.steps.specs.Steps.{reads};
+ghost use Rattle.cnb_restore.specs.Commands.{analyzed_at, analyzed_document, group_at, group_document, needed, refusal_cause, restores_command, served};
+ghost use Rattle.image_files.specs.Documents.{is_fit_document};
+ghost use Rattle.cnb_restore.specs.Faults.{cause_of};
+
+use crate::fault::RestoreFault;
+use crate::paths::work_document;
+use crate::refusal::RestoreRefusal;
+use crate::report::restored_text;
+use crate::restoring::restore;
+use cnb_toml::DocFault;
+use cnb_words::RestoreWords;
+use cnb_world::{List, Memory, Path, Shelf, Text, World};
+use image_docs::Analyzed;
+use image_files::find_document;
+use run_docs::{Group, GroupDoc, GroupRow};
+use shelf_set::Shelves;
+use std::alloc::Global;
+
+// A document that must be there.
+fn needed<T: Drop>(alloc: Global, path: &Path, found: Option<T>) -> Result<T, RestoreFault>
+    ensures answer { IsAnswer cause_of result (needed path.now found) }
+    ensures cause { IfErr result (λ fault. IsReadCause (cause_of fault)) }
+    ensures files { (n : ℕ) → CountsFiles cause_of result n n }
+{
+    match found {
+        Some(value) => Ok(value),
+        None => Err(RestoreFault::Document(path.copy(alloc)?, DocFault::Absent)),
+    }
+}
+
+// What was analyzed.
+fn read_analyzed<W: World>(
+    alloc: Global,
+    world: &mut W,
+    work: &Path,
+) -> Result<Analyzed, RestoreFault>
+    requires { length work.now ≤ 4096 }
+    ensures step { reads cause_of (is_fit_document (analyzed_document work.now))
+        (analyzed_at (analyzed_document work.now)) (seen W.World world.old) result (seen W.World world.new) }
+    ensures files { CountsFiles cause_of result (W.file_faults world.old) (W.file_faults world.new) }
+    ensures children { W.child_faults world.new ≡ W.child_faults world.old }
+{
+    let path = work_document(alloc, work, "analyzed.toml")?;
+    let found = find_document::<W, Analyzed>(alloc, world, &path)?;
+    let analyzed = needed(alloc, &path, found)?;
+    Ok(analyzed)
+}
+
+// The chosen group.
+fn read_group<W: World>(alloc: Global, world: &mut W, work: &Path) -> Result<GroupDoc, RestoreFault>
+    requires { length work.now ≤ 4096 }
+    ensures step { reads cause_of (is_fit_document (group_document work.now)) (group_at (group_document work.now))
+        (seen W.World world.old) result (seen W.World world.new) }
+    ensures files { CountsFiles cause_of result (W.file_faults world.old) (W.file_faults world.new) }
+    ensures children { W.child_faults world.new ≡ W.child_faults world.old }
+{
+    let path = work_document(alloc, work, "group.toml")?;
+    let found = find_document::<W, Group>(alloc, world, &path)?;
+    let group = needed(alloc, &path, found)?;
+    Ok(group)
+}
+
+// Whether the Buildpack API of each buildpack is served.
+fn served(alloc: Global, group: &[GroupRow]) -> Result<(), RestoreRefusal>
+    ensures answer { IsAnswer refusal_cause result (served group.now) }
+    ensures cause { IfErr result (λ refusal. IsGivenCause (refusal_cause refusal)) }
+    ensures files { (n : ℕ) → CountsFiles refusal_cause result n n }
+{
+    for row in group {
+        if row.api.as_str() != "0.10" {
+            return Err(RestoreRefusal::BuildpackApi(row.api.copy(alloc)?));
+        }
+    }
+    Ok(())
+}
+
+/// Restores what the buildpacks of the chosen group left the last time, and gives the text to be printed (platform.md,
+/// "restorer"). `places` has the numbers of the caches that stand, which are the first of the list.
+pub fn restore_command<W: World>(
+    alloc: Global,
+    options: &RestoreWords,
+    world: &mut W,
+    shelves: &mut Shelves,
+    places: &mut List<u32>,
+) -> Result<Text, RestoreRefusal>
+    requires limits { KeepsLimits options.now }
+    requires standing { AreStanding places.old (map (λ s. state_of (held s) (rows s) (faults s)) shelves.old.items) }
+    requires few { length shelves.old.items < 2 ^ 32 }
+    ensures steps { restores_command options.now
+        (world_and_caches (seen W.World world.old)
+        (caches_of (map (λ s. state_of (held s) (rows s) (faults s)) shelves.old.items) places.old)) result
+        (world_and_caches (seen W.World world.new)
+        (caches_of (map (λ s. state_of (held s) (rows s) (faults s)) shelves.new.items) places.new)) }
+    ensures again { AreStanding places.new (map (λ s. state_of (held s) (rows s) (faults s)) shelves.new.items) }
+    ensures files { CountsFiles refusal_cause result (W.file_faults world.old) (W.file_faults world.new) }
+    ensures children { W.child_faults world.new ≡ W.child_faults world.old }
+{
+    let analyzed = read_analyzed(alloc, world, &options.work)?;
+    let group = read_group(alloc, world, &options.work)?;
+    served(alloc, group.as_slice())?;
+    let restored = restore(
+        alloc,
+        world,
+        shelves,
+        places,
+        &options.store,
+        &analyzed,
+        &group,
+        &options.layers,
+    )?;
+    let text = restored_text(alloc, &restored)?;
+    Ok(text)
+}

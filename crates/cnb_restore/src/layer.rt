@@ -1,0 +1,132 @@
+// What is written of a restored layer.
+ghost use Rattle.std.specs.Prelude.{◌≡◌, ◌≤◌, IfOk, Some, codes, length};
+ghost use Rattle.std.specs.Option.{option_copied};
+ghost use Rattle.steps.specs.Causes.{CountsFiles};
+ghost use Rattle.steps.specs.Outside.{seen};
+ghost use Rattle.steps.specs.Results.{with_fault};
+ghost use Rattle.cnb_restore.specs.Faults.{cause_of, of_laying_fault};
+ghost use Rattle.cnb_restore.specs.Layers.{ReadsAsLayer, ReadsAsStore, lays_contents, writes_layer, writes_store};
+
+use crate::fault::RestoreFault;
+use crate::folders::write_document;
+use crate::paths::{contents_path, document_name};
+use cnb_toml::Meta;
+use cnb_world::{Bytes, Memory, Path, PathFault, World};
+use image_docs::{LayerRow, StoreRow};
+use run_docs::{LayerDoc, StoreToml, write_layer, write_store};
+use std::alloc::Global;
+use tree_canon::Tree;
+use tree_store::{StoreFault, write_tree};
+
+fn layer_bytes(alloc: Global, meta: &Meta) -> Result<Bytes, Memory>
+    ensures { IfOk result (ReadsAsLayer meta.now) }
+{
+    let meta = meta.copy(alloc)?;
+    let layer = LayerDoc {
+        launch: false,
+        build: false,
+        cache: false,
+        meta,
+    };
+    write_layer(alloc, &layer)
+}
+
+fn store_bytes(alloc: Global, meta: &Meta) -> Result<Bytes, Memory>
+    ensures { IfOk result (ReadsAsStore meta.now) }
+{
+    let meta = meta.copy(alloc)?;
+    let store = StoreToml { meta };
+    write_store(alloc, &store)
+}
+
+/// Writes the document of a layer.
+pub(crate) fn write_layer_document<W: World>(
+    alloc: Global,
+    world: &mut W,
+    folder: &Path,
+    row: &LayerRow,
+) -> Result<(), RestoreFault>
+    requires { length folder.now ≤ 4352 }
+    ensures step { writes_layer folder.now row.now (seen W.World world.old) result (seen W.World world.new) }
+    ensures files { CountsFiles cause_of result (W.file_faults world.old) (W.file_faults world.new) }
+    ensures children { W.child_faults world.new ≡ W.child_faults world.old }
+{
+    let bytes = layer_bytes(alloc, &row.meta)?;
+    let name = document_name(alloc, row.layer.as_str())?;
+    write_document(alloc, world, folder, name.as_str(), bytes.as_slice())?;
+    Ok(())
+}
+
+fn write_kept<W: World>(
+    alloc: Global,
+    world: &mut W,
+    folder: &Path,
+    row: &StoreRow,
+) -> Result<(), RestoreFault>
+    requires { length folder.now ≤ 4352 }
+    ensures step { writes_store folder.now (Some row.now) (seen W.World world.old) result (seen W.World world.new) }
+    ensures files { CountsFiles cause_of result (W.file_faults world.old) (W.file_faults world.new) }
+    ensures children { W.child_faults world.new ≡ W.child_faults world.old }
+{
+    let bytes = store_bytes(alloc, &row.meta)?;
+    write_document(alloc, world, folder, "store.toml", bytes.as_slice())?;
+    Ok(())
+}
+
+/// Writes `store.toml`, where the previous image keeps something for the buildpack.
+#[tactic(auto, unfolding(crate::specs::Layers::writes_store, steps::specs::Steps::yields))]
+pub(crate) fn write_store_document<W: World>(
+    alloc: Global,
+    world: &mut W,
+    folder: &Path,
+    row: Option<&StoreRow>,
+) -> Result<(), RestoreFault>
+    requires { length folder.now ≤ 4352 }
+    ensures step { writes_store folder.now (option_copied row.entry)
+        (seen W.World world.old) result (seen W.World world.new) }
+    ensures files { CountsFiles cause_of result (W.file_faults world.old) (W.file_faults world.new) }
+    ensures children { W.child_faults world.new ≡ W.child_faults world.old }
+{
+    match row {
+        Some(row) => write_kept(alloc, world, folder, row),
+        None => Ok(()),
+    }
+}
+
+fn root(alloc: Global) -> Result<Path, Memory>
+    ensures { IfOk result (λ path. path ≡ codes "/") }
+{
+    match Path::parse(alloc, "/") {
+        Ok(path) => Ok(path),
+        Err(PathFault::Memory) => Err(Memory),
+        Err(PathFault::NotPath) => unreachable!(),
+    }
+}
+
+fn laid(answer: Result<(), StoreFault>) -> Result<(), RestoreFault>
+    ensures { result ≡ with_fault of_laying_fault answer }
+{
+    match answer {
+        Ok(()) => Ok(()),
+        Err(StoreFault::File(path)) => Err(RestoreFault::File(path)),
+        Err(_) => Err(RestoreFault::Memory),
+    }
+}
+
+/// Lays the contents of a layer, in its folder.
+pub(crate) fn lay_contents<W: World>(
+    alloc: Global,
+    world: &mut W,
+    folder: &Path,
+    row: &LayerRow,
+    tree: &Tree,
+) -> Result<(), RestoreFault>
+    requires { length folder.now ≤ 4352 }
+    ensures step { lays_contents folder.now row.now tree.now (seen W.World world.old) result (seen W.World world.new) }
+    ensures files { CountsFiles cause_of result (W.file_faults world.old) (W.file_faults world.new) }
+    ensures children { W.child_faults world.new ≡ W.child_faults world.old }
+{
+    let path = contents_path(alloc, folder, &row.layer)?;
+    let place = root(alloc)?;
+    laid(write_tree(alloc, world, &path, &place, tree))
+}

@@ -1,0 +1,277 @@
+// The layers of a buildpack.
+ghost use Rattle.std.specs.Prelude.{◌≡◌, ◌≤◌, ◌<◌, ◌+◌, ◌^◌, ℕ, IfOk, Some, length, map};
+ghost use Rattle.std.specs.Option.{option_copied};
+ghost use Rattle.shelf_set.specs.ShelfState.{state_of};
+ghost use Rattle.shelf_set.specs.Caches.{Caches, caches_of, world_and_caches};
+ghost use Rattle.shelf_set.specs.CacheSteps.{finds};
+ghost use Rattle.shelf_set.specs.Dropping.{AreStanding};
+ghost use Rattle.steps.specs.Causes.{CountsFiles};
+ghost use Rattle.steps.specs.Outside.{seen};
+ghost use Rattle.cnb_restore.specs.Faults.{cause_of};
+ghost use Rattle.cnb_restore.specs.Restores.{restores_contents, restores_document, restores_each, restores_found, restores_laid, restores_layer, restores_layers, restores_part};
+
+use crate::fault::RestoreFault;
+use crate::layer::{lay_contents, write_layer_document};
+use crate::restored::{Restored, after_search, with_layer};
+use crate::rows::{layer_names, restored_part, row_of, source_of};
+use cnb_world::{List, Path, Shelf, World};
+use image_docs::LayerRow;
+use layer_flags::RestoreRow;
+use shelf_set::{Found, Search, Shelves, find};
+use std::alloc::Global;
+use tree_canon::{Digest, Tree};
+
+// Writes the document of a layer, with its contents there or not.
+fn restore_document<W: World>(
+    alloc: Global,
+    world: &mut W,
+    folder: &Path,
+    row: &LayerRow,
+    contents: bool,
+    restored: Restored,
+) -> Result<Restored, RestoreFault>
+    requires { length folder.now ≤ 4352 }
+    ensures step { (caches : Caches) → restores_document folder.now row.now contents restored
+        (world_and_caches (seen W.World world.old) caches) result (world_and_caches (seen W.World world.new) caches) }
+    ensures gone { IfOk result (λ after. after.gone ≡ restored.gone) }
+    ensures files { CountsFiles cause_of result (W.file_faults world.old) (W.file_faults world.new) }
+    ensures children { W.child_faults world.new ≡ W.child_faults world.old }
+{
+    write_layer_document(alloc, world, folder, row)?;
+    let after = with_layer(alloc, restored, row, contents)?;
+    Ok(after)
+}
+
+// Lays the contents of a layer and writes its document.
+fn restore_laid<W: World>(
+    alloc: Global,
+    world: &mut W,
+    folder: &Path,
+    row: &LayerRow,
+    tree: &Tree,
+    restored: Restored,
+) -> Result<Restored, RestoreFault>
+    requires { length folder.now ≤ 4352 }
+    ensures step { (caches : Caches) → restores_laid folder.now row.now restored tree.now
+        (world_and_caches (seen W.World world.old) caches) result (world_and_caches (seen W.World world.new) caches) }
+    ensures gone { IfOk result (λ after. after.gone ≡ restored.gone) }
+    ensures files { CountsFiles cause_of result (W.file_faults world.old) (W.file_faults world.new) }
+    ensures children { W.child_faults world.new ≡ W.child_faults world.old }
+{
+    lay_contents(alloc, world, folder, row, tree)?;
+    let after = restore_document(alloc, world, folder, row, true, restored)?;
+    Ok(after)
+}
+
+// Restores a layer by what the caches hold under its digest.
+#[tactic(auto, unfolding(crate::specs::Restores::restores_found, steps::specs::Steps::yields, steps::specs::Steps::gives))]
+fn restore_found<W: World>(
+    alloc: Global,
+    world: &mut W,
+    folder: &Path,
+    row: &LayerRow,
+    found: Found,
+    restored: Restored,
+) -> Result<Restored, RestoreFault>
+    requires { length folder.now ≤ 4352 }
+    ensures step { (caches : Caches) → restores_found folder.now row.now restored found
+        (world_and_caches (seen W.World world.old) caches) result (world_and_caches (seen W.World world.new) caches) }
+    ensures gone { IfOk result (λ after. after.gone ≡ restored.gone) }
+    ensures files { CountsFiles cause_of result (W.file_faults world.old) (W.file_faults world.new) }
+    ensures children { W.child_faults world.new ≡ W.child_faults world.old }
+{
+    match found {
+        Found::None => Ok(restored),
+        Found::Damaged { asked, found, bad } => Err(RestoreFault::Damaged { asked, found, bad }),
+        Found::Tree(tree) => restore_laid(alloc, world, folder, row, &tree, restored),
+    }
+}
+
+// Searches the caches for a tree.
+#[tactic(auto, unfolding(shelf_set::specs::CacheSteps::finds), using(shelf_set::proofs::CountLemmas::finds_count))]
+fn find_tree(
+    alloc: Global,
+    shelves: &mut Shelves,
+    places: &mut List<u32>,
+    digest: &Digest,
+) -> Result<Search, RestoreFault>
+    requires { AreStanding places.old (map (λ s. state_of (held s) (rows s) (faults s)) shelves.old.items) }
+    ensures step { finds cause_of digest.now
+        (caches_of (map (λ s. state_of (held s) (rows s) (faults s)) shelves.old.items) places.old) result
+        (caches_of (map (λ s. state_of (held s) (rows s) (faults s)) shelves.new.items) places.new) }
+    ensures again { AreStanding places.new (map (λ s. state_of (held s) (rows s) (faults s)) shelves.new.items) }
+    ensures count { IfOk result (λ search. length search.gone + length places.new ≡ length places.old) }
+    ensures files { (n : ℕ) → CountsFiles cause_of result n n }
+{
+    let search = find(alloc, shelves, places, digest)?;
+    Ok(search)
+}
+
+// Restores a layer with its contents, where a cache has them.
+fn restore_contents<W: World>(
+    alloc: Global,
+    world: &mut W,
+    shelves: &mut Shelves,
+    places: &mut List<u32>,
+    folder: &Path,
+    row: &LayerRow,
+    restored: Restored,
+) -> Result<Restored, RestoreFault>
+    requires short { length folder.now ≤ 4352 }
+    requires standing { AreStanding places.old (map (λ s. state_of (held s) (rows s) (faults s)) shelves.old.items) }
+    requires few { length restored.gone + length places.old < 2 ^ 32 }
+    ensures step { restores_contents folder.now row.now restored
+        (world_and_caches (seen W.World world.old)
+        (caches_of (map (λ s. state_of (held s) (rows s) (faults s)) shelves.old.items) places.old)) result
+        (world_and_caches (seen W.World world.new)
+        (caches_of (map (λ s. state_of (held s) (rows s) (faults s)) shelves.new.items) places.new)) }
+    ensures again { AreStanding places.new (map (λ s. state_of (held s) (rows s) (faults s)) shelves.new.items) }
+    ensures count { IfOk result (λ after. length after.gone + length places.new
+        ≡ length restored.gone + length places.old) }
+    ensures files { CountsFiles cause_of result (W.file_faults world.old) (W.file_faults world.new) }
+    ensures children { W.child_faults world.new ≡ W.child_faults world.old }
+{
+    let Search { found, gone } = find_tree(alloc, shelves, places, &row.digest)?;
+    let counted = after_search(restored, &gone)?;
+    let after = restore_found(alloc, world, folder, row, found, counted)?;
+    Ok(after)
+}
+
+// Restores a layer, by its line of the table.
+#[tactic(auto, unfolding(crate::specs::Restores::restores_part, steps::specs::Steps::yields))]
+fn restore_part<W: World>(
+    alloc: Global,
+    world: &mut W,
+    shelves: &mut Shelves,
+    places: &mut List<u32>,
+    folder: &Path,
+    row: &LayerRow,
+    part: RestoreRow,
+    restored: Restored,
+) -> Result<Restored, RestoreFault>
+    requires short { length folder.now ≤ 4352 }
+    requires standing { AreStanding places.old (map (λ s. state_of (held s) (rows s) (faults s)) shelves.old.items) }
+    requires few { length restored.gone + length places.old < 2 ^ 32 }
+    ensures step { restores_part folder.now (Some row.now) part restored
+        (world_and_caches (seen W.World world.old)
+        (caches_of (map (λ s. state_of (held s) (rows s) (faults s)) shelves.old.items) places.old)) result
+        (world_and_caches (seen W.World world.new)
+        (caches_of (map (λ s. state_of (held s) (rows s) (faults s)) shelves.new.items) places.new)) }
+    ensures again { AreStanding places.new (map (λ s. state_of (held s) (rows s) (faults s)) shelves.new.items) }
+    ensures count { IfOk result (λ after. length after.gone + length places.new
+        ≡ length restored.gone + length places.old) }
+    ensures files { CountsFiles cause_of result (W.file_faults world.old) (W.file_faults world.new) }
+    ensures children { W.child_faults world.new ≡ W.child_faults world.old }
+{
+    match part {
+        RestoreRow::Nothing => Ok(restored),
+        RestoreRow::Meta => restore_document(alloc, world, folder, row, false, restored),
+        RestoreRow::Both => restore_contents(alloc, world, shelves, places, folder, row, restored),
+    }
+}
+
+// Restores a layer of a buildpack.
+#[tactic(auto, unfolding(crate::specs::Restores::restores_part, steps::specs::Steps::yields), using(crate::proofs::RestoreLemmas::layer_from))]
+fn restore_layer<W: World>(
+    alloc: Global,
+    world: &mut W,
+    shelves: &mut Shelves,
+    places: &mut List<u32>,
+    folder: &Path,
+    app: &[&LayerRow],
+    cache: &[&LayerRow],
+    name: &str,
+    restored: Restored,
+) -> Result<Restored, RestoreFault>
+    requires short { length folder.now ≤ 4352 }
+    requires standing { AreStanding places.old (map (λ s. state_of (held s) (rows s) (faults s)) shelves.old.items) }
+    requires few { length restored.gone + length places.old < 2 ^ 32 }
+    ensures step { restores_layer folder.now (map (λ row. row.now) app.now) (map (λ row. row.now) cache.now) name.now
+        restored
+        (world_and_caches (seen W.World world.old)
+        (caches_of (map (λ s. state_of (held s) (rows s) (faults s)) shelves.old.items) places.old)) result
+        (world_and_caches (seen W.World world.new)
+        (caches_of (map (λ s. state_of (held s) (rows s) (faults s)) shelves.new.items) places.new)) }
+    ensures again { AreStanding places.new (map (λ s. state_of (held s) (rows s) (faults s)) shelves.new.items) }
+    ensures count { IfOk result (λ after. length after.gone + length places.new
+        ≡ length restored.gone + length places.old) }
+    ensures files { CountsFiles cause_of result (W.file_faults world.old) (W.file_faults world.new) }
+    ensures children { W.child_faults world.new ≡ W.child_faults world.old }
+{
+    let app = row_of(name, app);
+    let cache = row_of(name, cache);
+    let part = restored_part(app, cache);
+    match source_of(app, cache) {
+        Some(row) => restore_part(alloc, world, shelves, places, folder, row, part, restored),
+        None => Ok(restored),
+    }
+}
+
+// Restores layers, one after another.
+fn restore_each<W: World>(
+    alloc: Global,
+    world: &mut W,
+    shelves: &mut Shelves,
+    places: &mut List<u32>,
+    folder: &Path,
+    app: &[&LayerRow],
+    cache: &[&LayerRow],
+    names: &[&str],
+    restored: Restored,
+) -> Result<Restored, RestoreFault>
+    requires short { length folder.now ≤ 4352 }
+    requires standing { AreStanding places.old (map (λ s. state_of (held s) (rows s) (faults s)) shelves.old.items) }
+    requires few { length restored.gone + length places.old < 2 ^ 32 }
+    ensures step { restores_each folder.now (map (λ row. row.now) app.now) (map (λ row. row.now) cache.now)
+        (map (λ name. name.now) names.now) restored
+        (world_and_caches (seen W.World world.old)
+        (caches_of (map (λ s. state_of (held s) (rows s) (faults s)) shelves.old.items) places.old)) result
+        (world_and_caches (seen W.World world.new)
+        (caches_of (map (λ s. state_of (held s) (rows s) (faults s)) shelves.new.items) places.new)) }
+    ensures again { AreStanding places.new (map (λ s. state_of (held s) (rows s) (faults s)) shelves.new.items) }
+    ensures count { IfOk result (λ after. length after.gone + length places.new
+        ≡ length restored.gone + length places.old) }
+    ensures files { CountsFiles cause_of result (W.file_faults world.old) (W.file_faults world.new) }
+    ensures children { W.child_faults world.new ≡ W.child_faults world.old }
+{
+    let mut so_far = restored;
+    for name in names {
+        so_far = restore_layer(
+            alloc, world, shelves, places, folder, app, cache, name, so_far,
+        )?;
+    }
+    Ok(so_far)
+}
+
+/// Restores the layers of a buildpack, ascending.
+pub(crate) fn restore_layers<W: World>(
+    alloc: Global,
+    world: &mut W,
+    shelves: &mut Shelves,
+    places: &mut List<u32>,
+    folder: &Path,
+    app: &[&LayerRow],
+    cache: &[&LayerRow],
+    restored: Restored,
+) -> Result<Restored, RestoreFault>
+    requires short { length folder.now ≤ 4352 }
+    requires standing { AreStanding places.old (map (λ s. state_of (held s) (rows s) (faults s)) shelves.old.items) }
+    requires few { length restored.gone + length places.old < 2 ^ 32 }
+    ensures step { restores_layers folder.now (map (λ row. row.now) app.now) (map (λ row. row.now) cache.now)
+        restored
+        (world_and_caches (seen W.World world.old)
+        (caches_of (map (λ s. state_of (held s) (rows s) (faults s)) shelves.old.items) places.old)) result
+        (world_and_caches (seen W.World world.new)
+        (caches_of (map (λ s. state_of (held s) (rows s) (faults s)) shelves.new.items) places.new)) }
+    ensures again { AreStanding places.new (map (λ s. state_of (held s) (rows s) (faults s)) shelves.new.items) }
+    ensures count { IfOk result (λ after. length after.gone + length places.new
+        ≡ length restored.gone + length places.old) }
+    ensures files { CountsFiles cause_of result (W.file_faults world.old) (W.file_faults world.new) }
+    ensures children { W.child_faults world.new ≡ W.child_faults world.old }
+{
+    let names = layer_names(alloc, app, cache)?;
+    let after = restore_each(
+        alloc, world, shelves, places, folder, app, cache, &names, restored,
+    )?;
+    Ok(after)
+}

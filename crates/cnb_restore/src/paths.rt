@@ -1,0 +1,59 @@
+// Where documents and layers stand.
+ghost use Rattle.std.specs.Prelude.{◌≡◌, ◌≤◌, ◌<◌, ◌+◌, IfOk, IsTrue, length};
+ghost use Rattle.cnb_world.specs.Path.{beside, is_part, joined};
+ghost use Rattle.image_files.specs.Paths.{document_name};
+ghost use Rattle.cnb_restore.specs.Paths.{layers_folder};
+
+use cnb_toml::{BpId, LayerName};
+use cnb_world::{Memory, Path, Text};
+use std::alloc::Global;
+
+/// The name of a document, behind that of an image or a layer.
+#[tactic(auto, using(image_files::proofs::PathLemmas::document_name_is_part, image_files::proofs::PathLemmas::document_beside_is_part))]
+pub(crate) fn document_name(alloc: Global, name: &str) -> Result<Text, Memory>
+    requires part { IsTrue (is_part name.now) }
+    requires short { length name.now ≤ 200 }
+    ensures name { IfOk result (λ document. document ≡ document_name name.now) }
+    ensures part { IsTrue (is_part (document_name name.now)) }
+    ensures beside { IsTrue (is_part (beside (document_name name.now))) }
+    ensures long { 1 < length (document_name name.now) }
+    ensures length { length (document_name name.now) ≤ 205 }
+{
+    let mut text = String::from_str(alloc, name)?;
+    text.push_str(".toml")?;
+    Ok(Text::from_string(text))
+}
+
+/// The folder of a buildpack's layers.
+#[tactic(auto, using(image_files::proofs::PathLemmas::length_joined, image_files::proofs::PathLemmas::part_within))]
+pub(crate) fn layers_folder(alloc: Global, layers: &Path, id: &BpId) -> Result<Path, Memory>
+    requires { length layers.now ≤ 4096 }
+    ensures path { IfOk result (λ path. path ≡ layers_folder layers.now id.now) }
+    ensures short { IfOk result (λ path. length path ≤ 4352) }
+{
+    let name = id.folder(alloc)?;
+    let path = layers.below(alloc, name.as_str())?;
+    Ok(path)
+}
+
+/// The folder of a layer's contents.
+#[tactic(auto, using(image_files::proofs::PathLemmas::length_joined, image_files::proofs::PathLemmas::part_within))]
+pub(crate) fn contents_path(alloc: Global, folder: &Path, layer: &LayerName) -> Result<Path, Memory>
+    requires { length folder.now ≤ 4352 }
+    ensures path { IfOk result (λ path. path ≡ joined folder.now layer.now) }
+    ensures short { IfOk result (λ path. length path ≤ 8192) }
+{
+    let path = folder.below(alloc, layer.as_str())?;
+    Ok(path)
+}
+
+/// A document of the work folder.
+#[tactic(auto, using(image_files::proofs::PathLemmas::length_joined, image_files::proofs::PathLemmas::part_within))]
+pub(crate) fn work_document(alloc: Global, work: &Path, name: &str) -> Result<Path, Memory>
+    requires short { length work.now ≤ 4096 }
+    requires part { IsTrue (is_part name.now) }
+    ensures { IfOk result (λ path. path ≡ joined work.now name.now) }
+{
+    let path = work.below(alloc, name)?;
+    Ok(path)
+}

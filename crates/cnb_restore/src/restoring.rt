@@ -1,0 +1,83 @@
+// Restoring the layers of a group.
+ghost use Rattle.std.specs.Prelude.{◌≡◌, ◌≤◌, ◌<◌, ◌+◌, ◌^◌, ℕ, IfOk, length, map};
+ghost use Rattle.shelf_set.specs.ShelfState.{state_of};
+ghost use Rattle.shelf_set.specs.Caches.{caches_of, world_and_caches};
+ghost use Rattle.shelf_set.specs.CacheSteps.{gathers};
+ghost use Rattle.shelf_set.specs.Dropping.{AreStanding};
+ghost use Rattle.steps.specs.Causes.{CountsFiles};
+ghost use Rattle.steps.specs.Outside.{seen};
+ghost use Rattle.cnb_restore.specs.Faults.{cause_of};
+ghost use Rattle.cnb_restore.specs.Restores.{restores};
+
+use crate::buildpack::restore_group;
+use crate::fault::RestoreFault;
+use crate::images::read_previous;
+use crate::restored::{Restored, first};
+use crate::sources::Sources;
+use cnb_world::{List, Path, Shelf, World};
+use image_docs::Analyzed;
+use run_docs::GroupDoc;
+use shelf_set::{Gathered, Shelves, gather};
+use std::alloc::Global;
+
+// Gathers the rows of the caches.
+#[tactic(auto, unfolding(shelf_set::specs::CacheSteps::gathers), using(shelf_set::proofs::CountLemmas::gathers_count))]
+fn gather_rows(
+    alloc: Global,
+    shelves: &mut Shelves,
+    places: &mut List<u32>,
+) -> Result<Gathered, RestoreFault>
+    requires { AreStanding places.old (map (λ s. state_of (held s) (rows s) (faults s)) shelves.old.items) }
+    ensures step { gathers cause_of
+        (caches_of (map (λ s. state_of (held s) (rows s) (faults s)) shelves.old.items) places.old) result
+        (caches_of (map (λ s. state_of (held s) (rows s) (faults s)) shelves.new.items) places.new) }
+    ensures again { AreStanding places.new (map (λ s. state_of (held s) (rows s) (faults s)) shelves.new.items) }
+    ensures count { IfOk result (λ gathered. length gathered.gone + length places.new ≡ length places.old) }
+    ensures files { (n : ℕ) → CountsFiles cause_of result n n }
+{
+    let gathered = gather(alloc, shelves, places)?;
+    Ok(gathered)
+}
+
+/// Restores for each buildpack of a group what it left in its layers folder at the build of the analyzed previous image
+/// (platform.md, "restorer"). `places` has the numbers of the caches that stand, which are the first of the list. After
+/// a refusal the layers folder holds a part.
+pub fn restore<W: World>(
+    alloc: Global,
+    world: &mut W,
+    shelves: &mut Shelves,
+    places: &mut List<u32>,
+    store: &Path,
+    analyzed: &Analyzed,
+    group: &GroupDoc,
+    layers: &Path,
+) -> Result<Restored, RestoreFault>
+    requires store { length store.now ≤ 4096 }
+    requires layers { length layers.now ≤ 4096 }
+    requires standing { AreStanding places.old (map (λ s. state_of (held s) (rows s) (faults s)) shelves.old.items) }
+    requires few { length shelves.old.items < 2 ^ 32 }
+    ensures steps { restores store.now analyzed.now.previous group.now layers.now
+        (world_and_caches (seen W.World world.old)
+        (caches_of (map (λ s. state_of (held s) (rows s) (faults s)) shelves.old.items) places.old)) result
+        (world_and_caches (seen W.World world.new)
+        (caches_of (map (λ s. state_of (held s) (rows s) (faults s)) shelves.new.items) places.new)) }
+    ensures again { AreStanding places.new (map (λ s. state_of (held s) (rows s) (faults s)) shelves.new.items) }
+    ensures files { CountsFiles cause_of result (W.file_faults world.old) (W.file_faults world.new) }
+    ensures children { W.child_faults world.new ≡ W.child_faults world.old }
+{
+    let previous = read_previous(alloc, world, store, analyzed.previous.as_ref())?;
+    let Gathered { rows, unread, gone } = gather_rows(alloc, shelves, places)?;
+    let restored = first(alloc, unread, gone)?;
+    let sources = Sources { previous, rows };
+    let after = restore_group(
+        alloc,
+        world,
+        shelves,
+        places,
+        layers,
+        &sources,
+        group.as_slice(),
+        restored,
+    )?;
+    Ok(after)
+}
