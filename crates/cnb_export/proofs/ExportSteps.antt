@@ -1,0 +1,25 @@
+-- Layers that were stored in caches, or refused, as a step.
+use Rattle.std.proofs.Common.{◌≡◌, ℕ, List, Ok, Err}
+use Rattle.image_docs.specs.declared.layer_row.LayerRow.{LayerRow}
+use Rattle.shelf_set.specs.Caches.{caches_of}
+use Rattle.tree_store.specs.Steps.{puts_tree}
+use Rattle.steps.specs.Outside.{Seen}
+use Rattle.shelf_set.specs.Caching.{digest_of_tree, StoresRows, StoresSomeRows, stores_rows}
+use Rattle.shelf_set.specs.ShelfState.{ShelfState}
+use Rattle.steps.specs.Causes.{Cause, OutOfMemory}
+use Rattle.tree_canon.specs.declared.node.Node.{Node}
+
+pub rows_stored : {E : Type 0} (cause_of : E → Cause) (rows : List LayerRow) (trees : List Node) (old : List ShelfState) (places : List ℕ) (new : List ShelfState) (standing gone : List ℕ)
+    → StoresRows rows trees old places new standing gone → stores_rows cause_of rows trees (caches_of old places) (Ok gone) (caches_of new standing)
+unfolding stores_rows
+rows_stored cause_of rows trees old places new standing gone h = h
+
+pub rows_refused : {E : Type 0} (cause_of : E → Cause) (rows : List LayerRow) (trees : List Node) (old : List ShelfState) (places : List ℕ) (new : List ShelfState) (standing : List ℕ) (fault : E)
+    → cause_of fault ≡ OutOfMemory → StoresSomeRows rows trees old places new standing → stores_rows cause_of rows trees (caches_of old places) (Err fault) (caches_of new standing)
+unfolding stores_rows
+rows_refused cause_of rows trees old places new standing fault memory h = (memory, h)
+
+-- a tree that was put has the digest that is answered
+pub put_digest : (store : List ℕ) (tree : Node) (old : Seen) (digest : List ℕ) (new : Seen) → puts_tree store tree old (Ok digest) new → digest ≡ digest_of_tree tree
+unfolding puts_tree
+put_digest store tree old digest new h = h.leaves.0

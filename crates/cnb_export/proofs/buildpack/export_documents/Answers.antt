@@ -1,0 +1,30 @@
+use Rattle.std.proofs.Common.{ap, refl, sym, Ok}
+use Rattle.std.proofs.lemmas.Result.{err_from_is_err_and}
+use Rattle.steps.proofs.StepLemmas.{ended, given, no_memory, went}
+use Rattle.tree_store.specs.declared.fault.StoreFault.TheVariants as stored
+use Rattle.cnb_export.specs.declared.fault.ExportFault.TheVariants.{Store}
+use Rattle.cnb_export.specs.Buildpack.{exports_documents}
+use Rattle.cnb_export.proofs.buildpack.export_documents.Goals as goal
+
+pub returns-in_err-launch-clause-step : goal.returns-in_err-launch-clause-step
+unfolding exports_documents
+returns-in_err-launch-clause-step g c =
+    let exit = err_from_is_err_and c.from_residual.result c.from_residual.ensures.1 in
+    rw (exit.1, exit.2) (ended _ _ _ _ _ c.in_err-launch.ensures.step)
+
+pub returns-in_err-store-clause-step : goal.returns-in_err-store-clause-step
+unfolding exports_documents
+returns-in_err-store-clause-step g c =
+    let exit = err_from_is_err_and c.from_residual-in_err-store.result c.from_residual-in_err-store.ensures.1 in
+    rw (exit.1, exit.2) (went _ _ _ _ _ _ _ c.in_ok-launch.ensures.step (ended _ _ _ _ _ c.in_err-store.ensures.step))
+
+pub returns-in_err-all-clause-step : goal.returns-in_err-all-clause-step
+unfolding exports_documents
+returns-in_err-all-clause-step g c =
+    let exit = err_from_is_err_and c.from_residual-in_err-all.result c.from_residual-in_err-all.ensures.1 in
+    rw (exit.1, exit.2) (went _ _ _ _ _ _ _ c.in_ok-launch.ensures.step (went _ _ _ _ _ _ _ c.in_ok-store.ensures.step ((no_memory _ _ _ (Store stored.Memory) refl))))
+
+pub returns-clause-step : goal.returns-clause-step
+unfolding exports_documents
+returns-clause-step g c =
+    went _ _ _ _ _ _ _ c.in_ok-launch.ensures.step (went _ _ _ _ _ _ _ c.in_ok-store.ensures.step ((given _ _ _ _ (ap Ok (sym c.in_ok-all.ensures.documents)))))

@@ -1,0 +1,41 @@
+-- The export of an image, in the order of work (platform.md, "exporter").
+use Rattle.std.specs.Prelude.{List, map, Result, Ok}
+use Rattle.image_docs.specs.declared.analyzed.Analyzed.{Analyzed}
+use Rattle.run_docs.specs.declared.group.GroupRow.{GroupRow}
+use Rattle.shelf_set.specs.Caches.{WorldAndCaches, in_caches, in_world}
+use Rattle.shelf_set.specs.Caching.{stores_rows}
+use Rattle.steps.specs.Steps.{◌>>=◌, gives, yields}
+use Rattle.cnb_export.specs.declared.exported.Exported.{Exported}
+use Rattle.cnb_export.specs.declared.exported.ExportedRow.{ExportedRow}
+use Rattle.cnb_export.specs.declared.exported.ExportFrame.{ExportFrame}
+use Rattle.cnb_export.specs.declared.exported.ImageLayer.{ImageLayer}
+use Rattle.cnb_export.specs.declared.exporting.Gained.{Gained}
+use Rattle.cnb_export.specs.declared.fault.ExportFault.{ExportFault}
+use Rattle.cnb_export.specs.Buildpack.{exports_group}
+use Rattle.cnb_export.specs.Image.{image_of}
+use Rattle.cnb_export.specs.Images.{reads_previous, reads_run_image}
+use Rattle.cnb_export.specs.Refusals.{cause_of}
+use Rattle.cnb_export.specs.Trees.{puts_trees}
+use Rattle.steps.specs.Outside.{Seen}
+
+-- a layer of the image, as it is told
+abbrev pub exported_row : ImageLayer → ExportedRow
+exported_row layer = record { id = layer.row.id; layer = layer.row.layer; reused = layer.reused }
+
+-- The images are read, then what each buildpack left and the trees above the layers, and these make the image.
+unfoldable pub gains : ExportFrame → List GroupRow → Analyzed → Seen → Result Gained ExportFault → Seen → Type 0
+gains frame group analyzed = do
+  run ← reads_run_image frame.store analyzed.run
+  previous ← reads_previous frame.store analyzed.previous
+  gathered ← exports_group frame previous group
+  digests ← puts_trees frame gathered.processes
+  image ← gives cause_of (Ok (image_of analyzed.run run group gathered digests))
+  rows ← gives cause_of (Ok (map exported_row gathered.layers))
+  yields (record { image = image; rows = rows; cached = gathered.cached; trees = gathered.trees })
+
+-- At last the layers that go into caches are stored.
+unfoldable pub exports : ExportFrame → List GroupRow → Analyzed → WorldAndCaches → Result Exported ExportFault → WorldAndCaches → Type 0
+exports frame group analyzed = do
+  gained ← in_world (gains frame group analyzed)
+  gone ← in_caches (stores_rows cause_of gained.cached gained.trees)
+  yields (record { image = gained.image; rows = gained.rows; gone = gone })

@@ -1,0 +1,83 @@
+// The command `export`.
+ghost use Rattle.std.specs.Prelude.{◌≡◌, ◌≤◌, length, map};
+ghost use Rattle.cnb_words.specs.Export as words;
+ghost use Rattle.shelf_set.specs.Caches.{caches_of, world_and_caches};
+ghost use Rattle.shelf_set.specs.Dropping.{AreStanding};
+ghost use Rattle.shelf_set.specs.ShelfState.{state_of};
+ghost use Rattle.steps.specs.Causes.{CountsChildren, CountsFiles};
+ghost use Rattle.steps.specs.Outside.{seen};
+ghost use Rattle.cnb_export.specs.Command.{exports_command, saves_image};
+ghost use Rattle.cnb_export.specs.Given.{refusal_cause};
+ghost use Rattle.cnb_export.specs.Refusals.{cause_of};
+
+use crate::exporting::export;
+use crate::fault::ExportFault;
+use crate::given::read_given;
+use crate::refusal::ExportRefusal;
+use crate::report::exported_text;
+use cnb_toml::ImageName;
+use cnb_words::ExportWords;
+use cnb_world::{List, Path, Shelf, Text, World};
+use image_docs::ImageDoc;
+use shelf_set::Shelves;
+use std::alloc::Global;
+
+/// Writes the image's document into a file of the store.
+pub fn save_image<W: World>(
+    alloc: Global,
+    world: &mut W,
+    store: &Path,
+    name: &ImageName,
+    image: &ImageDoc,
+) -> Result<(), ExportFault>
+    requires { length store.now ≤ 4096 }
+    ensures step { saves_image store.now name.now image.now (seen W.World world.old) result (seen W.World world.new) }
+    ensures files { CountsFiles cause_of result (W.file_faults world.old) (W.file_faults world.new) }
+    ensures children { CountsChildren cause_of result (W.child_faults world.old) (W.child_faults world.new) }
+{
+    image_files::save_image(alloc, world, store, name, image)?;
+    Ok(())
+}
+
+/// Exports the image of the chosen group, and gives the text to be printed (platform.md, "exporter"). The image's document
+/// is written last. `places` has the numbers of the caches that stand, which are the first of the list.
+pub fn export_command<W: World>(
+    alloc: Global,
+    options: &ExportWords,
+    world: &mut W,
+    shelves: &mut Shelves,
+    places: &mut List<u32>,
+) -> Result<Text, ExportRefusal>
+    requires limits { words.KeepsLimits options.now }
+    requires standing { AreStanding places.old
+        (map (λ s. state_of (held s) (rows s) (faults s)) shelves.old.items) }
+    ensures steps { exports_command options.now
+        (world_and_caches (seen W.World world.old)
+        (caches_of (map (λ s. state_of (held s) (rows s) (faults s)) shelves.old.items) places.old))
+        result
+        (world_and_caches (seen W.World world.new)
+        (caches_of (map (λ s. state_of (held s) (rows s) (faults s)) shelves.new.items) places.new)) }
+    ensures again { AreStanding places.new (map (λ s. state_of (held s) (rows s) (faults s)) shelves.new.items) }
+    ensures files { CountsFiles refusal_cause result (W.file_faults world.old) (W.file_faults world.new) }
+    ensures children { CountsChildren refusal_cause result (W.child_faults world.old) (W.child_faults world.new) }
+{
+    let given = read_given(alloc, world, options)?;
+    let exported = export(
+        alloc,
+        world,
+        shelves,
+        places,
+        &given.frame,
+        &given.group,
+        &given.analyzed,
+    )?;
+    let text = exported_text(alloc, &options.image, &exported)?;
+    save_image(
+        alloc,
+        world,
+        &options.store,
+        &options.image,
+        &exported.image,
+    )?;
+    Ok(text)
+}

@@ -1,0 +1,108 @@
+// The export of an image.
+ghost use Rattle.std.specs.Prelude.{◌≡◌, IfOk, map};
+ghost use Rattle.shelf_set.specs.Caches.{caches_of, world_and_caches};
+ghost use Rattle.shelf_set.specs.Caching.{digest_of_row, digest_of_tree};
+ghost use Rattle.shelf_set.specs.Dropping.{AreStanding};
+ghost use Rattle.shelf_set.specs.ShelfState.{state_of};
+ghost use Rattle.steps.specs.Causes.{CountsChildren, CountsFiles};
+ghost use Rattle.steps.specs.Outside.{seen};
+ghost use Rattle.cnb_export.specs.Exports.{exported_row, exports, gains};
+ghost use Rattle.cnb_export.specs.Frame.{KeepsLimits};
+ghost use Rattle.cnb_export.specs.Refusals.{cause_of};
+
+use crate::buildpack::export_group;
+use crate::exported::{ExportFrame, Exported, ExportedRow, ImageLayer};
+use crate::fault::ExportFault;
+use crate::image::make_image;
+use crate::images::{read_previous, read_run_image};
+use crate::trees::put_trees;
+use cnb_world::{List, Memory, Shelf, World};
+use image_docs::{Analyzed, CacheDoc, ImageDoc};
+use run_docs::GroupDoc;
+use shelf_set::{Shelves, store_all};
+use std::alloc::Global;
+use tree_canon::Tree;
+
+/// The image, its layers, and the layers that go into caches, with their trees.
+#[derive(Drop)]
+pub(crate) struct Gained {
+    pub(crate) image: ImageDoc,
+    pub(crate) rows: List<ExportedRow>,
+    pub(crate) cached: CacheDoc,
+    pub(crate) trees: List<Tree>,
+}
+
+fn exported_rows(alloc: Global, layers: &[ImageLayer]) -> Result<List<ExportedRow>, Memory>
+    ensures { IfOk result (λ rows. rows ≡ map exported_row layers.now) }
+{
+    let mut rows = List::new(alloc);
+    for layer in layers {
+        rows.push(ExportedRow {
+            id: layer.row.id.copy(alloc)?,
+            layer: layer.row.layer.copy(alloc)?,
+            reused: layer.reused,
+        })?;
+    }
+    Ok(rows)
+}
+
+fn gain<W: World>(
+    alloc: Global,
+    world: &mut W,
+    frame: &ExportFrame,
+    group: &GroupDoc,
+    analyzed: &Analyzed,
+) -> Result<Gained, ExportFault>
+    requires { KeepsLimits frame.now }
+    ensures step { gains frame.now group.now analyzed.now (seen W.World world.old) result (seen W.World world.new) }
+    ensures matched { IfOk result (λ gained. map digest_of_row gained.cached ≡ map digest_of_tree gained.trees) }
+    ensures files { CountsFiles cause_of result (W.file_faults world.old) (W.file_faults world.new) }
+    ensures children { CountsChildren cause_of result (W.child_faults world.old) (W.child_faults world.new) }
+{
+    let run = read_run_image(alloc, world, &frame.store, &analyzed.run)?;
+    let previous = read_previous(alloc, world, &frame.store, &analyzed.previous)?;
+    let gathered = export_group(alloc, world, frame, previous.as_slice(), group.as_slice())?;
+    let digests = put_trees(alloc, world, frame, gathered.processes.as_slice())?;
+    let image = make_image(alloc, &analyzed.run, &run, group, &gathered, &digests)?;
+    let rows = exported_rows(alloc, gathered.layers.as_slice())?;
+    Ok(Gained {
+        image,
+        rows,
+        cached: gathered.cached,
+        trees: gathered.trees,
+    })
+}
+
+/// Exports an image: what the buildpacks of a group left, the application and the launcher. Trees go into the store and
+/// into the caches that stand; no image document is written. Trees that were put stay after a refusal (platform.md,
+/// "exporter"). The folders of the frame have at most 4,096 bytes.
+pub fn export<W: World>(
+    alloc: Global,
+    world: &mut W,
+    shelves: &mut Shelves,
+    places: &mut List<u32>,
+    frame: &ExportFrame,
+    group: &GroupDoc,
+    analyzed: &Analyzed,
+) -> Result<Exported, ExportFault>
+    requires limits { KeepsLimits frame.now }
+    requires standing { AreStanding places.old
+        (map (λ s. state_of (held s) (rows s) (faults s)) shelves.old.items) }
+    ensures steps { exports frame.now group.now analyzed.now
+        (world_and_caches (seen W.World world.old)
+        (caches_of (map (λ s. state_of (held s) (rows s) (faults s)) shelves.old.items) places.old))
+        result
+        (world_and_caches (seen W.World world.new)
+        (caches_of (map (λ s. state_of (held s) (rows s) (faults s)) shelves.new.items) places.new)) }
+    ensures again { AreStanding places.new (map (λ s. state_of (held s) (rows s) (faults s)) shelves.new.items) }
+    ensures files { CountsFiles cause_of result (W.file_faults world.old) (W.file_faults world.new) }
+    ensures children { CountsChildren cause_of result (W.child_faults world.old) (W.child_faults world.new) }
+{
+    let gained = gain(alloc, world, frame, group, analyzed)?;
+    let gone = store_all(alloc, shelves, places, &gained.cached, &gained.trees)?;
+    Ok(Exported {
+        image: gained.image,
+        rows: gained.rows,
+        gone,
+    })
+}

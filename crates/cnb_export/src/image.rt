@@ -1,0 +1,147 @@
+// The image.
+ghost use Rattle.std.specs.Prelude.{◌≡◌, IfOk, map};
+ghost use Rattle.std.specs.Option.{option_copied};
+ghost use Rattle.cnb_export.specs.Image.{image_of, key_of, launch_of, layer_of};
+ghost use Rattle.cnb_export.specs.Ascending.{label_key, last_of_each};
+
+use crate::ascending::last_of_each;
+use crate::exported::{Digests, Gathered, ImageLayer};
+use crate::processes::{default_of, entrypoint};
+use crate::rows::image_rows;
+use cnb_toml::{ImageName, Key, Label, ProcType, Process};
+use cnb_world::{List, Memory};
+use image_docs::{ImageDoc, LaunchDoc, LayerRow, RunDoc, StoreRow};
+use image_files::{base_of, image_env};
+use run_docs::{GroupDoc, GroupRow};
+use std::alloc::Global;
+
+fn keys(alloc: Global, group: &[GroupRow]) -> Result<List<Key>, Memory>
+    ensures { IfOk result (λ keys. keys ≡ map key_of group.now) }
+{
+    let mut keys = List::new(alloc);
+    for row in group {
+        keys.push(row.key.copy(alloc)?)?;
+    }
+    Ok(keys)
+}
+
+fn copy_type(alloc: Global, kind: Option<&ProcType>) -> Result<Option<ProcType>, Memory>
+    ensures { IfOk result (λ copy. copy ≡ option_copied kind.entry) }
+{
+    match kind {
+        Some(kind) => Ok(Some(kind.copy(alloc)?)),
+        None => Ok(None),
+    }
+}
+
+fn launch(
+    alloc: Global,
+    group: &GroupDoc,
+    processes: &[Process],
+    default: Option<&ProcType>,
+) -> Result<LaunchDoc, Memory>
+    ensures { IfOk result (λ launch. launch ≡ launch_of group.now processes.now (option_copied default.entry)) }
+{
+    Ok(LaunchDoc {
+        buildpacks: keys(alloc, group.as_slice())?,
+        processes: last_of_each(alloc, processes)?,
+        default: copy_type(alloc, default)?,
+    })
+}
+
+/// The same layer once more.
+pub(crate) fn copy_layer(alloc: Global, row: &LayerRow) -> Result<LayerRow, Memory>
+    ensures { IfOk result (λ copy. copy ≡ row.now) }
+{
+    Ok(LayerRow {
+        id: row.id.copy(alloc)?,
+        layer: row.layer.copy(alloc)?,
+        flags: row.flags,
+        meta: row.meta.copy(alloc)?,
+        digest: row.digest,
+    })
+}
+
+fn layers(alloc: Global, layers: &[ImageLayer]) -> Result<List<LayerRow>, Memory>
+    ensures { IfOk result (λ rows. rows ≡ map layer_of layers.now) }
+{
+    let mut rows = List::new(alloc);
+    for layer in layers {
+        rows.push(copy_layer(alloc, &layer.row)?)?;
+    }
+    Ok(rows)
+}
+
+fn store(alloc: Global, rows: &[StoreRow]) -> Result<List<StoreRow>, Memory>
+    ensures { IfOk result (λ copies. copies ≡ rows.now) }
+{
+    let mut copies = List::new(alloc);
+    for row in rows {
+        copies.push(StoreRow {
+            id: row.id.copy(alloc)?,
+            meta: row.meta.copy(alloc)?,
+        })?;
+    }
+    Ok(copies)
+}
+
+/// What buildpacks gave to an image.
+struct Provided {
+    labels: List<Label>,
+    launch: LaunchDoc,
+    layers: List<LayerRow>,
+    store: List<StoreRow>,
+}
+
+fn provided_by(
+    alloc: Global,
+    group: &GroupDoc,
+    gathered: &Gathered,
+    default: Option<&ProcType>,
+) -> Result<Provided, Memory>
+    ensures labels { IfOk result (λ all. all.labels ≡ last_of_each label_key gathered.now.labels) }
+    ensures launch { IfOk result (λ all. all.launch ≡ launch_of group.now gathered.now.processes (option_copied default.entry)) }
+    ensures layers { IfOk result (λ all. all.layers ≡ map layer_of gathered.now.layers) }
+    ensures store { IfOk result (λ all. all.store ≡ gathered.now.store) }
+{
+    Ok(Provided {
+        labels: last_of_each(alloc, gathered.labels.as_slice())?,
+        launch: launch(alloc, group, gathered.processes.as_slice(), default)?,
+        layers: layers(alloc, gathered.layers.as_slice())?,
+        store: store(alloc, gathered.store.as_slice())?,
+    })
+}
+
+/// The image of what was gathered, on a run image of this name.
+pub(crate) fn make_image(
+    alloc: Global,
+    name: &ImageName,
+    run: &RunDoc,
+    group: &GroupDoc,
+    gathered: &Gathered,
+    digests: &Digests,
+) -> Result<ImageDoc, Memory>
+    ensures { IfOk result (λ image. image ≡ image_of name.now run.now group.now gathered.now digests.now) }
+{
+    let default = default_of(gathered.processes.as_slice());
+    let base = base_of(alloc, name, run, digests.launcher)?;
+    let rows = image_rows(alloc, run, gathered, digests)?;
+    let env = image_env(alloc, &run.env)?;
+    let entrypoint = entrypoint(alloc, default)?;
+    let Provided {
+        labels,
+        launch,
+        layers,
+        store,
+    } = provided_by(alloc, group, gathered, default)?;
+    Ok(ImageDoc {
+        base,
+        rows,
+        env,
+        entrypoint,
+        labels,
+        launch,
+        layers,
+        store,
+    })
+}

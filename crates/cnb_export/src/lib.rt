@@ -1,0 +1,32 @@
+//! The export of an image: what the buildpacks of a group left, the application and the launcher go into a store of trees
+//! and into caches, and the image that they make is answered.
+#![tactic(auto)]
+
+mod ascending;
+mod buildpack;
+mod command;
+mod exported;
+mod exporting;
+mod fault;
+mod gathering;
+mod given;
+mod image;
+mod images;
+mod layer;
+mod layer_names;
+mod names;
+mod paths;
+mod processes;
+mod reading;
+mod refusal;
+mod report;
+mod rows;
+mod settling;
+mod trees;
+
+pub use command::{export_command, save_image};
+pub use exported::{ExportFrame, Exported, ExportedRow};
+pub use exporting::export;
+pub use fault::ExportFault;
+pub use refusal::ExportRefusal;
+pub use report::exported_text;

@@ -1,0 +1,84 @@
+// The names of the layers in a folder.
+ghost use Rattle.std.specs.Prelude.{◌≡◌};
+ghost use Rattle.cnb_env.specs.Files.{is_absent};
+ghost use Rattle.steps.specs.Causes.{CountsChildren, CountsFiles};
+ghost use Rattle.steps.specs.Outside.{seen};
+ghost use Rattle.cnb_export.specs.Names.{lists, lists_unless, reads_layer_names, reads_names};
+ghost use Rattle.cnb_export.specs.Refusals.{cause_of};
+
+use crate::fault::ExportFault;
+use crate::layer_names::layers_among;
+use crate::reading::kind_at;
+use cnb_toml::LayerName;
+use cnb_world::{Kind, List, Path, Text, World};
+use doc_files::list_names;
+use std::alloc::Global;
+
+fn list<W: World>(alloc: Global, world: &mut W, folder: &Path) -> Result<List<Text>, ExportFault>
+    ensures step { lists folder.now (seen W.World world.old) result (seen W.World world.new) }
+    ensures files { CountsFiles cause_of result (W.file_faults world.old) (W.file_faults world.new) }
+    ensures children { CountsChildren cause_of result (W.child_faults world.old) (W.child_faults world.new) }
+{
+    let names = list_names(alloc, world, folder)?;
+    Ok(names)
+}
+
+#[tactic(auto, unfolding(steps::specs::Steps::yields))]
+fn list_unless<W: World>(
+    alloc: Global,
+    world: &mut W,
+    absent: bool,
+    folder: &Path,
+) -> Result<List<Text>, ExportFault>
+    ensures step { lists_unless absent folder.now (seen W.World world.old) result (seen W.World world.new) }
+    ensures files { CountsFiles cause_of result (W.file_faults world.old) (W.file_faults world.new) }
+    ensures children { CountsChildren cause_of result (W.child_faults world.old) (W.child_faults world.new) }
+{
+    if absent {
+        Ok(List::new(alloc))
+    } else {
+        list(alloc, world, folder)
+    }
+}
+
+fn is_absent(kind: Kind) -> bool
+    ensures { result ≡ is_absent kind }
+{
+    match kind {
+        Kind::Absent => true,
+        Kind::Folder => false,
+        Kind::File { exec: _, len: _ } => false,
+        Kind::Link => false,
+        Kind::Odd => false,
+    }
+}
+
+// The names in the folder, of which there are none where nothing stands.
+fn read_names<W: World>(
+    alloc: Global,
+    world: &mut W,
+    folder: &Path,
+) -> Result<List<Text>, ExportFault>
+    ensures step { reads_names folder.now (seen W.World world.old) result (seen W.World world.new) }
+    ensures files { CountsFiles cause_of result (W.file_faults world.old) (W.file_faults world.new) }
+    ensures children { CountsChildren cause_of result (W.child_faults world.old) (W.child_faults world.new) }
+{
+    let kind = kind_at(alloc, world, folder)?;
+    let names = list_unless(alloc, world, is_absent(kind), folder)?;
+    Ok(names)
+}
+
+/// The names of the layers that have a document in the folder, ascending (buildpack.md, "Layer Types").
+pub(crate) fn read_layer_names<W: World>(
+    alloc: Global,
+    world: &mut W,
+    folder: &Path,
+) -> Result<List<LayerName>, ExportFault>
+    ensures step { reads_layer_names folder.now (seen W.World world.old) result (seen W.World world.new) }
+    ensures files { CountsFiles cause_of result (W.file_faults world.old) (W.file_faults world.new) }
+    ensures children { CountsChildren cause_of result (W.child_faults world.old) (W.child_faults world.new) }
+{
+    let names = read_names(alloc, world, folder)?;
+    let layers = layers_among(alloc, &names)?;
+    Ok(layers)
+}
