@@ -1,0 +1,255 @@
+-- What `create` leaves alone where it is refused: the image's document.
+use Rattle.std.proofs.Common.{◌≡◌, ◌∙◌, refl, sym, ap, subst, ℕ, ◌<◌, Bool, true, false, not, cond, List, [], ◌∷◌, ◌++◌, length, length-append, codes, take, append_assoc, arith, Option, Some, Result, Ok, Err, inl, inr, ◌⊎◌}
+use Rattle.std.specs.Prelude.{IsTrue, OnErr}
+use Rattle.std.specs.FinMap.{get, insert}
+use Rattle.std.specs.List.{list_all}
+use Rattle.std.specs.Str.{bytes_eq}
+use Rattle.std.proofs.lemmas.Bool.{and_from, and_parts}
+use Rattle.cnb_world.specs.Path.{beside, is_path, joined, parent_of}
+use Rattle.cnb_world.specs.Tree.{Tree, folder_made, is_root, is_within, item_at}
+use Rattle.cnb_world.specs.Whole.{FolderMade, PartBeside, Progress, Unbegun, left_of}
+use Rattle.cnb_world.specs.declared.env.Variable.{Variable}
+use Rattle.cnb_world.specs.declared.world.Item.TheVariants.{File}
+use Rattle.cnb_world.proofs.Trees.{bytes_eq-other, get-insert_bytes}
+use Rattle.cnb_world.proofs.Folders.{get-folder_made_longer, longer_beside, parent_shorter}
+use Rattle.cnb_world.proofs.EffectLemmas.{same_path}
+use Rattle.cnb_build.specs.declared.frame.BuildFrame.{BuildFrame}
+use Rattle.cnb_build.specs.Outcome.{spares}
+use Rattle.cnb_build.specs.Places.{layers_folder, plan_path}
+use Rattle.cnb_build.specs.Refusals as building
+use Rattle.cnb_build.proofs.KeepLaws.{keeps_builds}
+use Rattle.cnb_detect.specs.Choice.{Choice}
+use Rattle.cnb_detect.specs.Detects.{chooses}
+use Rattle.cnb_detect.specs.Documents.{group_document, plan_document, writes_choice}
+use Rattle.cnb_detect.specs.Preparation.{prepares}
+use Rattle.cnb_detect.specs.Refusals as detection
+use Rattle.cnb_detect.proofs.DetectLaws.{prepares_reads}
+use Rattle.cnb_export.specs.Command.{saves_image}
+use Rattle.cnb_export.specs.Refusals as exporting
+use Rattle.cnb_restore.specs.Analyzes.{analyzes}
+use Rattle.cnb_restore.specs.Commands.{ReadsAsAnalyzed, analyzed_document}
+use Rattle.cnb_restore.specs.Faults as restoring
+use Rattle.cnb_words.specs.declared.create.CreateWords.{CreateWords}
+use Rattle.image_docs.specs.declared.analyzed.Analyzed.{Analyzed}
+use Rattle.image_docs.specs.declared.image.ImageDoc.{ImageDoc}
+use Rattle.image_files.specs.Images.{writes_image}
+use Rattle.image_files.specs.Paths.{document_name, image_path, images_folder}
+use Rattle.image_files.proofs.PathLemmas.{document_length}
+use Rattle.run_docs.specs.Group.{group_in}
+use Rattle.run_docs.specs.Plan.{plan_in}
+use Rattle.run_docs.specs.declared.group.GroupRow.{GroupRow}
+use Rattle.shelf_set.specs.Caches.{in_world}
+use Rattle.steps.specs.Causes.{Cause}
+use Rattle.steps.specs.Frames.{Keeps, is_free, standing, touched}
+use Rattle.steps.specs.Outside.{Seen}
+use Rattle.steps.specs.Steps.{LeavesSome, ◌>>=◌, gives, map_err, writes, yields}
+use Rattle.steps.proofs.FrameLaws.{Preserves, keeps_bind, keeps_gives, keeps_reads, keeps_same, keeps_told, keeps_writes, keeps_yields, step_at}
+use Rattle.tree_store.specs.Store.{tree_path}
+use Rattle.cnb_create.specs.Apart.{are_apart, image_document, is_image_apart}
+use Rattle.cnb_create.specs.Creates.{build_frame, builds_group, chooses_group, creates, export_frame, exports_image, leaves_image, looks_at_images, phases_of, previous_name}
+use Rattle.cnb_create.specs.Report.{created_text}
+use Rattle.cnb_create.specs.Refusals.{cause_of}
+use Rattle.cnb_create.specs.Surroundings.{Surroundings}
+use Rattle.cnb_create.specs.declared.phases.Phases.{Phases}
+use Rattle.cnb_create.specs.declared.refusal.CreateRefusal.{CreateRefusal}
+use Rattle.cnb_create.specs.declared.refusal.CreateRefusal.TheVariants.{Build, Detect, Export, Restore}
+use Rattle.cnb_create.proofs.ApartLemmas.{Below, folder_not_root, free_document, free_folder, inside_joined, within_so}
+use Rattle.cnb_create.proofs.ExportLaws.{keeps_exports}
+use Rattle.cnb_create.proofs.KeepLemmas.{KeepsIn, KeepsRefused, all_over_caches, all_over_outside, all_over_world, all_world, at_get, cached_world, in_bind, in_gives, in_told, in_yields, refused_bind, refused_over_caches, spawners_in_spawners, spawners_in_world, spawners_world}
+use Rattle.cnb_create.proofs.RestoreLaws.{keeps_restores}
+
+-- ---- the phases
+
+keeps_analyzes : (path store run : List ℕ) (previous : Option (List ℕ)) → Preserves path (analyzes store run previous)
+unfolding analyzes
+keeps_analyzes path store run previous =
+    keeps_bind path _ _ (keeps_reads path restoring.cause_of _ _) (λ image. keeps_bind path _ _ (keeps_reads path restoring.cause_of _ _) (λ known. keeps_gives path restoring.cause_of _))
+
+keeps_images : (path : List ℕ) (words : CreateWords) → is_free (touched (analyzed_document words.detect.work)) path ≡ true → Preserves path (looks_at_images words)
+unfolding looks_at_images
+keeps_images path words free =
+    keeps_bind path _ _ (keeps_analyzes path words.store words.run (Some (previous_name words)))
+    (λ analyzed. keeps_bind path _ _ (keeps_writes path restoring.cause_of (analyzed_document words.detect.work) (ReadsAsAnalyzed analyzed) free) (λ written. keeps_yields path analyzed))
+
+keeps_prepares : (path : List ℕ) (words : CreateWords) (env : List Variable) → Preserves path (prepares words.detect env)
+keeps_prepares path words env old new result h =
+    let read = prepares_reads words.detect env old new result h in
+    keeps_same path old new read.same.runs (ap (λ files. standing files path) read.same.files)
+
+keeps_choice : (path : List ℕ) (work : List ℕ) (choice : Choice) → is_free (touched (group_document work)) path ≡ true → is_free (touched (plan_document work)) path ≡ true → Preserves path (writes_choice work choice)
+unfolding writes_choice
+keeps_choice path work choice group plan =
+    keeps_bind path _ _ (keeps_writes path detection.cause_of (group_document work) (λ bytes. group_in bytes ≡ Ok choice.group) group)
+    (λ first. keeps_bind path _ _ (keeps_writes path detection.cause_of (plan_document work) (λ bytes. plan_in bytes ≡ Ok choice.plan) plan) (λ second. keeps_yields path tt))
+
+keeps_chooses : (path : List ℕ) (words : CreateWords) (env : List Variable) → is_free (touched (group_document words.detect.work)) path ≡ true → is_free (touched (plan_document words.detect.work)) path ≡ true
+    → KeepsIn spawners_world path (chooses_group words.detect env)
+unfolding chooses_group chooses
+keeps_chooses path words env group plan =
+    in_bind spawners_world path _ _ (in_bind spawners_world path _ _ (spawners_in_world path _ (keeps_prepares path words env)) (λ prepared. spawners_in_spawners path _))
+    (λ choice. in_bind spawners_world path _ _ (spawners_in_world path _ (keeps_choice path words.detect.work choice group plan)) (λ written. in_yields spawners_world path choice))
+
+-- a group whose builds leave a path alone that is apart from the layers folder and from that of the plans
+all_spared : (path : List ℕ) (frame : BuildFrame) (group : List GroupRow) → are_apart (joined frame.work (codes "plans")) path ≡ true → are_apart frame.layers path ≡ true → list_all (spares path frame) group ≡ true
+all_spared path frame [] plans layers = refl
+all_spared path frame (row ∷ group) plans layers =
+    and_from (spares path frame row) (list_all (spares path frame) group)
+    (and_from _ _ (free_folder frame.layers path layers (layers_folder frame row.key) (inside_joined frame.layers _ (folder_not_root frame.layers path layers)))
+    (free_document (joined frame.work (codes "plans")) path plans (plan_path frame row.key) (inside_joined (joined frame.work (codes "plans")) _ (folder_not_root (joined frame.work (codes "plans")) path plans))))
+    (all_spared path frame group plans layers)
+
+was_given : {A E : Type 0} (a b : A) → (let r : Result A E = Ok a in r) ≡ Ok b → a ≡ b
+was_given a b h = cc
+
+-- a value that is known, and what is done with it
+in_known : {S E A B : Type 0} (view : S → Seen) (path : List ℕ) (cause : E → Cause) (value : A) (next : A → S → Result B E → S → Type 0) → KeepsIn view path (next value) → KeepsIn view path (gives cause (Ok value) >>= next)
+unfolding ◌>>=◌ gives
+in_known view path cause value next keeps old new (Ok result) (a, mid, given, later) =
+    subst (λ s. Keeps path (view s) (view new)) given.0 (subst (λ v. KeepsIn view path (next v)) (was_given value a given.1) keeps mid new (Ok result) later)
+in_known view path cause value next keeps old new (Err fault) (inl given) = in_gives view path cause (Ok value) old new (Err fault) given
+in_known view path cause value next keeps old new (Err fault) (inr (a, mid, given, later)) =
+    subst (λ s. Keeps path (view s) (view new)) given.0 (subst (λ v. KeepsIn view path (next v)) (was_given value a given.1) keeps mid new (Err fault) later)
+
+keeps_group : (path : List ℕ) (words : CreateWords) (env : List Variable) (choice : Choice) → are_apart (joined words.detect.work (codes "plans")) path ≡ true → are_apart words.layers path ≡ true
+    → Preserves path (builds_group words env choice)
+unfolding builds_group
+keeps_group path words env choice plans layers =
+    keeps_bind path _ _ (keeps_reads path building.cause_of _ _)
+    (λ files. in_known (λ (s : Seen). s) path building.cause_of (build_frame words env files) _
+    (keeps_builds path (build_frame words env files) choice.plan choice.group (all_spared path (build_frame words env files) choice.group plans layers)))
+
+-- ---- trees stand apart from images
+
+other_behind : (front xs ys : List ℕ) → front ++ 105 ∷ xs ≡ front ++ 116 ∷ ys → ⊥
+other_behind [] xs ys same = let e : ◌≡◌ {A = ℕ} 105 116 = cc in absurd (omega (arith, e))
+other_behind (c ∷ front) xs ys same = let rest : front ++ 105 ∷ xs ≡ front ++ 116 ∷ ys = cc in other_behind front xs ys rest
+
+abbrev front_of_store : List ℕ → List ℕ
+front_of_store store = cond (bytes_eq store (47 ∷ [])) store (store ++ 47 ∷ [])
+
+no_root_behind : (front name : List ℕ) → 1 < length name → is_root (front ++ name) ≡ false
+no_root_behind front name long = by (is_root (front ++ name)) refl
+  where
+    by : (v : Bool) → is_root (front ++ name) ≡ v → v ≡ false
+    by true is =
+        let e : length (front ++ name) ≡ 1 = ap length (same_path (front ++ name) (47 ∷ []) is) in
+        absurd (omega (arith, e, long, length-append front name))
+    by false is = refl
+
+-- what a name lies behind, in or below a folder
+behind : (folder name : List ℕ) → (more : List ℕ) × (joined folder name ≡ folder ++ more)
+behind folder name = by (bytes_eq folder (47 ∷ []))
+  where
+    by : (root : Bool) → (more : List ℕ) × (cond root folder (folder ++ 47 ∷ []) ++ name ≡ folder ++ more)
+    by true = (name, refl)
+    by false = (47 ∷ name, append_assoc folder (47 ∷ []) name)
+
+images_are : (store name : List ℕ) → (more : List ℕ) × (image_path store name ≡ front_of_store store ++ 105 ∷ more)
+images_are store name =
+    let b = behind (images_folder store) (document_name name) in
+    (109 ∷ 97 ∷ 103 ∷ 101 ∷ 115 ∷ b.0, b.1 ∙ append_assoc (front_of_store store) (codes "images") b.0)
+
+unless_within : (folder path : List ℕ) → is_root folder ≡ false → (Below folder path → ⊥) → not (is_within folder path) ≡ true
+unless_within folder path no_root lacks = by (is_within folder path) refl
+  where
+    either : (is_root folder ≡ true) ⊎ Below folder path → ⊥
+    either (inl root) = let e : true ≡ false = sym root ∙ no_root in absurd (cc)
+    either (inr below) = lacks below
+
+    by : (v : Bool) → is_within folder path ≡ v → not v ≡ true
+    by true is = absurd (either (within_so folder path is))
+    by false is = refl
+
+trees_apart : (store name : List ℕ) → are_apart (joined store (codes "trees")) (image_path store name) ≡ true
+trees_apart store name =
+    let at = images_are store name in
+    and_from (not (is_within (joined store (codes "trees")) (image_path store name))) (not (is_within (image_path store name) (joined store (codes "trees"))))
+    (unless_within _ _ (no_root_behind (front_of_store store) (codes "trees") (omega arith))
+    (λ below. other_behind (front_of_store store) at.0 (114 ∷ 101 ∷ 101 ∷ 115 ∷ below.0) (sym at.1 ∙ below.1 ∙ append_assoc (front_of_store store) (codes "trees") below.0)))
+    (unless_within _ _ (no_root_behind (cond (bytes_eq (images_folder store) (47 ∷ [])) (images_folder store) (images_folder store ++ 47 ∷ [])) (document_name name) (omega (arith, document_length name)))
+    (λ below. other_behind (front_of_store store) (at.0 ++ below.0) (114 ∷ 101 ∷ 101 ∷ 115 ∷ []) (sym (append_assoc (front_of_store store) (105 ∷ at.0) below.0) ∙ ap (λ v. v ++ below.0) (sym at.1) ∙ sym below.1)))
+
+free_of_trees : (store name digest : List ℕ) → is_free (touched (tree_path store digest)) (image_path store name) ≡ true
+free_of_trees store name digest =
+    free_document (joined store (codes "trees")) (image_path store name) (trees_apart store name) (tree_path store digest) (inside_joined (joined store (codes "trees")) _ (folder_not_root (joined store (codes "trees")) (image_path store name) (trees_apart store name)))
+
+-- ---- the image's own document
+
+-- where a write is refused, its own path is as before
+left_itself : (progress : Progress) (bytes : List ℕ) (t : Tree) (p : List ℕ) → 1 < length p → item_at (left_of progress p bytes t) p ≡ item_at t p
+left_itself progress bytes t p long = by progress
+  where
+    folder : get (folder_made (parent_of p) t) p ≡ get t p
+    folder = get-folder_made_longer (parent_of p) p t (parent_shorter p long)
+
+    beside_it : (u : Tree) (bytes : List ℕ) → get (insert u (beside p) (File false bytes)) p ≡ get u p
+    beside_it u bytes =
+        get-insert_bytes u (beside p) (File false bytes) p
+        ∙ ap (λ b. cond b (Some (File false bytes)) (get u p)) (bytes_eq-other p (beside p) (λ e. let same : length p ≡ length (beside p) = ap length e in omega (arith, same, longer_beside p)))
+
+    by : (progress : Progress) → item_at (left_of progress p bytes t) p ≡ item_at t p
+    by Unbegun = refl
+    by FolderMade = at_get _ t p folder
+    by (PartBeside count) = at_get _ t p (beside_it (folder_made (parent_of p) t) (take count bytes) ∙ folder)
+
+some_left_itself : (p : List ℕ) (Says : List ℕ → Type 0) (o n : Option Tree) → 1 < length p → LeavesSome p Says o n → standing n p ≡ standing o p
+some_left_itself p Says o n long (inl same) = ap (λ files. standing files p) same
+some_left_itself p Says o n long (inr (bytes, says, (progress, fits, is))) = step_at o n (left_of progress p bytes) p (λ t. left_itself progress bytes t p long) is
+
+long_document : (store name : List ℕ) → 1 < length (image_path store name)
+long_document store name = by (bytes_eq (images_folder store) (47 ∷ []))
+  where
+    by : (root : Bool) → 1 < length (cond root (images_folder store) (images_folder store ++ 47 ∷ []) ++ document_name name)
+    by true = omega (arith, length-append (images_folder store) (document_name name), document_length name)
+    by false = omega (arith, length-append (images_folder store ++ 47 ∷ []) (document_name name), document_length name)
+
+refused_write : (store name : List ℕ) (image : ImageDoc) → KeepsRefused (λ (s : Seen). s) (image_path store name) (writes_image store name image)
+unfolding writes_image writes
+refused_write store name image old new fault h = keeps_same (image_path store name) old new h.1.runs (some_left_itself (image_path store name) _ old.files new.files (long_document store name) h.1.files)
+
+refused_told : {S E F A : Type 0} (view : S → Seen) (path : List ℕ) (of : E → F) (step : S → Result A E → S → Type 0) → KeepsRefused view path step → KeepsRefused view path (map_err of step)
+unfolding map_err
+refused_told view path of step p old new refusal (fault, is, h) = p old new fault h
+
+refused_save : (words : CreateWords) (image : ImageDoc) (text : List ℕ) → KeepsRefused {E = CreateRefusal} cached_world (image_document words) (in_world (map_err Export (saves_image words.store words.image image)) >>= (λ saved. yields text))
+unfolding ◌>>=◌ in_world yields
+refused_save words image text old new fault (inl h) =
+    refused_told (λ (s : Seen). s) _ Export _ (refused_told (λ (s : Seen). s) _ exporting.of_image_fault _ (refused_write words.store words.image image)) old.world new.world fault h.0
+refused_save words image text old new fault (inr (saved, mid, h, k)) = absurd k
+
+keeps_image_export : (words : CreateWords) (analyzed : Analyzed) (group : List GroupRow) → KeepsIn cached_world (image_document words) (exports_image words analyzed group)
+unfolding exports_image
+keeps_image_export words analyzed group =
+    in_known cached_world (image_document words) exporting.cause_of (export_frame words) _ (keeps_exports (export_frame words) (image_document words) (free_of_trees words.store words.image) group analyzed)
+
+refused_leaving : (words : CreateWords) (phases : Phases) → KeepsRefused cached_world (image_document words) (leaves_image words phases)
+unfolding leaves_image
+refused_leaving words phases =
+    refused_bind cached_world _ _ _ (in_told cached_world _ Export _ (keeps_image_export words phases.analyzed phases.group))
+    (λ exported. refused_bind cached_world _ _ _ (in_gives cached_world _ cause_of (Ok (created_text words.image phases exported))) (λ text. refused_save words exported.image text))
+
+path_long : (path : List ℕ) → is_path path ≡ true → 0 < length path
+path_long [] h = absurd (cc)
+path_long (c ∷ cs) h = omega arith
+
+-- ---- all of it
+
+keeps_image : (words : CreateWords) (env : List Variable) (old new : Surroundings) (refusal : CreateRefusal) → 0 < length words.layers → is_image_apart words ≡ true → creates words env old (Err refusal) new
+    → Keeps (image_document words) old.world new.world
+unfolding creates
+keeps_image words env old new refusal long apart did =
+    let last = and_parts _ (are_apart words.layers (image_document words)) apart in
+    let fourth = and_parts _ (are_apart (joined words.detect.work (codes "plans")) (image_document words)) last.0 in
+    let third = and_parts _ (is_free (touched (plan_document words.detect.work)) (image_document words)) fourth.0 in
+    let first = and_parts (is_free (touched (analyzed_document words.detect.work)) (image_document words)) (is_free (touched (group_document words.detect.work)) (image_document words)) third.0 in
+    refused_bind all_world _ _ _ (all_over_world _ _ (keeps_told _ Restore _ (keeps_images (image_document words) words first.0)))
+    (λ analyzed. refused_bind all_world _ _ _ (all_over_outside _ _ (in_told spawners_world _ Detect _ (keeps_chooses (image_document words) words env first.1 third.1)))
+    (λ choice. refused_bind all_world _ _ _ (all_over_caches _ _ (in_told cached_world _ Restore _ (keeps_restores words.layers (image_document words) last.1 long words.store analyzed.previous choice.group)))
+    (λ restored. refused_bind all_world _ _ _ (all_over_world _ _ (keeps_told _ Build _ (keeps_group (image_document words) words env choice fourth.1 last.1)))
+    (λ built. refused_over_caches _ _ (refused_leaving words (phases_of analyzed choice restored))))))
+    old new refusal did
+
+pub refused_keeps : (words : CreateWords) (env : List Variable) (old new : Surroundings) (result : Result (List ℕ) CreateRefusal) → is_path words.layers ≡ true → creates words env old result new
+    → OnErr result (IsTrue (is_image_apart words) → Keeps (image_document words) old.world new.world)
+refused_keeps words env old new (Ok text) path did = tt
+refused_keeps words env old new (Err refusal) path did = λ apart. keeps_image words env old new refusal (path_long words.layers path) apart did

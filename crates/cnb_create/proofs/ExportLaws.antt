@@ -1,0 +1,212 @@
+-- What an export leaves alone: a path that no file of a tree is written at or beside.
+use Rattle.std.proofs.Common.{◌≡◌, ℕ, Bool, true, false, ◌&&◌, ◌||◌, List, [], ◌∷◌, Option, Some, None, Result, Ok}
+use Rattle.image_docs.specs.declared.analyzed.Analyzed.{Analyzed}
+use Rattle.image_docs.specs.declared.layer_row.LayerRow.{LayerRow}
+use Rattle.image_files.specs.Images.{reads_image, reads_run_image}
+use Rattle.cnb_toml.specs.declared.fault.DocFault.{DocFault}
+use Rattle.cnb_toml.specs.declared.process.Process.{Process}
+use Rattle.run_docs.specs.declared.group.GroupRow.{GroupRow}
+use Rattle.run_docs.specs.declared.layer.LayerDoc.{LayerDoc}
+use Rattle.run_docs.specs.Launch.{launch_in}
+use Rattle.run_docs.specs.Store.{store_in}
+use Rattle.layer_flags.specs.declared.export.ExportRow.{ExportRow}
+use Rattle.layer_flags.specs.declared.export.ExportRow.TheVariants as table
+use Rattle.cnb_env.specs.Files.{is_absent}
+use Rattle.steps.specs.Frames.{is_free, touched}
+use Rattle.steps.specs.Outside.{Seen}
+use Rattle.steps.proofs.FrameLaws.{Preserves, keeps_bind, keeps_gives, keeps_reads, keeps_told, keeps_yields}
+use Rattle.tree_canon.specs.declared.node.Node.{Node}
+use Rattle.tree_store.specs.Steps.{looks_for_tree}
+use Rattle.tree_store.specs.Store.{tree_path}
+use Rattle.cnb_export.specs.Buildpack.{exports_buildpack, exports_documents, exports_layers, one_default, reads_launch, reads_store}
+use Rattle.cnb_export.specs.Exports.{exports, gains}
+use Rattle.cnb_export.specs.Gathering.{exports_found, exports_layer, exports_some, nothing_gathered}
+use Rattle.cnb_export.specs.Images.{reads_layers, reads_previous}
+use Rattle.cnb_export.specs.Layer.{finds_contents, finds_layer, finds_some, keeps_tree, looks_for_contents, reads_layer, some_of, takes_found, takes_if, takes_tree, there_by}
+use Rattle.cnb_export.specs.Names.{layers_among, lists_unless, reads_layer_names, reads_names}
+use Rattle.cnb_export.specs.Reading.{reads_as, reads_some}
+use Rattle.cnb_export.specs.Refusals.{cause_of, of_image_fault}
+use Rattle.cnb_export.specs.Settling.{checks_reused, decision_of, looks_for_stored, reuses, row_of, settles_by}
+use Rattle.cnb_export.specs.Trees.{puts_links, puts_process, puts_trees}
+use Rattle.cnb_export.specs.declared.exported.ExportFrame.{ExportFrame}
+use Rattle.cnb_export.specs.declared.fault.ExportFault.TheVariants.{Store}
+use Rattle.cnb_create.proofs.KeepLemmas.{KeepsIn, cached_in_caches, cached_in_world, cached_world, in_bind, in_each, in_yields, keeps_puts, keeps_puts_folder, keeps_reads_tree}
+
+-- the same of steps that begin with a value, or with two
+abbrev KeepsEach : {X E A : Type 0} → List ℕ → (X → Seen → Result A E → Seen → Type 0) → Type 0
+KeepsEach {X} path step = (x : X) → Preserves path (step x)
+
+abbrev KeepsBoth : {X Y E A : Type 0} → List ℕ → (X → Y → Seen → Result A E → Seen → Type 0) → Type 0
+KeepsBoth {X} {Y} path step = (x : X) (y : Y) → Preserves path (step x y)
+
+-- ---- what only reads
+
+module _ (path : List ℕ) where
+  kept_as : {A : Type 0} (form : List ℕ → Result A DocFault) (at : List ℕ) → Preserves path (reads_as form at)
+  unfolding reads_as
+  kept_as form at = keeps_bind path _ _ (keeps_reads path cause_of _ _) (λ found. keeps_gives path cause_of _)
+
+  kept_some : {A : Type 0} (form : List ℕ → Result A DocFault) (at : List ℕ) → Preserves path (reads_some form at)
+  unfolding reads_some
+  kept_some form at = keeps_bind path _ _ (keeps_reads path cause_of _ _) (λ found. keeps_gives path cause_of _)
+
+  kept_run : (store name : List ℕ) → Preserves path (reads_run_image store name)
+  unfolding reads_run_image
+  kept_run store name = keeps_reads path _ _ _
+
+  kept_image : (store name : List ℕ) → Preserves path (reads_image store name)
+  unfolding reads_image
+  kept_image store name = keeps_reads path _ _ _
+
+  kept_rows : (store name : List ℕ) → Preserves path (reads_layers store name)
+  unfolding reads_layers
+  kept_rows store name = keeps_bind path _ _ (keeps_told path of_image_fault _ (kept_image store name)) (λ image. keeps_yields path image.layers)
+
+  kept_previous : (store : List ℕ) (name : Option (List ℕ)) → Preserves path (reads_previous store name)
+  kept_previous store None = keeps_yields path _
+  kept_previous store (Some name) = kept_rows store name
+
+  kept_launch : (folder id : List ℕ) → Preserves path (reads_launch folder id)
+  unfolding reads_launch
+  kept_launch folder id = keeps_bind path _ _ (keeps_gives path cause_of _) (λ at. keeps_bind path _ _ (kept_as launch_in at) (λ launch. keeps_gives path cause_of (one_default id launch)))
+
+  kept_store : (folder : List ℕ) → Preserves path (reads_store folder)
+  unfolding reads_store
+  kept_store folder = keeps_bind path _ _ (keeps_gives path cause_of _) (λ at. kept_some store_in at)
+
+  kept_documents : (folder id : List ℕ) → KeepsEach path (exports_documents folder id)
+  unfolding exports_documents
+  kept_documents folder id gathered =
+      keeps_bind path _ _ (kept_launch folder id) (λ launch. keeps_bind path _ _ (kept_store folder) (λ store. keeps_gives path cause_of _))
+
+  kept_listing : (absent : Bool) (folder : List ℕ) → Preserves path (lists_unless absent folder)
+  kept_listing true folder = keeps_yields path _
+  kept_listing false folder = keeps_reads path cause_of _ _
+
+  kept_names : (folder : List ℕ) → Preserves path (reads_names folder)
+  unfolding reads_names
+  kept_names folder = keeps_bind path _ _ (keeps_reads path cause_of _ _) (λ kind. kept_listing (is_absent kind) folder)
+
+  kept_layer_names : (folder : List ℕ) → Preserves path (reads_layer_names folder)
+  unfolding reads_layer_names
+  kept_layer_names folder = keeps_bind path _ _ (kept_names folder) (λ names. keeps_gives path cause_of (Ok (layers_among names)))
+
+  kept_layer_document : (at : List ℕ) → Preserves path (reads_layer at)
+  unfolding reads_layer
+  kept_layer_document at = keeps_bind path _ _ (keeps_reads path cause_of _ _) (λ found. keeps_gives path cause_of _)
+
+  kept_look : (at : List ℕ) → Preserves path (looks_for_contents at)
+  unfolding looks_for_contents
+  kept_look at = keeps_bind path _ _ (keeps_reads path cause_of _ _) (λ kind. keeps_gives path cause_of (there_by at kind))
+
+  kept_tree_look : (store digest : List ℕ) → Preserves path (looks_for_tree store digest)
+  unfolding looks_for_tree
+  kept_tree_look store digest = keeps_reads path _ _ _
+
+  kept_stored : (store digest : List ℕ) → Preserves path (looks_for_stored store digest)
+  unfolding looks_for_stored
+  kept_stored store digest = keeps_bind path _ _ (keeps_told path Store _ (kept_tree_look store digest)) (λ stored. keeps_gives path cause_of _)
+
+  kept_check : (store : List ℕ) → KeepsBoth path (checks_reused store)
+  kept_check store (Some contents) before = keeps_yields path tt
+  kept_check store None None = keeps_yields path tt
+  kept_check store None (Some row) = kept_stored store row.digest
+
+  kept_reuse : (store id layer : List ℕ) → KeepsBoth path (reuses store id layer)
+  unfolding reuses
+  kept_reuse store id layer found before = keeps_bind path _ _ (kept_check store _ before) (λ checked. keeps_gives path cause_of _)
+
+  kept_settled : (line : ExportRow) (store id layer : List ℕ) → KeepsBoth path (settles_by line store id layer)
+  kept_settled table.Skip store id layer found before = keeps_gives path cause_of _
+  kept_settled table.Add store id layer found before = keeps_gives path cause_of _
+  kept_settled table.Reuse store id layer found before = kept_reuse store id layer found before
+  kept_settled table.NoContents store id layer found before = keeps_gives path cause_of _
+  kept_settled table.NoPrevious store id layer found before = keeps_gives path cause_of _
+
+-- ---- what puts trees too
+
+module _ (store path : List ℕ) (free : (digest : List ℕ) → is_free (touched (tree_path store digest)) path ≡ true) where
+  kept_tree : (launch : Bool) (tree : Node) → Preserves path (keeps_tree store launch tree)
+  kept_tree true tree = keeps_told path Store _ (keeps_puts path store tree free)
+  kept_tree false tree = keeps_gives path cause_of _
+
+  kept_taken : (launch : Bool) (at : List ℕ) → Preserves path (takes_tree store launch at)
+  unfolding takes_tree
+  kept_taken launch at = keeps_bind path _ _ (keeps_told path Store _ (keeps_reads_tree path at)) (λ tree. keeps_bind path _ _ (kept_tree launch tree) (λ digest. keeps_yields path _))
+
+  kept_if : (there launch : Bool) (at : List ℕ) → Preserves path (takes_if there store launch at)
+  unfolding some_of
+  kept_if true launch at = keeps_bind path _ _ (kept_taken launch at) (λ value. keeps_yields path (Some value))
+  kept_if false launch at = keeps_yields path None
+
+  kept_found : (at : List ℕ) (doc : LayerDoc) → Preserves path (takes_found store at doc)
+  unfolding takes_found
+  kept_found at doc = keeps_bind path _ _ (kept_look path at) (λ there. keeps_bind path _ _ (kept_if (there && (doc.launch || doc.cache)) doc.launch at) (λ contents. keeps_yields path _))
+
+  kept_find : (folder layer : List ℕ) (doc : LayerDoc) → Preserves path (finds_some store folder layer doc)
+  unfolding finds_some
+  kept_find folder layer doc = keeps_bind path _ _ (keeps_gives path cause_of _) (λ at. keeps_bind path _ _ (kept_found at doc) (λ found. keeps_yields path (Some found)))
+
+  kept_contents : (folder layer : List ℕ) (doc : Option LayerDoc) → Preserves path (finds_contents store folder layer doc)
+  kept_contents folder layer None = keeps_yields path None
+  kept_contents folder layer (Some doc) = kept_find folder layer doc
+
+  kept_layer : (folder layer : List ℕ) → Preserves path (finds_layer store folder layer)
+  unfolding finds_layer
+  kept_layer folder layer = keeps_bind path _ _ (keeps_gives path cause_of _) (λ document. keeps_bind path _ _ (kept_layer_document path document) (λ doc. kept_contents folder layer doc))
+
+  kept_exported : (previous : List LayerRow) (id layer : List ℕ) → KeepsBoth path (exports_some store previous id layer)
+  unfolding exports_some
+  kept_exported previous id layer gathered found =
+      keeps_bind path _ _ (kept_settled path (decision_of found (row_of previous id layer)) store id layer found (row_of previous id layer)) (λ kept. keeps_gives path cause_of _)
+
+  kept_export : (previous : List LayerRow) (id layer : List ℕ) → KeepsBoth path (exports_found store previous id layer)
+  kept_export previous id layer gathered None = keeps_yields path gathered
+  kept_export previous id layer gathered (Some found) = kept_exported previous id layer gathered found
+
+  kept_one : (previous : List LayerRow) (id folder layer : List ℕ) → KeepsEach path (exports_layer store previous id folder layer)
+  unfolding exports_layer
+  kept_one previous id folder layer gathered = keeps_bind path _ _ (kept_layer folder layer) (λ found. kept_export previous id layer gathered found)
+
+  kept_layers : (previous : List LayerRow) (id folder : List ℕ) → KeepsEach path (exports_layers store previous id folder)
+  unfolding exports_layers
+  kept_layers previous id folder gathered =
+      keeps_bind path _ _ (kept_layer_names path folder) (λ names. in_each (λ (s : Seen). s) path (exports_layer store previous id folder) names gathered (λ layer so_far. kept_one previous id folder layer so_far))
+
+  kept_links : (processes : List Process) → Preserves path (puts_links store processes)
+  unfolding puts_links
+  kept_links processes = keeps_bind path _ _ (keeps_gives path cause_of _) (λ tree. keeps_bind path _ _ (keeps_told path Store _ (keeps_puts path store tree free)) (λ digest. keeps_yields path (Some digest)))
+
+  kept_process : (processes : List Process) → Preserves path (puts_process store processes)
+  kept_process [] = keeps_yields path None
+  kept_process (process ∷ processes) = kept_links (process ∷ processes)
+
+module _ (frame : ExportFrame) (path : List ℕ) (free : (digest : List ℕ) → is_free (touched (tree_path frame.store digest)) path ≡ true) where
+  kept_buildpack : (previous : List LayerRow) (row : GroupRow) → KeepsEach path (exports_buildpack frame previous row)
+  unfolding exports_buildpack
+  kept_buildpack previous row gathered =
+      keeps_bind path _ _ (keeps_gives path cause_of _)
+      (λ folder. keeps_bind path _ _ (kept_documents path folder row.key.id gathered) (λ documents. kept_layers frame.store path free previous row.key.id folder documents))
+
+  kept_trees : (processes : List Process) → Preserves path (puts_trees frame processes)
+  unfolding puts_trees
+  kept_trees processes =
+      keeps_bind path _ _ (keeps_told path Store _ (keeps_puts_folder path frame.store frame.app free))
+      (λ app. keeps_bind path _ _ (keeps_told path Store _ (keeps_puts_folder path frame.store frame.launcher free))
+      (λ launcher. keeps_bind path _ _ (keeps_gives path cause_of _)
+      (λ last. keeps_bind path _ _ (kept_process frame.store path free last) (λ process. keeps_gives path cause_of _))))
+
+  kept_gained : (group : List GroupRow) (analyzed : Analyzed) → Preserves path (gains frame group analyzed)
+  unfolding gains
+  kept_gained group analyzed =
+      keeps_bind path _ _ (keeps_told path of_image_fault _ (kept_run path frame.store analyzed.run))
+      (λ run. keeps_bind path _ _ (kept_previous path frame.store analyzed.previous)
+      (λ previous. keeps_bind path _ _ (in_each (λ (s : Seen). s) path (exports_buildpack frame previous) group nothing_gathered (λ row so_far. kept_buildpack previous row so_far))
+      (λ gathered. keeps_bind path _ _ (kept_trees _)
+      (λ digests. keeps_bind path _ _ (keeps_gives path cause_of _) (λ image. keeps_bind path _ _ (keeps_gives path cause_of _) (λ rows. keeps_yields path _))))))
+
+  pub keeps_exports : (group : List GroupRow) (analyzed : Analyzed) → KeepsIn cached_world path (exports frame group analyzed)
+  unfolding exports
+  keeps_exports group analyzed =
+      in_bind cached_world path _ _ (cached_in_world path _ (kept_gained group analyzed))
+      (λ gained. in_bind cached_world path _ _ (cached_in_caches path _) (λ gone. in_yields cached_world path _))

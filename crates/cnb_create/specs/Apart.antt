@@ -1,0 +1,26 @@
+-- What keeps the image's document apart from all else that `create` writes.
+use Rattle.std.specs.Prelude.{ℕ, Bool, ◌&&◌, not, List, codes}
+use Rattle.cnb_detect.specs.Documents.{group_document, plan_document}
+use Rattle.cnb_restore.specs.Commands.{analyzed_document}
+use Rattle.cnb_words.specs.declared.create.CreateWords.{CreateWords}
+use Rattle.cnb_world.specs.Path.{joined}
+use Rattle.cnb_world.specs.Tree.{is_within}
+use Rattle.image_files.specs.Paths.{image_path}
+use Rattle.steps.specs.Frames.{is_free, touched}
+
+-- neither path is the other, or lies below it
+abbrev pub are_apart : List ℕ → List ℕ → Bool
+are_apart folder path = not (is_within folder path) && not (is_within path folder)
+
+abbrev pub image_document : CreateWords → List ℕ
+image_document words = image_path words.store words.image
+
+-- It is none of the documents of the work folder or what is made for these, and is apart from the folder of the Buildpack
+-- Plans and from the layers folder.
+abbrev pub is_image_apart : CreateWords → Bool
+is_image_apart words =
+    is_free (touched (analyzed_document words.detect.work)) (image_document words)
+    && is_free (touched (group_document words.detect.work)) (image_document words)
+    && is_free (touched (plan_document words.detect.work)) (image_document words)
+    && are_apart (joined words.detect.work (codes "plans")) (image_document words)
+    && are_apart words.layers (image_document words)

@@ -1,0 +1,90 @@
+// The command `create`.
+ghost use Rattle.std.specs.Prelude.{◌<◌, ◌^◌, IsTrue, OnErr, length, map};
+ghost use Rattle.cnb_words.specs.Create.{KeepsLimits};
+ghost use Rattle.shelf_set.specs.Caches.{caches_of};
+ghost use Rattle.shelf_set.specs.Dropping.{AreStanding};
+ghost use Rattle.steps.specs.Causes.{CountsFiles};
+ghost use Rattle.steps.specs.Frames.{Keeps};
+ghost use Rattle.steps.specs.Outside.{faults_of, outside, seen, spawners_seen};
+ghost use Rattle.cnb_create.specs.Apart.{image_document, is_image_apart};
+ghost use Rattle.cnb_create.specs.Counts.{CountsEither};
+ghost use Rattle.cnb_create.specs.Creates.{creates};
+ghost use Rattle.cnb_create.specs.Outcome.{ComesToChoice};
+ghost use Rattle.cnb_create.specs.Refusals.{cause_of};
+ghost use Rattle.cnb_create.specs.Surroundings.{shelf_seen, surroundings};
+
+use crate::building::build_group;
+use crate::choosing::choose;
+use crate::exporting::leave_image;
+use crate::images::look_at_images;
+use crate::phases::Phases;
+use crate::refusal::CreateRefusal;
+use crate::restoring::restore_layers;
+use cnb_words::CreateWords;
+use cnb_world::{Env, List, Shelf, Spawner, Text, World};
+use detect_core::Chosen;
+use shelf_set::Shelves;
+use std::alloc::Global;
+use std::thread::Threads;
+
+/// Analyzes the images, chooses a group, restores its layers, builds it and exports the image, and gives the text to be
+/// printed (platform.md, "creator"). The image's document is written last. `places` has the numbers of the caches that
+/// stand, which are the first of the list.
+pub fn create_command<W: World, S: Spawner + Send, R: Threads + Sync>(
+    rt: &R,
+    alloc: Global,
+    options: &CreateWords,
+    env: &Env,
+    world: &mut W,
+    spawners: &mut Vec<S>,
+    shelves: &mut Shelves,
+    places: &mut List<u32>,
+) -> Result<Text, CreateRefusal>
+    requires limits { KeepsLimits options.now }
+    requires spawners { 0 < length spawners.old.items }
+    requires standing { AreStanding places.old
+        (map (λ s. shelf_seen (⟦<dyn Shelf as Shelf>⟧ s.vtable) s.value) shelves.old.items) }
+    requires few { length shelves.old.items < 2 ^ 32 }
+    // It does its steps in their order.
+    ensures steps { creates options.now env.now
+        (surroundings (outside W.World S.Spawner world.old spawners.old.items)
+        (caches_of (map (λ s. shelf_seen (⟦<dyn Shelf as Shelf>⟧ s.vtable) s.value) shelves.old.items) places.old))
+        result
+        (surroundings (outside W.World S.Spawner world.new spawners.new.items)
+        (caches_of (map (λ s. shelf_seen (⟦<dyn Shelf as Shelf>⟧ s.vtable) s.value) shelves.new.items) places.new)) }
+    // So what it chooses is the first trial that passes, by the files and by what its children answered, however many
+    // workers ran them and in whatever order they finished.
+    ensures outcome { ComesToChoice options.now env.now
+        (surroundings (outside W.World S.Spawner world.old spawners.old.items)
+        (caches_of (map (λ s. shelf_seen (⟦<dyn Shelf as Shelf>⟧ s.vtable) s.value) shelves.old.items) places.old))
+        result
+        (surroundings (outside W.World S.Spawner world.new spawners.new.items)
+        (caches_of (map (λ s. shelf_seen (⟦<dyn Shelf as Shelf>⟧ s.vtable) s.value) shelves.new.items) places.new)) }
+    // Where it is refused, the image's document is as it was, if it stands apart from all else that is written and the
+    // build children left it.
+    ensures image { OnErr result (IsTrue (is_image_apart options.now) →
+        Keeps (image_document options.now) (seen W.World world.old) (seen W.World world.new)) }
+    ensures again { AreStanding places.new
+        (map (λ s. shelf_seen (⟦<dyn Shelf as Shelf>⟧ s.vtable) s.value) shelves.new.items) }
+    ensures files { CountsFiles cause_of result (W.file_faults world.old) (W.file_faults world.new) }
+    ensures children { CountsEither cause_of result
+        (W.child_faults world.old) (W.child_faults world.new)
+        (faults_of (spawners_seen S.Spawner spawners.old.items))
+        (faults_of (spawners_seen S.Spawner spawners.new.items)) }
+{
+    let _layers = options.layers.as_str();
+    let _work = options.detect.work.as_str();
+    let analyzed = look_at_images(alloc, options, world)?;
+    let chosen = choose(rt, alloc, &options.detect, env, world, spawners)?;
+    let Chosen { group, plan, .. } = chosen;
+    let restored = restore_layers(alloc, options, world, shelves, places, &analyzed, &group)?;
+    let entries = plan.as_slice().len();
+    build_group(alloc, options, env, world, &group, plan)?;
+    let phases = Phases {
+        analyzed,
+        group,
+        entries,
+        restored,
+    };
+    leave_image(alloc, options, world, shelves, places, &phases)
+}

@@ -1,0 +1,104 @@
+// The export of the image, and its document.
+ghost use Rattle.std.specs.Prelude.{◌≡◌, ℕ, List as Seq, IfOk, map};
+ghost use Rattle.cnb_export.specs.Command.{saves_image};
+ghost use Rattle.cnb_export.specs.Frame as frames;
+ghost use Rattle.cnb_export.specs.Refusals as exporting;
+ghost use Rattle.cnb_words.specs.Create.{KeepsLimits};
+ghost use Rattle.shelf_set.specs.Caches.{caches_of, world_and_caches};
+ghost use Rattle.shelf_set.specs.Dropping.{AreStanding};
+ghost use Rattle.shelf_set.specs.ShelfState.{state_of};
+ghost use Rattle.steps.specs.Causes.{CountsChildren, CountsFiles};
+ghost use Rattle.steps.specs.Outside.{seen};
+ghost use Rattle.steps.specs.Steps.{map_err};
+ghost use Rattle.cnb_create.specs.Counts.{CountsEither};
+ghost use Rattle.cnb_create.specs.Creates.{export_frame, exports_image, leaves_image};
+ghost use Rattle.cnb_create.specs.Refusals.{cause_of};
+ghost use Rattle.cnb_create.specs.declared.refusal.CreateRefusal.TheVariants as refused;
+
+use crate::phases::Phases;
+use crate::refusal::CreateRefusal;
+use crate::report::created_text;
+use cnb_export::{ExportFault, ExportFrame, Exported, export, save_image};
+use cnb_words::CreateWords;
+use cnb_world::{List, Memory, Shelf, Text, World};
+use image_docs::ImageDoc;
+use shelf_set::Shelves;
+use std::alloc::Global;
+
+fn export_frame(alloc: Global, options: &CreateWords) -> Result<ExportFrame, Memory>
+    requires { KeepsLimits options.now }
+    ensures frame { IfOk result (λ frame. frame ≡ export_frame options.now) }
+    ensures limits { IfOk result frames.KeepsLimits }
+{
+    Ok(ExportFrame {
+        store: options.store.copy(alloc)?,
+        layers: options.layers.copy(alloc)?,
+        app: options.detect.app.copy(alloc)?,
+        launcher: options.launcher.copy(alloc)?,
+    })
+}
+
+fn export_image<W: World>(
+    alloc: Global,
+    options: &CreateWords,
+    world: &mut W,
+    shelves: &mut Shelves,
+    places: &mut List<u32>,
+    phases: &Phases,
+) -> Result<Exported, ExportFault>
+    requires limits { KeepsLimits options.now }
+    requires standing { AreStanding places.old (map (λ s. state_of (held s) (rows s) (faults s)) shelves.old.items) }
+    ensures steps { exports_image options.now phases.now.analyzed phases.now.group
+        (world_and_caches (seen W.World world.old)
+        (caches_of (map (λ s. state_of (held s) (rows s) (faults s)) shelves.old.items) places.old)) result
+        (world_and_caches (seen W.World world.new)
+        (caches_of (map (λ s. state_of (held s) (rows s) (faults s)) shelves.new.items) places.new)) }
+    ensures again { AreStanding places.new (map (λ s. state_of (held s) (rows s) (faults s)) shelves.new.items) }
+    ensures files { CountsFiles exporting.cause_of result (W.file_faults world.old) (W.file_faults world.new) }
+    ensures children { CountsChildren exporting.cause_of result (W.child_faults world.old) (W.child_faults world.new) }
+{
+    let frame = export_frame(alloc, options)?;
+    let exported = export(
+        alloc,
+        world,
+        shelves,
+        places,
+        &frame,
+        &phases.group,
+        &phases.analyzed,
+    )?;
+    Ok(exported)
+}
+
+/// Exports the image, makes the text to be printed, and then writes the image's document.
+pub(crate) fn leave_image<W: World>(
+    alloc: Global,
+    options: &CreateWords,
+    world: &mut W,
+    shelves: &mut Shelves,
+    places: &mut List<u32>,
+    phases: &Phases,
+) -> Result<Text, CreateRefusal>
+    requires limits { KeepsLimits options.now }
+    requires standing { AreStanding places.old (map (λ s. state_of (held s) (rows s) (faults s)) shelves.old.items) }
+    ensures steps { leaves_image options.now phases.now
+        (world_and_caches (seen W.World world.old)
+        (caches_of (map (λ s. state_of (held s) (rows s) (faults s)) shelves.old.items) places.old)) result
+        (world_and_caches (seen W.World world.new)
+        (caches_of (map (λ s. state_of (held s) (rows s) (faults s)) shelves.new.items) places.new)) }
+    ensures again { AreStanding places.new (map (λ s. state_of (held s) (rows s) (faults s)) shelves.new.items) }
+    ensures files { CountsFiles cause_of result (W.file_faults world.old) (W.file_faults world.new) }
+    ensures children { (counts : Seq ℕ) →
+        CountsEither cause_of result (W.child_faults world.old) (W.child_faults world.new) counts counts }
+{
+    let exported = export_image(alloc, options, world, shelves, places, phases)?;
+    let text = created_text(alloc, &options.image, phases, &exported)?;
+    save_image(
+        alloc,
+        world,
+        &options.store,
+        &options.image,
+        &exported.image,
+    )?;
+    Ok(text)
+}
