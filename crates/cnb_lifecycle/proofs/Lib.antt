@@ -2,3 +2,7 @@ pub mod CauseLemmas
 pub mod CommandLemmas
 pub mod EndLemmas
 pub mod SinkLemmas
+pub mod PhaseLemmas
+pub mod NumberLemmas
+pub mod TellingLemmas
+mod LineLemmas

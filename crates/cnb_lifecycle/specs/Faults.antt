@@ -5,7 +5,7 @@ use Rattle.cnb_detect.specs.declared.refusal.DetectRefusal.{DetectRefusal}
 use Rattle.cnb_detect.specs.declared.refusal.DetectRefusal.TheVariants as detect
 use Rattle.steps.specs.Causes.{Cause, FileFailed, ChildFailed, OutOfMemory, Decided}
 use Rattle.cnb_lifecycle.specs.declared.refusal.Refusal.{Refusal}
-use Rattle.cnb_lifecycle.specs.declared.refusal.Refusal.TheVariants.{Usage, File, Memory, Document, Child, Limit, NotBuilt, PlatformApi, BuildpackApi, Order, NoGroup}
+use Rattle.cnb_lifecycle.specs.declared.refusal.Refusal.TheVariants.{Usage, File, Memory, Document, Child, Limit, OddFile, NotBuilt, PlatformApi, BuildpackApi, Order, NoTree, Exists, NoGroup, Damaged, NoImage, BuildFailed, UnknownUnmet, NoContents, Clash, NoPrevious, TwoDefaults, TopDiffers, TargetDiffers, ShellProcess, NoProcess, ExecFailed, BadExecOutput}
 
 abbrev pub of_words_fault : WordsFault → Refusal
 of_words_fault words.Usage = Usage
@@ -29,8 +29,25 @@ cause_of Memory = OutOfMemory
 cause_of (Document path fault) = Decided
 cause_of Child = ChildFailed
 cause_of (Limit kind) = Decided
+cause_of (OddFile path) = Decided
 cause_of (NotBuilt text) = Decided
 cause_of (PlatformApi text) = Decided
 cause_of (BuildpackApi text) = Decided
 cause_of (Order id ambiguous) = Decided
+cause_of (NoTree digest) = Decided
+cause_of (Exists path) = Decided
 cause_of (NoGroup erred) = Decided
+cause_of (Damaged asked found bad) = Decided
+cause_of (NoImage name) = Decided
+cause_of (BuildFailed id code) = Decided
+cause_of (UnknownUnmet id name) = Decided
+cause_of (NoContents id layer) = Decided
+cause_of (Clash digest) = Decided
+cause_of (NoPrevious id layer) = Decided
+cause_of (TwoDefaults id) = Decided
+cause_of (TopDiffers recorded found) = Decided
+cause_of (TargetDiffers old new) = Decided
+cause_of (ShellProcess word) = Decided
+cause_of (NoProcess kind) = Decided
+cause_of (ExecFailed path code) = Decided
+cause_of (BadExecOutput path) = Decided

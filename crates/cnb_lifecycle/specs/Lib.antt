@@ -4,3 +4,5 @@ pub mod Faults
 pub mod Printing
 pub mod Refusal
 pub mod Report
+pub mod Telling
+pub mod PhaseFaults

@@ -3,6 +3,7 @@ ghost use Rattle.std.specs.Prelude.{◌≡◌, ◌≤◌, OnOk, OnErr, drop, len
 ghost use Rattle.cnb_world.specs.Calls.{CountsSink};
 ghost use Rattle.cnb_lifecycle.specs.Printing.{Adds, AddsPart, CountsOutput, Finishes, IsTold};
 
+use crate::answer::Answer;
 use crate::refusal::Refusal;
 use crate::report::error_line;
 use crate::status::Status;
@@ -31,7 +32,7 @@ fn print<O: Sink>(out: &mut O, text: &[u8]) -> Result<(), SinkFault>
 }
 
 fn finish_done<O: Sink>(text: &Text, out: &mut O) -> Status
-    ensures finishes { Finishes (Ok text.now) result (O.taken out.old) (O.taken out.new) }
+    ensures finishes { Finishes (Ok (Answer.Printed text.now)) result (O.taken out.old) (O.taken out.new) }
     ensures output { CountsOutput result (O.faults out.old) (O.faults out.new) }
 {
     match print(out, text.as_str().as_bytes()) {
@@ -40,6 +41,7 @@ fn finish_done<O: Sink>(text: &Text, out: &mut O) -> Status
     }
 }
 
+#[tactic(auto, using(crate::proofs::LineLemmas::cut_line))]
 fn finish_refused<O: Sink>(alloc: Global, refusal: Refusal, out: &mut O) -> Status
     requires { IsTold refusal }
     ensures finishes { Finishes (Err refusal) result (O.taken out.old) (O.taken out.new) }
@@ -54,13 +56,15 @@ fn finish_refused<O: Sink>(alloc: Global, refusal: Refusal, out: &mut O) -> Stat
     }
 }
 
-/// Writes the text of a command's end, and gives the status. Where memory ran out, nothing is written.
-pub(crate) fn finish<O: Sink>(alloc: Global, end: Result<Text, Refusal>, out: &mut O) -> Status
+/// Writes the text of a command's end, and gives the status. Where memory ran out, or a child was launched, nothing is
+/// written.
+pub(crate) fn finish<O: Sink>(alloc: Global, end: Result<Answer, Refusal>, out: &mut O) -> Status
     ensures finishes { Finishes end result (O.taken out.old) (O.taken out.new) }
     ensures output { CountsOutput result (O.faults out.old) (O.faults out.new) }
 {
     match end {
-        Ok(text) => finish_done(&text, out),
+        Ok(Answer::Printed(text)) => finish_done(&text, out),
+        Ok(Answer::Launched(code)) => Status::Launched { code },
         Err(Refusal::Memory) => Status::Refused(Refusal::Memory),
         Err(refusal) => finish_refused(alloc, refusal, out),
     }

@@ -1,13 +1,12 @@
 // Why a command is refused.
-ghost use Rattle.std.specs.Prelude.{◌≡◌, IfOk};
-ghost use Rattle.std.specs.Option.{option_map};
-ghost use Rattle.cnb_lifecycle.specs.Refusal.{code_of, name_of, detail_of, limit_name, fault_name, fault_path, spaced};
+ghost use Rattle.std.specs.Prelude.{◌≡◌};
+ghost use Rattle.cnb_lifecycle.specs.Refusal.{code_of, name_of};
 
-use cnb_toml::{BpId, DocFault};
-use cnb_world::{LimitKind, Memory, Path, Text};
-use std::alloc::Global;
+use cnb_toml::{BpId, DocFault, ImageName, LayerName};
+use cnb_world::{LimitKind, Path, Text};
+use tree_canon::{Digest, Reason};
 
-/// Why a command ends before its work is done (platform.md, "detector", and this implementation's own).
+/// Why a command ends before its work is done (platform.md, "detector" to "launcher", and this implementation's own).
 #[derive(Drop)]
 pub enum Refusal {
     /// The words are no command.
@@ -22,6 +21,8 @@ pub enum Refusal {
     Child,
     /// Something is more than its limit.
     Limit(LimitKind),
+    /// What stands at this path can't be kept in a tree, or a folder is wanted there.
+    OddFile(Path),
     /// The words name a command that isn't served yet.
     NotBuilt(Text),
     /// The platform asks for another Platform API.
@@ -29,9 +30,67 @@ pub enum Refusal {
     /// A buildpack of another Buildpack API is asked for.
     BuildpackApi(Text),
     /// An entry of the order means no buildpack, or several.
-    Order { id: BpId, ambiguous: bool },
+    Order {
+        id: BpId,
+        ambiguous: bool,
+    },
+    /// The store has no tree of this digest.
+    NoTree(Digest),
+    /// Something stands where an image is to be unpacked.
+    Exists(Path),
     /// No group passes; a child that was asked erred, or none did.
-    NoGroup { erred: bool },
+    NoGroup {
+        erred: bool,
+    },
+    /// The bytes that are kept under a digest have another one, or spell no tree, for this reason.
+    Damaged {
+        asked: Digest,
+        found: Digest,
+        bad: Option<Reason>,
+    },
+    /// The store has no image, or run image, of this name.
+    NoImage(ImageName),
+    /// The build of a buildpack ended with this code, or by a signal.
+    BuildFailed {
+        id: BpId,
+        code: Option<i32>,
+    },
+    /// A buildpack leaves a name unmet that it wasn't to meet.
+    UnknownUnmet {
+        id: BpId,
+        name: Text,
+    },
+    /// A layer for caches has no contents.
+    NoContents(BpId, LayerName),
+    /// The store has other bytes under this digest.
+    Clash {
+        digest: Digest,
+    },
+    /// A layer for launch has no contents, and the previous image has none of it.
+    NoPrevious(BpId, LayerName),
+    /// A buildpack marks two processes as the default.
+    TwoDefaults(BpId),
+    /// The run image below an image isn't the one that it was made on.
+    TopDiffers {
+        recorded: Digest,
+        found: Digest,
+    },
+    /// A run image is for another system or processor.
+    TargetDiffers {
+        old: Text,
+        new: Text,
+    },
+    /// Words that begin with no process type would need a shell.
+    ShellProcess(Text),
+    /// The image has no such process, or no default.
+    NoProcess(Text),
+    /// A program that runs before the process ended with this code, or by a signal.
+    ExecFailed {
+        path: Path,
+        code: Option<i32>,
+    },
+    /// What such a program wrote is no table of variables.
+    BadExecOutput(Path),
 }
 
 impl Refusal {
@@ -46,12 +105,29 @@ impl Refusal {
             Refusal::Document(_, _) => 4,
             Refusal::Child => 5,
             Refusal::Limit(_) => 6,
+            Refusal::OddFile(_) => 8,
             Refusal::NotBuilt(_) => 9,
             Refusal::PlatformApi(_) => 11,
             Refusal::BuildpackApi(_) => 12,
             Refusal::Order { .. } => 13,
+            Refusal::NoTree(_) => 14,
+            Refusal::Exists(_) => 15,
             Refusal::NoGroup { erred: false } => 20,
             Refusal::NoGroup { erred: true } => 21,
+            Refusal::Damaged { .. } => 30,
+            Refusal::NoImage(_) => 31,
+            Refusal::BuildFailed { .. } => 51,
+            Refusal::UnknownUnmet { .. } => 52,
+            Refusal::NoContents(_, _) => 60,
+            Refusal::Clash { .. } => 61,
+            Refusal::NoPrevious(_, _) => 62,
+            Refusal::TwoDefaults(_) => 63,
+            Refusal::TopDiffers { .. } => 70,
+            Refusal::TargetDiffers { .. } => 71,
+            Refusal::ShellProcess(_) => 80,
+            Refusal::NoProcess(_) => 81,
+            Refusal::ExecFailed { .. } => 82,
+            Refusal::BadExecOutput(_) => 83,
         }
     }
 
@@ -66,102 +142,28 @@ impl Refusal {
             Refusal::Document(_, _) => "Document",
             Refusal::Child => "Child",
             Refusal::Limit(_) => "Limit",
+            Refusal::OddFile(_) => "OddFile",
             Refusal::NotBuilt(_) => "NotBuilt",
             Refusal::PlatformApi(_) => "PlatformApi",
             Refusal::BuildpackApi(_) => "BuildpackApi",
             Refusal::Order { .. } => "Order",
+            Refusal::NoTree(_) => "NoTree",
+            Refusal::Exists(_) => "Exists",
             Refusal::NoGroup { .. } => "NoGroup",
+            Refusal::Damaged { .. } => "Damaged",
+            Refusal::NoImage(_) => "NoImage",
+            Refusal::BuildFailed { .. } => "BuildFailed",
+            Refusal::UnknownUnmet { .. } => "UnknownUnmet",
+            Refusal::NoContents(_, _) => "NoContents",
+            Refusal::Clash { .. } => "Clash",
+            Refusal::NoPrevious(_, _) => "NoPrevious",
+            Refusal::TwoDefaults(_) => "TwoDefaults",
+            Refusal::TopDiffers { .. } => "TopDiffers",
+            Refusal::TargetDiffers { .. } => "TargetDiffers",
+            Refusal::ShellProcess(_) => "ShellProcess",
+            Refusal::NoProcess(_) => "NoProcess",
+            Refusal::ExecFailed { .. } => "ExecFailed",
+            Refusal::BadExecOutput(_) => "BadExecOutput",
         }
-    }
-
-    /// What stands behind the name in the error line.
-    pub(crate) fn detail(&self, alloc: Global) -> Result<Option<Text>, Memory>
-        ensures { IfOk result (λ detail. detail ≡ detail_of self.now) }
-    {
-        let detail = match self {
-            Refusal::File(path) => Text::of(alloc, path.as_str())?,
-            Refusal::Document(path, fault) => document_detail(alloc, path, fault)?,
-            Refusal::Limit(kind) => Text::of(alloc, limit_name(*kind))?,
-            Refusal::NotBuilt(text) => text.copy(alloc)?,
-            Refusal::PlatformApi(text) => text.copy(alloc)?,
-            Refusal::BuildpackApi(text) => text.copy(alloc)?,
-            Refusal::Order { id, ambiguous } => order_detail(alloc, id, *ambiguous)?,
-            Refusal::Usage => return Ok(None),
-            Refusal::Memory => return Ok(None),
-            Refusal::Child => return Ok(None),
-            Refusal::NoGroup { .. } => return Ok(None),
-        };
-        Ok(Some(detail))
-    }
-}
-
-// Two texts with a space between.
-fn spaced(alloc: Global, first: &str, second: &str) -> Result<Text, Memory>
-    ensures { IfOk result (λ text. text ≡ spaced first.now second.now) }
-{
-    let mut text = String::from_str(alloc, first)?;
-    text.push_str(" ")?;
-    text.push_str(second)?;
-    Ok(Text::from_string(text))
-}
-
-fn limit_name(kind: LimitKind) -> &'static str
-    ensures { result.now ≡ limit_name kind }
-{
-    match kind {
-        LimitKind::Groups => "groups",
-        LimitKind::Entries => "entries",
-        LimitKind::Nesting => "nesting",
-        LimitKind::Trials => "trials",
-        LimitKind::Tree => "tree",
-        LimitKind::Depth => "depth",
-        LimitKind::Document => "document",
-    }
-}
-
-fn order_detail(alloc: Global, id: &BpId, ambiguous: bool) -> Result<Text, Memory>
-    ensures { IfOk result (λ text. detail_of (Refusal.Order id.now ambiguous) ≡ Some text) }
-{
-    let name = if ambiguous { "Ambiguous" } else { "Absent" };
-    spaced(alloc, name, id.as_str())
-}
-
-fn fault_name(fault: &DocFault) -> &'static str
-    ensures { result.now ≡ fault_name fault.now }
-{
-    match fault {
-        DocFault::Absent => "Absent",
-        DocFault::NotUtf8 => "NotUtf8",
-        DocFault::NotToml => "NotToml",
-        DocFault::MetaKind(_) => "MetaKind",
-        DocFault::Missing(_) => "Missing",
-        DocFault::Wrong(_) => "Wrong",
-        DocFault::Name(_) => "Name",
-        DocFault::Memory => "Memory",
-    }
-}
-
-fn fault_path(fault: &DocFault) -> Option<&Text>
-    ensures { option_map (λ path. path.now) result ≡ fault_path fault.now }
-{
-    match fault {
-        DocFault::MetaKind(path) => Some(path),
-        DocFault::Missing(path) => Some(path),
-        DocFault::Wrong(path) => Some(path),
-        DocFault::Name(path) => Some(path),
-        DocFault::Absent => None,
-        DocFault::NotUtf8 => None,
-        DocFault::NotToml => None,
-        DocFault::Memory => None,
-    }
-}
-
-fn document_detail(alloc: Global, path: &Path, fault: &DocFault) -> Result<Text, Memory>
-    ensures { IfOk result (λ text. detail_of (Refusal.Document path.now fault.now) ≡ Some text) }
-{
-    let text = spaced(alloc, path.as_str(), fault_name(fault))?;
-    match fault_path(fault) {
-        Some(key) => spaced(alloc, text.as_str(), key.as_str()),
-        None => Ok(text),
     }
 }

@@ -1,6 +1,6 @@
 // How a command ends.
 ghost use Rattle.std.specs.Prelude.{◌≡◌};
-ghost use Rattle.cnb_lifecycle.specs.Ends.{status_code};
+ghost use Rattle.cnb_lifecycle.specs.Ends.{launched_code, status_code};
 
 use crate::refusal::Refusal;
 
@@ -13,6 +13,20 @@ pub enum Status {
     Output,
     /// The command was refused.
     Refused(Refusal),
+    /// The launched child ended, with this code where it has one.
+    Launched { code: Option<i32> },
+}
+
+// A child without a code, or with one that is no exit status, has this one.
+const NO_CODE: u8 = 84;
+
+fn launched_code(code: Option<i32>) -> u8
+    ensures { result ≡ launched_code code }
+{
+    match code {
+        Some(code) => u8::try_from(code).unwrap_or(NO_CODE),
+        None => NO_CODE,
+    }
 }
 
 impl Status {
@@ -24,6 +38,7 @@ impl Status {
             Status::Done => 0,
             Status::Output => 7,
             Status::Refused(refusal) => refusal.code(),
+            Status::Launched { code } => launched_code(*code),
         }
     }
 }

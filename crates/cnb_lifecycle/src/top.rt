@@ -1,58 +1,98 @@
 // The top call.
-ghost use Rattle.std.specs.Prelude.{◌≡◌, ◌<◌, ◌^◌, Err, drop, length, map, string_bytes};
-ghost use Rattle.cnb_words.specs.Detect.{KeepsLimits};
-ghost use Rattle.steps.specs.Asking.{CountsSpawners};
+ghost use Rattle.std.specs.Prelude.{◌≡◌, ◌<◌, ◌^◌, false, Err, List as Seq, ℕ, length, map, string_bytes};
+ghost use Rattle.std.specs.List.{range_with_len};
+ghost use Rattle.cnb_words.specs.Words.{AsksWithinLimits};
 ghost use Rattle.steps.specs.Causes.{CountsFiles};
 ghost use Rattle.steps.specs.Outside.{faults_of, outside, spawners_seen};
-ghost use Rattle.steps.specs.Steps.{gives, map_err};
-ghost use Rattle.cnb_detect.specs.Detects.{detects};
+ghost use Rattle.steps.specs.Steps.{gives};
+ghost use Rattle.shelf_set.specs.Caches.{caches_of};
+ghost use Rattle.shelf_set.specs.Dropping.{AreStanding};
 ghost use Rattle.cnb_detect.specs.Outcome.{ComesTo};
-ghost use Rattle.cnb_lifecycle.specs.Commands.{command_in, detect_of, refusal_of, On};
-ghost use Rattle.cnb_lifecycle.specs.Ends.{CauseOfChild, CauseOfFile, Ends};
+ghost use Rattle.cnb_lifecycle.specs.Commands.{after_words, asked_of, command_in, does, options_in, options_of_create, options_of_detect, refusal_of, uses_caches, On};
+ghost use Rattle.cnb_lifecycle.specs.Ends.{CauseOfChild, CauseOfFile, CountsChild, Ends};
 ghost use Rattle.cnb_lifecycle.specs.Faults.{cause_of, of_detect};
 ghost use Rattle.cnb_lifecycle.specs.Printing.{CountsOutput};
+ghost use Rattle.cnb_create.specs.Outcome.{ComesToChoice};
+ghost use Rattle.cnb_create.specs.Surroundings.{over_outside, shelf_seen, surroundings};
+ghost use Rattle.cnb_lifecycle.specs.PhaseFaults.{of_create};
+ghost use Rattle.cnb_lifecycle.specs.Telling.{tells};
 
+use crate::answer::Answer;
+use crate::caches::numbers;
 use crate::commands::command;
+use crate::launching::{run_launch, run_unpack};
+use crate::phases::{run_create, run_export, run_restore};
 use crate::printing::finish;
 use crate::refusal::Refusal;
+use crate::running::{run_analyze, run_base, run_build, run_detect, run_rebase, run_show};
 use crate::status::Status;
-use cnb_detect::detect;
-use cnb_words::{Asked, DetectWords};
-use cnb_world::{Env, Shelf, Sink, Spawner, Text, World};
+use cnb_words::Asked;
+use cnb_world::{Env, List, Shelf, Sink, Spawner, World};
+use shelf_set::Shelves;
 use std::alloc::Global;
 use std::thread::Threads;
 
-// Does what the options of `detect` ask for.
-fn run_detect<W: World, S: Spawner + Send, R: Threads + Sync>(
+// Does what was asked for. `places` has the numbers of the caches that stand.
+fn run_asked<W: World, S: Spawner + Send, R: Threads + Sync>(
     rt: &R,
     alloc: Global,
-    options: &DetectWords,
+    asked: &Asked,
     env: &Env,
     world: &mut W,
     spawners: &mut Vec<S>,
-) -> Result<Text, Refusal>
-    requires limits { KeepsLimits options.now }
+    shelves: &mut Shelves,
+    places: &mut List<u32>,
+) -> Result<Answer, Refusal>
+    requires limits { AsksWithinLimits asked.now }
     requires spawners { 0 < length spawners.old.items }
-    ensures steps { map_err of_detect (detects options.now env.now)
-        (outside W.World S.Spawner world.old spawners.old.items)
+    requires standing { AreStanding places.old
+        (map (λ s. shelf_seen (⟦<dyn Shelf as Shelf>⟧ s.vtable) s.value) shelves.old.items) }
+    requires few { length shelves.old.items < 2 ^ 32 }
+    ensures does { does asked.now env.now
+        (surroundings (outside W.World S.Spawner world.old spawners.old.items)
+        (caches_of (map (λ s. shelf_seen (⟦<dyn Shelf as Shelf>⟧ s.vtable) s.value) shelves.old.items) places.old))
         result
-        (outside W.World S.Spawner world.new spawners.new.items) }
-    ensures outcome { map_err of_detect (ComesTo options.now env.now)
-        (outside W.World S.Spawner world.old spawners.old.items)
+        (surroundings (outside W.World S.Spawner world.new spawners.new.items)
+        (caches_of (map (λ s. shelf_seen (⟦<dyn Shelf as Shelf>⟧ s.vtable) s.value) shelves.new.items) places.new)) }
+    ensures outcome { On (options_of_detect asked.now) (λ options.
+        over_outside (tells Answer.Printed of_detect (ComesTo options env.now))
+        (surroundings (outside W.World S.Spawner world.old spawners.old.items)
+        (caches_of (map (λ s. shelf_seen (⟦<dyn Shelf as Shelf>⟧ s.vtable) s.value) shelves.old.items) places.old))
         result
-        (outside W.World S.Spawner world.new spawners.new.items) }
-    ensures others { drop 1 spawners.new.items ≡ drop 1 spawners.old.items }
+        (surroundings (outside W.World S.Spawner world.new spawners.new.items)
+        (caches_of (map (λ s. shelf_seen (⟦<dyn Shelf as Shelf>⟧ s.vtable) s.value) shelves.new.items) places.new))) }
+    ensures chosen { On (options_of_create asked.now) (λ options.
+        tells Answer.Printed of_create (ComesToChoice options env.now)
+        (surroundings (outside W.World S.Spawner world.old spawners.old.items)
+        (caches_of (map (λ s. shelf_seen (⟦<dyn Shelf as Shelf>⟧ s.vtable) s.value) shelves.old.items) places.old))
+        result
+        (surroundings (outside W.World S.Spawner world.new spawners.new.items)
+        (caches_of (map (λ s. shelf_seen (⟦<dyn Shelf as Shelf>⟧ s.vtable) s.value) shelves.new.items) places.new))) }
+    ensures shelves { (uses_caches asked.now ≡ false) → (shelves.new.items ≡ shelves.old.items) }
     ensures files { CountsFiles cause_of result (W.file_faults world.old) (W.file_faults world.new) }
-    ensures children { W.child_faults world.new ≡ W.child_faults world.old }
-    ensures spawners { CountsSpawners cause_of result
+    ensures children { CountsChild result
+        (W.child_faults world.old) (W.child_faults world.new)
         (faults_of (spawners_seen S.Spawner spawners.old.items))
         (faults_of (spawners_seen S.Spawner spawners.new.items)) }
 {
-    let text = detect(rt, alloc, options, env, world, spawners)?;
-    Ok(text)
+    match asked {
+        Asked::Detect(options) => run_detect(rt, alloc, options, env, world, spawners),
+        Asked::Build(options) => run_build(alloc, options, env, world),
+        Asked::Analyze(options) => run_analyze(alloc, options, world),
+        Asked::Restore(options) => run_restore(alloc, options, world, shelves, places),
+        Asked::Export(options) => run_export(alloc, options, world, shelves, places),
+        Asked::Create(options) => {
+            run_create(rt, alloc, options, env, world, spawners, shelves, places)
+        }
+        Asked::Rebase(options) => run_rebase(alloc, options, world),
+        Asked::Base(options) => run_base(alloc, options, world),
+        Asked::Unpack(options) => run_unpack(alloc, options, world),
+        Asked::Show(options) => run_show(alloc, options, world),
+        Asked::Launch(options) => run_launch(alloc, options, env, world),
+    }
 }
 
-// Does what the words ask for.
+// Does what the words ask for. All caches stand at first.
 fn run_words<W: World, S: Spawner + Send, R: Threads + Sync>(
     rt: &R,
     alloc: Global,
@@ -60,35 +100,63 @@ fn run_words<W: World, S: Spawner + Send, R: Threads + Sync>(
     env: &Env,
     world: &mut W,
     spawners: &mut Vec<S>,
-) -> Result<Text, Refusal>
-    requires { 0 < length spawners.old.items }
-    ensures refused { On (refusal_of (command_in (map string_bytes words.now) env.now))
-        (λ refusal. gives cause_of (Err refusal)
-        (outside W.World S.Spawner world.old spawners.old.items)
+    shelves: &mut Shelves,
+) -> Result<Answer, Refusal>
+    requires spawners { 0 < length spawners.old.items }
+    requires few { length shelves.old.items < 2 ^ 32 }
+    ensures refused { let all = range_with_len 0 (length shelves.old.items) in
+        On (refusal_of (command_in (map string_bytes words.now) env.now)) (λ refusal. gives cause_of (Err refusal)
+        (surroundings (outside W.World S.Spawner world.old spawners.old.items)
+        (caches_of (map (λ s. shelf_seen (⟦<dyn Shelf as Shelf>⟧ s.vtable) s.value) shelves.old.items) all))
         result
-        (outside W.World S.Spawner world.new spawners.new.items)) }
-    ensures idle { On (refusal_of (command_in (map string_bytes words.now) env.now))
-        (λ refusal. (world.new ≡ world.old) × (spawners.new.items ≡ spawners.old.items)) }
-    ensures detect { On (detect_of (command_in (map string_bytes words.now) env.now)) (λ options.
-        map_err of_detect (detects options env.now)
-        (outside W.World S.Spawner world.old spawners.old.items)
+        (surroundings (outside W.World S.Spawner world.new spawners.new.items)
+        (caches_of (map (λ s. shelf_seen (⟦<dyn Shelf as Shelf>⟧ s.vtable) s.value) shelves.new.items) all))) }
+    ensures idle { On (refusal_of (command_in (map string_bytes words.now) env.now)) (λ refusal.
+        (world.new ≡ world.old) × (spawners.new.items ≡ spawners.old.items) × (shelves.new.items ≡ shelves.old.items)) }
+    ensures does { let all = range_with_len 0 (length shelves.old.items) in
+        On (asked_of (command_in (map string_bytes words.now) env.now)) (λ asked.
+        (standing : Seq ℕ) × after_words (does asked env.now)
+        (surroundings (outside W.World S.Spawner world.old spawners.old.items)
+        (caches_of (map (λ s. shelf_seen (⟦<dyn Shelf as Shelf>⟧ s.vtable) s.value) shelves.old.items) all))
         result
-        (outside W.World S.Spawner world.new spawners.new.items)) }
-    ensures outcome { On (detect_of (command_in (map string_bytes words.now) env.now)) (λ options.
-        map_err of_detect (ComesTo options env.now)
-        (outside W.World S.Spawner world.old spawners.old.items)
+        (surroundings (outside W.World S.Spawner world.new spawners.new.items)
+        (caches_of (map (λ s. shelf_seen (⟦<dyn Shelf as Shelf>⟧ s.vtable) s.value) shelves.new.items) standing))) }
+    ensures outcome { let all = range_with_len 0 (length shelves.old.items) in
+        On (options_in options_of_detect (command_in (map string_bytes words.now) env.now)) (λ options.
+        (standing : Seq ℕ) × after_words (over_outside (tells Answer.Printed of_detect (ComesTo options env.now)))
+        (surroundings (outside W.World S.Spawner world.old spawners.old.items)
+        (caches_of (map (λ s. shelf_seen (⟦<dyn Shelf as Shelf>⟧ s.vtable) s.value) shelves.old.items) all))
         result
-        (outside W.World S.Spawner world.new spawners.new.items)) }
-    ensures others { drop 1 spawners.new.items ≡ drop 1 spawners.old.items }
+        (surroundings (outside W.World S.Spawner world.new spawners.new.items)
+        (caches_of (map (λ s. shelf_seen (⟦<dyn Shelf as Shelf>⟧ s.vtable) s.value) shelves.new.items) standing))) }
+    ensures chosen { let all = range_with_len 0 (length shelves.old.items) in
+        On (options_in options_of_create (command_in (map string_bytes words.now) env.now)) (λ options.
+        (standing : Seq ℕ) × after_words (tells Answer.Printed of_create (ComesToChoice options env.now))
+        (surroundings (outside W.World S.Spawner world.old spawners.old.items)
+        (caches_of (map (λ s. shelf_seen (⟦<dyn Shelf as Shelf>⟧ s.vtable) s.value) shelves.old.items) all))
+        result
+        (surroundings (outside W.World S.Spawner world.new spawners.new.items)
+        (caches_of (map (λ s. shelf_seen (⟦<dyn Shelf as Shelf>⟧ s.vtable) s.value) shelves.new.items) standing))) }
+    ensures shelves { On (asked_of (command_in (map string_bytes words.now) env.now)) (λ asked.
+        (uses_caches asked ≡ false) → (shelves.new.items ≡ shelves.old.items)) }
     ensures files { CountsFiles cause_of result (W.file_faults world.old) (W.file_faults world.new) }
-    ensures children { W.child_faults world.new ≡ W.child_faults world.old }
-    ensures spawners { CountsSpawners cause_of result
+    ensures children { CountsChild result
+        (W.child_faults world.old) (W.child_faults world.new)
         (faults_of (spawners_seen S.Spawner spawners.old.items))
         (faults_of (spawners_seen S.Spawner spawners.new.items)) }
 {
-    match command(alloc, words, env)? {
-        Asked::Detect(options) => run_detect(rt, alloc, &options, env, world, spawners),
-    }
+    let mut places = numbers(alloc, shelves.len() as u32)?;
+    let asked = command(alloc, words, env)?;
+    run_asked(
+        rt,
+        alloc,
+        &asked,
+        env,
+        world,
+        spawners,
+        shelves,
+        &mut places,
+    )
 }
 
 /// Does what the words ask for, writes the text of its end, and gives the status. The first word is the program's own.
@@ -99,45 +167,63 @@ pub fn lifecycle<W: World, S: Spawner + Send, O: Sink, R: Threads + Sync>(
     env: &Env,
     world: &mut W,
     spawners: &mut Vec<S>,
-    shelves: &mut Vec<Box<dyn Shelf>>,
+    shelves: &mut Shelves,
     out: &mut O,
 ) -> Status
     requires spawners { 0 < length spawners.old.items }
     requires shelves { length shelves.old.items < 2 ^ 32 }
 
     // Words that are no command, and a Platform API that isn't served, are refused, and nothing outside is looked at.
-    ensures refused { On (refusal_of (command_in (map string_bytes words.now) env.now)) (λ refusal.
-        Ends (gives cause_of (Err refusal))
-        (outside W.World S.Spawner world.old spawners.old.items)
+    ensures refused { let all = range_with_len 0 (length shelves.old.items) in
+        On (refusal_of (command_in (map string_bytes words.now) env.now)) (λ refusal. Ends (gives cause_of (Err refusal))
+        (surroundings (outside W.World S.Spawner world.old spawners.old.items)
+        (caches_of (map (λ s. shelf_seen (⟦<dyn Shelf as Shelf>⟧ s.vtable) s.value) shelves.old.items) all))
         (outside W.World S.Spawner world.new spawners.new.items)
+        (map (λ s. shelf_seen (⟦<dyn Shelf as Shelf>⟧ s.vtable) s.value) shelves.new.items)
         result (O.taken out.old) (O.taken out.new)) }
     ensures idle { On (refusal_of (command_in (map string_bytes words.now) env.now)) (λ refusal.
-        (world.new ≡ world.old) × (spawners.new.items ≡ spawners.old.items)) }
-    // Each command does its steps, and the status and the text are those of its end.
-    ensures detect { On (detect_of (command_in (map string_bytes words.now) env.now)) (λ options.
-        Ends (map_err of_detect (detects options env.now))
-        (outside W.World S.Spawner world.old spawners.old.items)
+        (world.new ≡ world.old) × (spawners.new.items ≡ spawners.old.items) × (shelves.new.items ≡ shelves.old.items)) }
+    // Each command does its steps, with all shelves standing, and the status and the text are those of its end.
+    ensures does { let all = range_with_len 0 (length shelves.old.items) in
+        On (asked_of (command_in (map string_bytes words.now) env.now)) (λ asked. Ends (after_words (does asked env.now))
+        (surroundings (outside W.World S.Spawner world.old spawners.old.items)
+        (caches_of (map (λ s. shelf_seen (⟦<dyn Shelf as Shelf>⟧ s.vtable) s.value) shelves.old.items) all))
         (outside W.World S.Spawner world.new spawners.new.items)
+        (map (λ s. shelf_seen (⟦<dyn Shelf as Shelf>⟧ s.vtable) s.value) shelves.new.items)
         result (O.taken out.old) (O.taken out.new)) }
-    // So `detect` comes to the choice of the first trial that passes, by the files and by what its children answered, or
-    // to its refusal; each document is the old one or the whole new one, and all other files are as before.
-    ensures outcome { On (detect_of (command_in (map string_bytes words.now) env.now)) (λ options.
-        Ends (map_err of_detect (ComesTo options env.now))
-        (outside W.World S.Spawner world.old spawners.old.items)
+    // So `detect` comes to the choice of the first trial that passes, by the files and by what its children answered,
+    // however many workers ran them and in whatever order they finished, or to its refusal; each document is the old one
+    // or the whole new one, and all other files are as before.
+    ensures outcome { let all = range_with_len 0 (length shelves.old.items) in
+        On (options_in options_of_detect (command_in (map string_bytes words.now) env.now)) (λ options.
+        Ends (after_words (over_outside (tells Answer.Printed of_detect (ComesTo options env.now))))
+        (surroundings (outside W.World S.Spawner world.old spawners.old.items)
+        (caches_of (map (λ s. shelf_seen (⟦<dyn Shelf as Shelf>⟧ s.vtable) s.value) shelves.old.items) all))
         (outside W.World S.Spawner world.new spawners.new.items)
+        (map (λ s. shelf_seen (⟦<dyn Shelf as Shelf>⟧ s.vtable) s.value) shelves.new.items)
+        result (O.taken out.old) (O.taken out.new)) }
+    // And what `create` tells and builds is the choice of the first trial that passes; where it is refused before that, it
+    // ends as `detect` there.
+    ensures chosen { let all = range_with_len 0 (length shelves.old.items) in
+        On (options_in options_of_create (command_in (map string_bytes words.now) env.now)) (λ options.
+        Ends (after_words (tells Answer.Printed of_create (ComesToChoice options env.now)))
+        (surroundings (outside W.World S.Spawner world.old spawners.old.items)
+        (caches_of (map (λ s. shelf_seen (⟦<dyn Shelf as Shelf>⟧ s.vtable) s.value) shelves.old.items) all))
+        (outside W.World S.Spawner world.new spawners.new.items)
+        (map (λ s. shelf_seen (⟦<dyn Shelf as Shelf>⟧ s.vtable) s.value) shelves.new.items)
         result (O.taken out.old) (O.taken out.new)) }
 
     // Each failure of the outside is counted, and told by the status.
     ensures files { CauseOfFile result (W.file_faults world.old) (W.file_faults world.new) }
     ensures children { CauseOfChild result
+        (W.child_faults world.old) (W.child_faults world.new)
         (faults_of (spawners_seen S.Spawner spawners.old.items))
         (faults_of (spawners_seen S.Spawner spawners.new.items)) }
-    ensures world_children { W.child_faults world.new ≡ W.child_faults world.old }
     ensures output { CountsOutput result (O.faults out.old) (O.faults out.new) }
-    // One worker runs all children, and no cache is looked at.
-    ensures others { drop 1 spawners.new.items ≡ drop 1 spawners.old.items }
-    ensures shelves { shelves.new.items ≡ shelves.old.items }
+    // A command that needs no cache looks at none.
+    ensures shelves { On (asked_of (command_in (map string_bytes words.now) env.now)) (λ asked.
+        (uses_caches asked ≡ false) → (shelves.new.items ≡ shelves.old.items)) }
 {
-    let end = run_words(rt, alloc, words, env, world, spawners);
+    let end = run_words(rt, alloc, words, env, world, spawners, shelves);
     finish(alloc, end, out)
 }

@@ -1,26 +1,35 @@
 use Rattle.std.proofs.Common.{Err}
-use Rattle.steps.specs.Steps.{gives, map_err}
-use Rattle.cnb_detect.specs.Detects.{detects}
+use Rattle.steps.specs.Steps.{gives}
 use Rattle.cnb_detect.specs.Outcome.{ComesTo}
+use Rattle.cnb_lifecycle.specs.Commands.{after_words, does}
+use Rattle.cnb_create.specs.Outcome.{ComesToChoice}
 use Rattle.cnb_lifecycle.specs.Faults.{cause_of, of_detect}
+use Rattle.cnb_lifecycle.specs.PhaseFaults.{of_create}
+use Rattle.cnb_create.specs.Surroundings.{over_outside}
+use Rattle.cnb_lifecycle.specs.Telling.{tells}
+use Rattle.cnb_lifecycle.specs.declared.answer.Answer.TheVariants.{Printed}
 use Rattle.cnb_lifecycle.proofs.CauseLemmas.{cause_of_child, cause_of_file}
-use Rattle.cnb_lifecycle.proofs.EndLemmas.{ends}
+use Rattle.cnb_lifecycle.proofs.EndLemmas.{ends, stood}
 use Rattle.cnb_lifecycle.proofs.top.lifecycle.Goals as goal
 
 pub returns-clause-refused : goal.returns-clause-refused
 returns-clause-refused g c =
-    ends _ (λ refusal. gives cause_of (Err refusal)) _ _ _ _ _ _ c.run_words-end.ensures.refused c.run_words-end.ensures.files c.run_words-end.ensures.children c.run_words-end.ensures.spawners c.finish.ensures.finishes
+    ends _ (λ refusal. gives cause_of (Err refusal)) _ _ _ _ _ _ _ (stood _ (λ refusal. gives cause_of (Err refusal)) _ _ _ _ _ c.run_words-end.ensures.refused) c.run_words-end.ensures.files c.run_words-end.ensures.children c.finish.ensures.finishes
 
-pub returns-clause-detect : goal.returns-clause-detect
-returns-clause-detect g c =
-    ends _ (λ options. map_err of_detect (detects options c.args.env.now)) _ _ _ _ _ _ c.run_words-end.ensures.detect c.run_words-end.ensures.files c.run_words-end.ensures.children c.run_words-end.ensures.spawners c.finish.ensures.finishes
+pub returns-clause-does : goal.returns-clause-does
+returns-clause-does g c =
+    ends _ (λ asked. after_words (does asked c.args.env.now)) _ _ _ _ _ _ _ c.run_words-end.ensures.does c.run_words-end.ensures.files c.run_words-end.ensures.children c.finish.ensures.finishes
 
 pub returns-clause-outcome : goal.returns-clause-outcome
 returns-clause-outcome g c =
-    ends _ (λ options. map_err of_detect (ComesTo options c.args.env.now)) _ _ _ _ _ _ c.run_words-end.ensures.outcome c.run_words-end.ensures.files c.run_words-end.ensures.children c.run_words-end.ensures.spawners c.finish.ensures.finishes
+    ends _ (λ options. after_words (over_outside (tells Printed of_detect (ComesTo options c.args.env.now)))) _ _ _ _ _ _ _ c.run_words-end.ensures.outcome c.run_words-end.ensures.files c.run_words-end.ensures.children c.finish.ensures.finishes
+
+pub returns-clause-chosen : goal.returns-clause-chosen
+returns-clause-chosen g c =
+    ends _ (λ options. after_words (tells Printed of_create (ComesToChoice options c.args.env.now))) _ _ _ _ _ _ _ c.run_words-end.ensures.chosen c.run_words-end.ensures.files c.run_words-end.ensures.children c.finish.ensures.finishes
 
 pub returns-clause-files : goal.returns-clause-files
 returns-clause-files g c = cause_of_file _ _ _ _ _ _ c.finish.ensures.finishes c.run_words-end.ensures.files
 
 pub returns-clause-children : goal.returns-clause-children
-returns-clause-children g c = cause_of_child _ _ _ _ _ _ c.finish.ensures.finishes c.run_words-end.ensures.spawners
+returns-clause-children g c = cause_of_child _ _ _ _ _ _ _ _ c.finish.ensures.finishes c.run_words-end.ensures.children

@@ -1,33 +1,111 @@
-use Rattle.std.proofs.Common.{refl}
+use Rattle.std.proofs.Common.{◌∙◌, ap, refl}
+use Rattle.std.specs.List.{range_with_len}
 use Rattle.std.proofs.lemmas.Result.{err_from_is_err_and}
-use Rattle.cnb_lifecycle.proofs.CauseLemmas.{given_files, given_spawners}
-use Rattle.cnb_lifecycle.proofs.EndLemmas.{early_detect, early_idle, early_outcome, early_refused}
+use Rattle.steps.specs.Causes.{OutOfMemory}
+use Rattle.cnb_detect.specs.Outcome.{ComesTo}
+use Rattle.cnb_create.specs.Outcome.{ComesToChoice}
+use Rattle.cnb_lifecycle.specs.Commands.{options_of_create, options_of_detect}
+use Rattle.cnb_lifecycle.specs.Faults.{of_detect}
+use Rattle.cnb_lifecycle.specs.PhaseFaults.{of_create}
+use Rattle.cnb_create.specs.Surroundings.{over_outside}
+use Rattle.cnb_lifecycle.specs.Telling.{tells}
+use Rattle.cnb_lifecycle.specs.declared.answer.Answer.TheVariants.{Printed}
+use Rattle.cnb_lifecycle.proofs.CauseLemmas.{given_child, given_files}
+use Rattle.cnb_lifecycle.proofs.EndLemmas.{begun, choice_begun, early_choice, early_does, early_idle, early_refused, early_shelves, kept_shelves, not_refused}
+use Rattle.cnb_lifecycle.proofs.NumberLemmas.{all_stand}
 use Rattle.cnb_lifecycle.proofs.top.run_words.Goals as goal
 
-pub returns-in_err-options-clause-refused : goal.returns-in_err-options-clause-refused
-returns-in_err-options-clause-refused g c =
-    let exit = err_from_is_err_and c.from_residual.result c.from_residual.ensures.1 in
-    rw (exit.1, exit.2) (early_refused _ _ _ c.in_err-options.ensures.command c.in_err-options.ensures.cause)
+pub run_asked-requires-clause-standing : goal.run_asked-requires-clause-standing
+run_asked-requires-clause-standing g c κs within = all_stand _ _ _ (c.in_ok-places.ensures ∙ ap (range_with_len 0) (c.len.ensures ∙ c.args.shelves.now.ok.0))
 
-pub returns-in_err-options-clause-idle : goal.returns-in_err-options-clause-idle
-returns-in_err-options-clause-idle g c = early_idle _ _ _ refl refl
-
-pub returns-in_err-options-clause-detect : goal.returns-in_err-options-clause-detect
-returns-in_err-options-clause-detect g c =
+pub returns-in_err-places-clause-refused : goal.returns-in_err-places-clause-refused
+returns-in_err-places-clause-refused g c =
     let exit = err_from_is_err_and c.from_residual.result c.from_residual.ensures.1 in
-    rw (exit.1, exit.2) (early_detect _ _ _ _ c.in_err-options.ensures.command c.in_err-options.ensures.cause)
+    rw (exit.1, exit.2) (early_refused _ _ _ tt tt)
 
-pub returns-in_err-options-clause-outcome : goal.returns-in_err-options-clause-outcome
-returns-in_err-options-clause-outcome g c =
-    let exit = err_from_is_err_and c.from_residual.result c.from_residual.ensures.1 in
-    rw (exit.1, exit.2) (early_outcome _ _ _ _ c.in_err-options.ensures.command c.in_err-options.ensures.cause)
+pub returns-in_err-places-clause-idle : goal.returns-in_err-places-clause-idle
+returns-in_err-places-clause-idle g c = early_idle _ _ _ _ refl refl refl
 
-pub returns-in_err-options-clause-files : goal.returns-in_err-options-clause-files
-returns-in_err-options-clause-files g c =
+pub returns-in_err-places-clause-does : goal.returns-in_err-places-clause-does
+returns-in_err-places-clause-does g c =
     let exit = err_from_is_err_and c.from_residual.result c.from_residual.ensures.1 in
-    rw (exit.1, exit.2) (given_files _ _ c.in_err-options.ensures.cause)
+    rw (exit.1, exit.2) (early_does _ _ _ _ _ _ tt tt)
 
-pub returns-in_err-options-clause-spawners : goal.returns-in_err-options-clause-spawners
-returns-in_err-options-clause-spawners g c =
+pub returns-in_err-places-clause-outcome : goal.returns-in_err-places-clause-outcome
+returns-in_err-places-clause-outcome g c =
     let exit = err_from_is_err_and c.from_residual.result c.from_residual.ensures.1 in
-    rw (exit.1, exit.2) (given_spawners _ _ c.in_err-options.ensures.cause)
+    rw (exit.1, exit.2) (early_choice options_of_detect _ (λ options. over_outside (tells Printed of_detect (ComesTo options c.args.env.now))) _ _ _ _ tt tt)
+
+pub returns-in_err-places-clause-chosen : goal.returns-in_err-places-clause-chosen
+returns-in_err-places-clause-chosen g c =
+    let exit = err_from_is_err_and c.from_residual.result c.from_residual.ensures.1 in
+    rw (exit.1, exit.2) (early_choice options_of_create _ (λ options. tells Printed of_create (ComesToChoice options c.args.env.now)) _ _ _ _ tt tt)
+
+pub returns-in_err-places-clause-shelves : goal.returns-in_err-places-clause-shelves
+returns-in_err-places-clause-shelves g c = early_shelves _ _ refl
+
+pub returns-in_err-places-clause-files : goal.returns-in_err-places-clause-files
+returns-in_err-places-clause-files g c =
+    let exit = err_from_is_err_and c.from_residual.result c.from_residual.ensures.1 in
+    rw (exit.1, exit.2) (given_files OutOfMemory _ tt)
+
+pub returns-in_err-places-clause-children : goal.returns-in_err-places-clause-children
+returns-in_err-places-clause-children g c =
+    let exit = err_from_is_err_and c.from_residual.result c.from_residual.ensures.1 in
+    rw (exit.1, exit.2) (given_child OutOfMemory _ _ tt)
+
+pub returns-in_err-asked-clause-refused : goal.returns-in_err-asked-clause-refused
+returns-in_err-asked-clause-refused g c =
+    let exit = err_from_is_err_and c.from_residual-in_err-asked.result c.from_residual-in_err-asked.ensures.1 in
+    rw (exit.1, exit.2) (early_refused _ _ _ c.in_err-asked.ensures.command c.in_err-asked.ensures.cause)
+
+pub returns-in_err-asked-clause-idle : goal.returns-in_err-asked-clause-idle
+returns-in_err-asked-clause-idle g c = early_idle _ _ _ _ refl refl refl
+
+pub returns-in_err-asked-clause-does : goal.returns-in_err-asked-clause-does
+returns-in_err-asked-clause-does g c =
+    let exit = err_from_is_err_and c.from_residual-in_err-asked.result c.from_residual-in_err-asked.ensures.1 in
+    rw (exit.1, exit.2) (early_does _ _ _ _ _ _ c.in_err-asked.ensures.command c.in_err-asked.ensures.cause)
+
+pub returns-in_err-asked-clause-outcome : goal.returns-in_err-asked-clause-outcome
+returns-in_err-asked-clause-outcome g c =
+    let exit = err_from_is_err_and c.from_residual-in_err-asked.result c.from_residual-in_err-asked.ensures.1 in
+    rw (exit.1, exit.2) (early_choice options_of_detect _ (λ options. over_outside (tells Printed of_detect (ComesTo options c.args.env.now))) _ _ _ _ c.in_err-asked.ensures.command c.in_err-asked.ensures.cause)
+
+pub returns-in_err-asked-clause-chosen : goal.returns-in_err-asked-clause-chosen
+returns-in_err-asked-clause-chosen g c =
+    let exit = err_from_is_err_and c.from_residual-in_err-asked.result c.from_residual-in_err-asked.ensures.1 in
+    rw (exit.1, exit.2) (early_choice options_of_create _ (λ options. tells Printed of_create (ComesToChoice options c.args.env.now)) _ _ _ _ c.in_err-asked.ensures.command c.in_err-asked.ensures.cause)
+
+pub returns-in_err-asked-clause-shelves : goal.returns-in_err-asked-clause-shelves
+returns-in_err-asked-clause-shelves g c = early_shelves _ _ refl
+
+pub returns-in_err-asked-clause-files : goal.returns-in_err-asked-clause-files
+returns-in_err-asked-clause-files g c =
+    let exit = err_from_is_err_and c.from_residual-in_err-asked.result c.from_residual-in_err-asked.ensures.1 in
+    rw (exit.1, exit.2) (given_files _ _ c.in_err-asked.ensures.cause)
+
+pub returns-in_err-asked-clause-children : goal.returns-in_err-asked-clause-children
+returns-in_err-asked-clause-children g c =
+    let exit = err_from_is_err_and c.from_residual-in_err-asked.result c.from_residual-in_err-asked.ensures.1 in
+    rw (exit.1, exit.2) (given_child _ _ _ c.in_err-asked.ensures.cause)
+
+pub returns-clause-refused : goal.returns-clause-refused
+returns-clause-refused g c = not_refused _ _ _ c.in_ok-asked.ensures.command
+
+pub returns-clause-idle : goal.returns-clause-idle
+returns-clause-idle g c = not_refused _ _ _ c.in_ok-asked.ensures.command
+
+pub returns-clause-does : goal.returns-clause-does
+returns-clause-does g c = begun _ _ (c.in_ok-places.ensures ∙ ap (range_with_len 0) (c.len.ensures ∙ c.args.shelves.now.ok.0)) _ _ _ _ _ _ _ _ _ c.in_ok-asked.ensures.command c.run_asked.ensures.does
+
+pub returns-clause-outcome : goal.returns-clause-outcome
+returns-clause-outcome g c =
+    choice_begun _ _ (c.in_ok-places.ensures ∙ ap (range_with_len 0) (c.len.ensures ∙ c.args.shelves.now.ok.0)) _ _ _ _ _ _ options_of_detect _ _ (λ options. over_outside (tells Printed of_detect (ComesTo options c.args.env.now))) c.in_ok-asked.ensures.command c.run_asked.ensures.outcome
+
+pub returns-clause-chosen : goal.returns-clause-chosen
+returns-clause-chosen g c =
+    choice_begun _ _ (c.in_ok-places.ensures ∙ ap (range_with_len 0) (c.len.ensures ∙ c.args.shelves.now.ok.0)) _ _ _ _ _ _ options_of_create _ _ (λ options. tells Printed of_create (ComesToChoice options c.args.env.now)) c.in_ok-asked.ensures.command c.run_asked.ensures.chosen
+
+pub returns-clause-shelves : goal.returns-clause-shelves
+returns-clause-shelves g c = kept_shelves _ _ _ c.in_ok-asked.ensures.command c.run_asked.ensures.shelves

@@ -1,31 +1,32 @@
 use Rattle.std.proofs.lemmas.Result.{err_from_is_err_and}
-use Rattle.steps.proofs.StepLemmas.{mapped, mapped_fault}
+use Rattle.cnb_lifecycle.specs.declared.answer.Answer.TheVariants.{Printed}
+use Rattle.cnb_lifecycle.proofs.TellingLemmas.{told, told_fault}
 use Rattle.cnb_lifecycle.specs.Faults.{of_detect}
-use Rattle.cnb_lifecycle.proofs.CauseLemmas.{detect_files, detect_spawners}
-use Rattle.cnb_lifecycle.proofs.top.run_detect.Goals as goal
+use Rattle.cnb_lifecycle.proofs.CauseLemmas.{detect_child, detect_files}
+use Rattle.cnb_lifecycle.proofs.running.run_detect.Goals as goal
 
 pub returns-in_err-text-clause-steps : goal.returns-in_err-text-clause-steps
 returns-in_err-text-clause-steps g c =
     let exit = err_from_is_err_and c.from_residual.result c.from_residual.ensures.1 in
-    rw (exit.1, exit.2) (mapped_fault of_detect _ _ _ _ c.in_err-text.ensures.steps)
+    rw (exit.1, exit.2) (told_fault Printed of_detect _ _ _ _ c.in_err-text.ensures.steps)
 
 pub returns-in_err-text-clause-outcome : goal.returns-in_err-text-clause-outcome
 returns-in_err-text-clause-outcome g c =
     let exit = err_from_is_err_and c.from_residual.result c.from_residual.ensures.1 in
-    rw (exit.1, exit.2) (mapped_fault of_detect _ _ _ _ c.in_err-text.ensures.outcome)
+    rw (exit.1, exit.2) (told_fault Printed of_detect _ _ _ _ c.in_err-text.ensures.outcome)
 
 pub returns-clause-steps : goal.returns-clause-steps
-returns-clause-steps g c = mapped of_detect _ _ _ _ c.in_ok-text.ensures.steps
+returns-clause-steps g c = told Printed of_detect _ _ _ _ c.in_ok-text.ensures.steps
 
 pub returns-clause-outcome : goal.returns-clause-outcome
-returns-clause-outcome g c = mapped of_detect _ _ _ _ c.in_ok-text.ensures.outcome
+returns-clause-outcome g c = told Printed of_detect _ _ _ _ c.in_ok-text.ensures.outcome
 
 pub returns-in_err-text-clause-files : goal.returns-in_err-text-clause-files
 returns-in_err-text-clause-files g c =
     let exit = err_from_is_err_and c.from_residual.result c.from_residual.ensures.1 in
     rw (exit.1, exit.2) (detect_files _ _ _ c.in_err-text.ensures.files)
 
-pub returns-in_err-text-clause-spawners : goal.returns-in_err-text-clause-spawners
-returns-in_err-text-clause-spawners g c =
+pub returns-in_err-text-clause-children : goal.returns-in_err-text-clause-children
+returns-in_err-text-clause-children g c =
     let exit = err_from_is_err_and c.from_residual.result c.from_residual.ensures.1 in
-    rw (exit.1, exit.2) (detect_spawners _ _ _ c.in_err-text.ensures.spawners)
+    rw (exit.1, exit.2) (detect_child _ _ _ _ _ c.in_err-text.ensures.children c.in_err-text.ensures.spawners)

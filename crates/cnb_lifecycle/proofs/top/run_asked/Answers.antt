@@ -1,0 +1,61 @@
+use Rattle.std.proofs.Common.{refl}
+use Rattle.cnb_detect.specs.Outcome.{ComesTo}
+use Rattle.cnb_create.specs.Outcome.{ComesToChoice}
+use Rattle.cnb_lifecycle.specs.Commands.{options_of_create, options_of_detect}
+use Rattle.cnb_lifecycle.specs.Faults.{of_detect}
+use Rattle.cnb_lifecycle.specs.PhaseFaults.{of_create}
+use Rattle.cnb_create.specs.Surroundings.{over_outside}
+use Rattle.cnb_lifecycle.specs.Telling.{tells}
+use Rattle.cnb_lifecycle.specs.declared.answer.Answer.TheVariants.{Printed}
+use Rattle.cnb_lifecycle.proofs.EndLemmas.{arm, busy, choice_arm, lifted_caches, lifted_outside, lifted_world}
+use Rattle.cnb_lifecycle.proofs.top.run_asked.Goals as goal
+
+pub returns-in-Detect-clause-outcome : goal.returns-in-Detect-clause-outcome
+returns-in-Detect-clause-outcome g c =
+    choice_arm options_of_detect _ _ _ (λ options. over_outside (tells Printed of_detect (ComesTo options c.args.env.now))) _ _ _ c.in-Detect.is refl (lifted_outside _ _ _ _ _ c.run_detect.ensures.outcome)
+
+pub returns-in-Detect-clause-does : goal.returns-in-Detect-clause-does
+returns-in-Detect-clause-does g c = arm _ _ _ _ _ _ c.in-Detect.is (lifted_outside _ _ _ _ _ c.run_detect.ensures.steps)
+
+pub returns-in-Build-clause-does : goal.returns-in-Build-clause-does
+returns-in-Build-clause-does g c = arm _ _ _ _ _ _ c.in-Build.is (lifted_world _ _ _ _ _ _ c.run_build.ensures.steps)
+
+pub returns-in-Analyze-clause-does : goal.returns-in-Analyze-clause-does
+returns-in-Analyze-clause-does g c = arm _ _ _ _ _ _ c.in-Analyze.is (lifted_world _ _ _ _ _ _ c.run_analyze.ensures.steps)
+
+pub returns-in-Restore-clause-does : goal.returns-in-Restore-clause-does
+returns-in-Restore-clause-does g c = arm _ _ _ _ _ _ c.in-Restore.is (lifted_caches _ _ _ _ _ _ _ c.run_restore.ensures.steps)
+
+pub returns-in-Restore-clause-shelves : goal.returns-in-Restore-clause-shelves
+returns-in-Restore-clause-shelves g c = busy _ _ _ c.in-Restore.is refl
+
+pub returns-in-Export-clause-does : goal.returns-in-Export-clause-does
+returns-in-Export-clause-does g c = arm _ _ _ _ _ _ c.in-Export.is (lifted_caches _ _ _ _ _ _ _ c.run_export.ensures.steps)
+
+pub returns-in-Export-clause-shelves : goal.returns-in-Export-clause-shelves
+returns-in-Export-clause-shelves g c = busy _ _ _ c.in-Export.is refl
+
+pub returns-in-Rebase-clause-does : goal.returns-in-Rebase-clause-does
+returns-in-Rebase-clause-does g c = arm _ _ _ _ _ _ c.in-Rebase.is (lifted_world _ _ _ _ _ _ c.run_rebase.ensures.steps)
+
+pub returns-in-Base-clause-does : goal.returns-in-Base-clause-does
+returns-in-Base-clause-does g c = arm _ _ _ _ _ _ c.in-Base.is (lifted_world _ _ _ _ _ _ c.run_base.ensures.steps)
+
+pub returns-in-Unpack-clause-does : goal.returns-in-Unpack-clause-does
+returns-in-Unpack-clause-does g c = arm _ _ _ _ _ _ c.in-Unpack.is (lifted_world _ _ _ _ _ _ c.run_unpack.ensures.steps)
+
+pub returns-in-Show-clause-does : goal.returns-in-Show-clause-does
+returns-in-Show-clause-does g c = arm _ _ _ _ _ _ c.in-Show.is (lifted_world _ _ _ _ _ _ c.run_show.ensures.steps)
+
+pub returns-in-Launch-clause-does : goal.returns-in-Launch-clause-does
+returns-in-Launch-clause-does g c = arm _ _ _ _ _ _ c.in-Launch.is (lifted_world _ _ _ _ _ _ c.run_launch.ensures.steps)
+
+pub returns-in-Create-clause-does : goal.returns-in-Create-clause-does
+returns-in-Create-clause-does g c = arm _ _ _ _ _ _ c.in-Create.is c.run_create.ensures.steps
+
+pub returns-in-Create-clause-shelves : goal.returns-in-Create-clause-shelves
+returns-in-Create-clause-shelves g c = busy _ _ _ c.in-Create.is refl
+
+pub returns-in-Create-clause-chosen : goal.returns-in-Create-clause-chosen
+returns-in-Create-clause-chosen g c =
+    choice_arm options_of_create _ _ _ (λ options. tells Printed of_create (ComesToChoice options c.args.env.now)) _ _ _ c.in-Create.is refl c.run_create.ensures.chosen

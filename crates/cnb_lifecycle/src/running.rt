@@ -1,0 +1,147 @@
+// What the commands do that use neither caches nor what was exported, with their refusals as the lifecycle's.
+ghost use Rattle.std.specs.Prelude.{◌<◌, List as Seq, ℕ, length};
+ghost use Rattle.cnb_words.specs.Analyze as analyze_words;
+ghost use Rattle.cnb_words.specs.Base as base_words;
+ghost use Rattle.cnb_words.specs.Build as build_words;
+ghost use Rattle.cnb_words.specs.Detect.{KeepsLimits};
+ghost use Rattle.cnb_words.specs.Rebase as rebase_words;
+ghost use Rattle.cnb_words.specs.Show as show_words;
+ghost use Rattle.steps.specs.Causes.{CountsFiles};
+ghost use Rattle.steps.specs.Outside.{faults_of, outside, seen, spawners_seen};
+ghost use Rattle.cnb_build.specs.Command.{commands_build};
+ghost use Rattle.cnb_detect.specs.Detects.{detects};
+ghost use Rattle.cnb_detect.specs.Outcome.{ComesTo};
+ghost use Rattle.cnb_rebase.specs.Bases.{bases_command};
+ghost use Rattle.cnb_rebase.specs.Rebases.{rebases_command};
+ghost use Rattle.cnb_rebase.specs.Shows.{shows_command};
+ghost use Rattle.cnb_restore.specs.Commands.{analyzes_command};
+ghost use Rattle.cnb_lifecycle.specs.Ends.{CountsChild};
+ghost use Rattle.cnb_lifecycle.specs.Faults.{cause_of, of_detect};
+ghost use Rattle.cnb_lifecycle.specs.PhaseFaults.{of_base, of_build, of_image, of_rebase, of_restore};
+ghost use Rattle.cnb_lifecycle.specs.Telling.{tells};
+
+use crate::answer::Answer;
+use crate::refusal::Refusal;
+use cnb_build::build_command;
+use cnb_detect::detect;
+use cnb_rebase::{base_command, rebase_command, show_command};
+use cnb_restore::analyze_command;
+use cnb_words::{AnalyzeWords, BaseWords, BuildWords, DetectWords, RebaseWords, ShowWords};
+use cnb_world::{Env, Spawner, World};
+use std::alloc::Global;
+use std::thread::Threads;
+
+/// Does what the options of `detect` ask for.
+pub(crate) fn run_detect<W: World, S: Spawner + Send, R: Threads + Sync>(
+    rt: &R,
+    alloc: Global,
+    options: &DetectWords,
+    env: &Env,
+    world: &mut W,
+    spawners: &mut Vec<S>,
+) -> Result<Answer, Refusal>
+    requires limits { KeepsLimits options.now }
+    requires spawners { 0 < length spawners.old.items }
+    ensures steps { tells Answer.Printed of_detect (detects options.now env.now)
+        (outside W.World S.Spawner world.old spawners.old.items)
+        result
+        (outside W.World S.Spawner world.new spawners.new.items) }
+    ensures outcome { tells Answer.Printed of_detect (ComesTo options.now env.now)
+        (outside W.World S.Spawner world.old spawners.old.items)
+        result
+        (outside W.World S.Spawner world.new spawners.new.items) }
+    ensures files { CountsFiles cause_of result (W.file_faults world.old) (W.file_faults world.new) }
+    ensures children { CountsChild result
+        (W.child_faults world.old) (W.child_faults world.new)
+        (faults_of (spawners_seen S.Spawner spawners.old.items))
+        (faults_of (spawners_seen S.Spawner spawners.new.items)) }
+{
+    let text = detect(rt, alloc, options, env, world, spawners)?;
+    Ok(Answer::Printed(text))
+}
+
+/// Does what the options of `build` ask for.
+pub(crate) fn run_build<W: World>(
+    alloc: Global,
+    options: &BuildWords,
+    env: &Env,
+    world: &mut W,
+) -> Result<Answer, Refusal>
+    requires limits { build_words.KeepsLimits options.now }
+    ensures steps { tells Answer.Printed of_build (commands_build options.now env.now)
+        (seen W.World world.old) result (seen W.World world.new) }
+    ensures files { CountsFiles cause_of result (W.file_faults world.old) (W.file_faults world.new) }
+    ensures children { (counts : Seq ℕ) →
+        CountsChild result (W.child_faults world.old) (W.child_faults world.new) counts counts }
+{
+    let text = build_command(alloc, options, env, world)?;
+    Ok(Answer::Printed(text))
+}
+
+/// Does what the options of `rebase` ask for.
+pub(crate) fn run_rebase<W: World>(
+    alloc: Global,
+    options: &RebaseWords,
+    world: &mut W,
+) -> Result<Answer, Refusal>
+    requires limits { rebase_words.KeepsLimits options.now }
+    ensures steps { tells Answer.Printed of_rebase (rebases_command options.now)
+        (seen W.World world.old) result (seen W.World world.new) }
+    ensures files { CountsFiles cause_of result (W.file_faults world.old) (W.file_faults world.new) }
+    ensures children { (counts : Seq ℕ) →
+        CountsChild result (W.child_faults world.old) (W.child_faults world.new) counts counts }
+{
+    let text = rebase_command(alloc, options, world)?;
+    Ok(Answer::Printed(text))
+}
+
+/// Does what the options of `base` ask for.
+pub(crate) fn run_base<W: World>(
+    alloc: Global,
+    options: &BaseWords,
+    world: &mut W,
+) -> Result<Answer, Refusal>
+    requires limits { base_words.KeepsLimits options.now }
+    ensures steps { tells Answer.Printed of_base (bases_command options.now)
+        (seen W.World world.old) result (seen W.World world.new) }
+    ensures files { CountsFiles cause_of result (W.file_faults world.old) (W.file_faults world.new) }
+    ensures children { (counts : Seq ℕ) →
+        CountsChild result (W.child_faults world.old) (W.child_faults world.new) counts counts }
+{
+    let text = base_command(alloc, options, world)?;
+    Ok(Answer::Printed(text))
+}
+
+/// Does what the options of `show` ask for.
+pub(crate) fn run_show<W: World>(
+    alloc: Global,
+    options: &ShowWords,
+    world: &mut W,
+) -> Result<Answer, Refusal>
+    requires limits { show_words.KeepsLimits options.now }
+    ensures steps { tells Answer.Printed of_image (shows_command options.now)
+        (seen W.World world.old) result (seen W.World world.new) }
+    ensures files { CountsFiles cause_of result (W.file_faults world.old) (W.file_faults world.new) }
+    ensures children { (counts : Seq ℕ) →
+        CountsChild result (W.child_faults world.old) (W.child_faults world.new) counts counts }
+{
+    let text = show_command(alloc, options, world)?;
+    Ok(Answer::Printed(text))
+}
+
+/// Does what the options of `analyze` ask for.
+pub(crate) fn run_analyze<W: World>(
+    alloc: Global,
+    options: &AnalyzeWords,
+    world: &mut W,
+) -> Result<Answer, Refusal>
+    requires limits { analyze_words.KeepsLimits options.now }
+    ensures steps { tells Answer.Printed of_restore (analyzes_command options.now)
+        (seen W.World world.old) result (seen W.World world.new) }
+    ensures files { CountsFiles cause_of result (W.file_faults world.old) (W.file_faults world.new) }
+    ensures children { (counts : Seq ℕ) →
+        CountsChild result (W.child_faults world.old) (W.child_faults world.new) counts counts }
+{
+    let text = analyze_command(alloc, options, world)?;
+    Ok(Answer::Printed(text))
+}
