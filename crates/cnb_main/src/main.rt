@@ -1,14 +1,17 @@
 //! The program `lifecycle`: over the files, the detect children and the standard output of the system.
 #![tactic(auto)]
 
-ghost use Rattle.std.specs.Prelude.{◌≡◌, IfOk, length};
+mod cache;
+mod caches;
 
-#[cfg(test)]
-mod tests;
+ghost use Rattle.std.specs.Prelude.{◌≡◌, ◌<◌, ◌^◌, IfOk, length, map, string_bytes};
+ghost use Rattle.cnb_main.specs.Caches.{folders_by};
 
+use cache::FolderCache;
+use caches::cache_folders;
 use cnb_host::{HostSpawner, HostWorld, StartFault, StdoutSink, environment, words};
 use cnb_lifecycle::lifecycle;
-use cnb_world::{Env, Shelf};
+use cnb_world::{Env, List, Path, Shelf};
 use std::alloc::AllocError;
 use std::process::ExitCode;
 
@@ -32,14 +35,20 @@ struct Started {
     env: Env,
     world: HostWorld<HostRuntime>,
     spawners: Vec<HostSpawner<HostRuntime>>,
+    caches: List<Path>,
     out: StdoutSink<HostRuntime>,
 }
 
 fn start(rt: &HostRuntime) -> Result<Started, StartFault>
-    ensures { IfOk result (λ started. length started.spawners.items ≡ SPAWNERS) }
+    ensures spawners { IfOk result (λ started. length started.spawners.items ≡ SPAWNERS) }
+    ensures caches { IfOk result (λ started. started.caches ≡ folders_by (map string_bytes started.words.items)) }
+    ensures few { IfOk result (λ started. length started.caches < 2 ^ 32) }
 {
     let words = words(rt)?;
     let Ok(env) = environment(rt) else {
+        return Err(StartFault::Memory);
+    };
+    let Ok(caches) = cache_folders(rt.alloc(), words.as_slice()) else {
         return Err(StartFault::Memory);
     };
     Ok(Started {
@@ -47,8 +56,16 @@ fn start(rt: &HostRuntime) -> Result<Started, StartFault>
         env,
         world: HostWorld::new(rt.clone()?),
         spawners: make_spawners(rt)?,
+        caches,
         out: StdoutSink::new(rt.clone()?),
     })
+}
+
+fn cache_at(rt: &HostRuntime, folder: &Path) -> Result<FolderCache, StartFault> {
+    let Ok(folder) = folder.copy(rt.alloc()) else {
+        return Err(StartFault::Memory);
+    };
+    Ok(FolderCache::new(rt, folder)?)
 }
 
 // The exit status where the words can't be handed on: nothing is printed.
@@ -67,7 +84,20 @@ fn main(rt: HostRuntime) -> ExitCode {
         Ok(started) => started,
         Err(fault) => return ExitCode::from(fault_code(fault)),
     };
+    let folders = started.caches.as_slice();
     let mut shelves: Vec<Box<dyn Shelf>> = Vec::new(rt.alloc());
+    for folder in folders {
+        let cache = match cache_at(&rt, folder) {
+            Ok(cache) => cache,
+            Err(fault) => return ExitCode::from(fault_code(fault)),
+        };
+        let Ok(shelf) = Box::new(rt.alloc(), cache) else {
+            return ExitCode::from(fault_code(StartFault::Memory));
+        };
+        if shelves.push(shelf).is_err() {
+            return ExitCode::from(fault_code(StartFault::Memory));
+        }
+    }
     let status = lifecycle(
         &rt,
         rt.alloc(),
