@@ -1,0 +1,203 @@
+// Calls of detect_core.
+ghost use Rattle.std.specs.Prelude.{◌<◌, IfOk, IsOk, IsTrue, length};
+ghost use Rattle.order_expand.specs.Check.{checked};
+ghost use Rattle.detect_core.specs.Search.{is_short};
+
+use crate::buildpacks::{catalog, order, push_key};
+use crate::fault::Fault;
+use crate::given::{Given, path};
+use crate::plans::push_plan;
+use bp_docs::{Order, PlanOption};
+use cnb_toml::Key;
+use cnb_world::{Bytes, Env, List, MemSpawner, Probed, Reply, Text};
+use detect_core::{Chosen, DetectEnd, DetectFrame, Verdict, answer, detect};
+use order_expand::{Catalog, check};
+use std::alloc::Global;
+use std::thread::Threads;
+
+// The exit code that a word says, `none` where a child has none.
+fn exit_code(alloc: Global, word: &str) -> Result<Option<i32>, Fault> {
+    match word.parse::<i32>() {
+        Ok(code) => Ok(Some(code)),
+        Err(_) if word == "none" => Ok(None),
+        Err(_) => Err(Fault::wrong(alloc, "no exit code:", word)),
+    }
+}
+
+fn probed(alloc: Global, code: &str, plan: &str) -> Result<Probed, Fault> {
+    Ok(Probed {
+        code: exit_code(alloc, code)?,
+        plan: Bytes::of(alloc, plan.as_bytes())?,
+    })
+}
+
+/// What a child's end says.
+pub fn judge(given: &Given) -> Result<String, Fault> {
+    let plan = given.expanded(given.text_or_empty("plan"))?;
+    let probed = probed(given.alloc, given.text("code")?, plan.as_str())?;
+    match answer(given.alloc, &probed)? {
+        Verdict::Pass(options) => told_options(given.alloc, options.as_slice()),
+        Verdict::Fail => Ok(String::from_str(given.alloc, "fails")?),
+        Verdict::Error => Ok(String::from_str(given.alloc, "errs")?),
+    }
+}
+
+fn told_options(alloc: Global, options: &[PlanOption]) -> Result<String, Fault> {
+    let mut told = String::from_str(alloc, "passes\n")?;
+    for option in options {
+        told.push_str("provides")?;
+        for name in option.provides.as_slice() {
+            write!(told, " {}", name.as_str())?;
+        }
+        told.push_str(", requires")?;
+        for need in option.needs.as_slice() {
+            write!(told, " {}", need.name.as_str())?;
+        }
+        told.push_str("\n")?;
+    }
+    Ok(told)
+}
+
+// What children say: parts that begin with `> ID VERSION CODE`, each with a Build Plan behind that line.
+fn replies(given: &Given) -> Result<List<Reply>, Fault> {
+    let mut replies = List::new(given.alloc);
+    for part in given.text("replies")?.split("> ").skip(1) {
+        replies.push(reply(given.alloc, part)?)?;
+    }
+    Ok(replies)
+}
+
+fn reply(alloc: Global, part: &str) -> Result<Reply, Fault> {
+    let (head, plan) = part.split_once('\n').unwrap_or((part, ""));
+    let Some((id, end)) = head.trim().split_once(' ') else {
+        return Err(Fault::wrong(alloc, "no version:", head));
+    };
+    let Some((version, code)) = end.split_once(' ') else {
+        return Err(Fault::wrong(alloc, "no exit code:", head));
+    };
+    Ok(Reply {
+        id: Text::of(alloc, id)?,
+        version: Text::of(alloc, version)?,
+        probed: probed(alloc, code, plan)?,
+    })
+}
+
+fn frame(alloc: Global) -> Result<DetectFrame, Fault>
+    ensures { IfOk result (λ frame. IsTrue (is_short frame)) }
+{
+    Ok(DetectFrame {
+        buildpacks: path(alloc, "/buildpacks")?,
+        app: path(alloc, "/app")?,
+        platform: path(alloc, "/platform")?,
+        work: path(alloc, "/work")?,
+        env: Env::new(alloc),
+        files: List::new(alloc),
+    })
+}
+
+// As many spawners as the row says, or one.
+fn spawners(given: &Given) -> Result<Vec<MemSpawner>, Fault> {
+    let mut spawners = Vec::new(given.alloc);
+    let count = if given.text_or_empty("spawners").is_empty() {
+        1
+    } else {
+        given.count("spawners")?
+    };
+    for _ in 0..count {
+        let failing = given.numbers("failing")?;
+        spawners.push(MemSpawner::new(given.alloc, replies(given)?, failing)?)?;
+    }
+    Ok(spawners)
+}
+
+/// What a detection chooses, or why nothing, and which children ran.
+pub fn choose<R: Threads + Sync>(rt: &R, given: &Given) -> Result<String, Fault> {
+    let (catalog, order) = (catalog(given)?, order(given)?);
+    match check(given.alloc, &order, &catalog) {
+        Ok(_) => choose_by(rt, given, &order, &catalog),
+        Err(fault) => Ok(format!(in given.alloc; "{fault}")?),
+    }
+}
+
+fn choose_by<R: Threads + Sync>(
+    rt: &R,
+    given: &Given,
+    order: &Order,
+    catalog: &Catalog,
+) -> Result<String, Fault>
+    requires { IsOk (checked catalog.now order.now) }
+{
+    let frame = frame(given.alloc)?;
+    let mut spawners = spawners(given)?;
+    let workers = spawners.len();
+    if workers == 0 {
+        return Err(Fault::wrong(given.alloc, "none of", "spawners"));
+    }
+    let end = detect(
+        rt,
+        given.alloc,
+        order,
+        catalog,
+        &mut spawners,
+        workers,
+        &frame,
+    );
+    let mut told = match &end {
+        Ok(chosen) => told_choice(given.alloc, chosen)?,
+        Err(end) => String::from_str(given.alloc, told_end(end))?,
+    };
+    push_runs(given, &mut told, spawners.as_slice())?;
+    Ok(told)
+}
+
+fn told_end(end: &DetectEnd) -> &'static str {
+    match end {
+        DetectEnd::NoGroup { erred: false } => "no group passes",
+        DetectEnd::NoGroup { erred: true } => "no group passes, a child erred",
+        DetectEnd::ManyTrials => "too many trials",
+        DetectEnd::Child => "a child gave no answer",
+        DetectEnd::Memory => "out of memory",
+    }
+}
+
+fn told_choice(alloc: Global, chosen: &Chosen) -> Result<String, Fault> {
+    let (place, trial, trials) = (chosen.place, chosen.trial, chosen.trials);
+    let mut told = format!(in alloc; "group {place}, trial {trial} of {trials}")?;
+    for row in chosen.group.as_slice() {
+        told.push_str("\n")?;
+        push_key(&mut told, &row.key)?;
+        write!(told, " api {}", row.api.as_str())?;
+    }
+    told.push_str("\nplan")?;
+    push_plan(&mut told, chosen.plan.as_slice())?;
+    told.push_str("\nasked")?;
+    push_keys(&mut told, chosen.asked.as_slice())?;
+    Ok(told)
+}
+
+fn push_keys(told: &mut String, keys: &[Key]) -> Result<(), Fault> {
+    for key in keys {
+        told.push_str(" ")?;
+        push_key(told, key)?;
+    }
+    Ok(())
+}
+
+// The children that ran: in order where there is one spawner, and else ascending by id and version.
+fn push_runs(given: &Given, told: &mut String, spawners: &[MemSpawner]) -> Result<(), Fault> {
+    let mut names = Vec::new(given.alloc);
+    for spawner in spawners {
+        for run in spawner.runs() {
+            let (id, version) = (run.job.id.as_str(), run.job.version.as_str());
+            names.push(format!(in given.alloc; "{id}@{version}")?)?;
+        }
+    }
+    if spawners.len() > 1 {
+        names.sort()?;
+    }
+    told.push_str("\nran")?;
+    for name in &names {
+        write!(told, " {name}")?;
+    }
+    Ok(())
+}
