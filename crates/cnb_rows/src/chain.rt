@@ -1,17 +1,20 @@
 // What a row is given, with all that it stands on.
 use crate::fault::Fault;
-use crate::items::{play, push_files, push_text};
-use crate::scenario::{Failing, Scenario};
+use crate::items::{play, push_files, push_stored, push_text, push_trees};
+use crate::scenario::{Failing, Scenario, ShelfRow};
 use crate::short::{
     composite_text, descriptor_path, descriptor_text, order_text, reply, reply_with,
 };
+use crate::trees::Trees;
 use cnb_world::{Env, List, Placed, Play, Reply, Text};
 use std::alloc::Global;
 
-/// A row, its base, the base of that, and so on. What stands nearer to the row replaces or comes before what is farther.
+/// A row, its base, the base of that, and so on. What stands nearer to the row replaces or comes before what is
+/// farther.
 #[derive(Drop)]
 pub struct Chain<'a> {
     pub alloc: Global,
+    pub trees: &'a Trees,
     pub scenarios: Vec<&'a Scenario>,
 }
 
@@ -44,6 +47,16 @@ impl Chain<'_> {
         None
     }
 
+    /// The caches of the nearest that has some.
+    pub fn shelves(&self) -> &[ShelfRow] {
+        for scenario in &self.scenarios {
+            if let Some(shelves) = &scenario.shelves {
+                return shelves;
+            }
+        }
+        &[]
+    }
+
     /// The number of spawners of the nearest that has one, else 1.
     pub fn spawner_count(&self) -> u8 {
         for scenario in &self.scenarios {
@@ -70,6 +83,8 @@ impl Chain<'_> {
         let mut items = List::new(self.alloc);
         for scenario in self.scenarios.iter().rev() {
             push_documents(self.alloc, &mut items, scenario)?;
+            push_stored(self.alloc, &mut items, self.trees, &scenario.stored)?;
+            push_trees(self.alloc, &mut items, self.trees, &scenario.lays)?;
             push_files(self.alloc, &mut items, &scenario.files)?;
         }
         Ok(items)
@@ -80,7 +95,7 @@ impl Chain<'_> {
         let mut plays = List::new(self.alloc);
         for scenario in &self.scenarios {
             for row in &scenario.plays {
-                plays.push(play(self.alloc, row)?)?;
+                plays.push(play(self.alloc, self.trees, row)?)?;
             }
         }
         Ok(plays)

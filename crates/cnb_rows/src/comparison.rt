@@ -1,12 +1,13 @@
-// What came of runs beside what is wanted.
+// What came of a run beside what is wanted.
 use crate::chain::Chain;
-use crate::fault::{Fault, path_of};
+use crate::fault::Fault;
 use crate::run::Came;
-use crate::scenario::Want;
 use crate::short::id_and_version;
-use crate::standing::{changed, kind_word, reads_as, text_at};
-use cnb_world::{Env, MemWorld, World};
+use crate::standing::Standing;
+use crate::want::Want;
+use cnb_world::{Env, List};
 use std::alloc::{AllocError, Global};
+use std::collections::BTreeMap;
 
 /// What differs from what a row wants, in one line; the text is empty where nothing does.
 #[derive(Drop)]
@@ -14,47 +15,45 @@ pub struct Comparison<'a> {
     pub alloc: Global,
     pub chain: &'a Chain<'a>,
     pub want: &'a Want,
+    pub before: Standing,
     pub text: String,
 }
 
 impl<'a> Comparison<'a> {
-    pub fn new(chain: &'a Chain<'a>, want: &'a Want) -> Comparison<'a> {
-        Comparison {
-            alloc: chain.alloc,
+    pub fn new(chain: &'a Chain<'a>, want: &'a Want) -> Result<Comparison<'a>, Fault> {
+        let alloc = chain.alloc;
+        let before = Standing::of(alloc, &mut chain.world(List::new(alloc))?)?;
+        Ok(Comparison {
+            alloc,
             chain,
             want,
-            text: String::new(chain.alloc),
-        }
+            before,
+            text: String::new(alloc),
+        })
     }
 
-    fn tell(&mut self, what: &str, wanted: &str, came: &str) -> Result<(), AllocError> {
+    /// Adds what differs.
+    pub fn tell(&mut self, what: &str, wanted: &str, came: &str) -> Result<(), AllocError> {
         write!(self.text, " {what}: wanted {wanted:?}, came {came:?};")
     }
 
-    fn compare(&mut self, what: &str, wanted: &str, came: &str) -> Result<(), AllocError> {
+    /// Adds what differs, where it does.
+    pub fn compare(&mut self, what: &str, wanted: &str, came: &str) -> Result<(), AllocError> {
         if wanted == came {
             return Ok(());
         }
         self.tell(what, wanted, came)
     }
 
-    /// Compares a run in which the calls failed that the row names.
-    pub fn judge(&mut self, came: &mut Came) -> Result<(), Fault> {
+    /// Compares a run in which the calls failed that the row names; gives what stands after it.
+    pub fn judge(&mut self, came: &mut Came) -> Result<Standing, Fault> {
         self.compare_end(came)?;
-        let wanted = self.wanted_asked()?;
-        let asked = self.asked_text(&came.asked(self.alloc)?)?;
-        self.compare("asked", &wanted, &asked)?;
+        self.compare_children(came)?;
         self.compare_environments(came)?;
-        self.compare_documents(&mut came.world)?;
-        self.compare_files(&mut came.world)?;
-        self.compare_kinds(&mut came.world)?;
-        let mut before = self.chain.world(&[])?;
-        for path in changed(self.alloc, &mut before, &mut came.world)? {
-            if !self.is_named(path.as_str()) {
-                self.tell(path.as_str(), "as before", "another")?;
-            }
-        }
-        Ok(())
+        self.compare_caches(came)?;
+        let after = Standing::of(self.alloc, &mut came.world)?;
+        self.compare_standing(&after)?;
+        Ok(after)
     }
 
     // The status and the text.
@@ -62,15 +61,32 @@ impl<'a> Comparison<'a> {
         let wanted = format!(in self.alloc; "{}", self.want.status)?;
         let status = format!(in self.alloc; "{}", came.status)?;
         self.compare("status", &wanted, &status)?;
+        let wanted = self.wanted_text()?;
+        self.compare("prints", &wanted, &came.printed(self.alloc)?)?;
+        Ok(())
+    }
+
+    /// The text that is wanted.
+    pub fn wanted_text(&self) -> Result<String, Fault> {
         let mut text = String::new(self.alloc);
         for line in &self.want.prints {
             writeln!(text, "{line}")?;
         }
-        self.compare("prints", &text, &came.printed)?;
+        Ok(text)
+    }
+
+    fn compare_children(&mut self, came: &Came) -> Result<(), Fault> {
+        let wanted = self.wanted_asked()?;
+        let asked = self.asked_text(&came.asked(self.alloc)?)?;
+        self.compare("asked", &wanted, &asked)?;
+        let wanted = lines_text(self.alloc, &self.want.ran)?;
+        let ran = lines_text(self.alloc, &came.ran(self.alloc)?)?;
+        self.compare("ran", &wanted, &ran)?;
         Ok(())
     }
 
-    fn wanted_asked(&self) -> Result<String, Fault> {
+    /// The buildpacks that are to be asked.
+    pub fn wanted_asked(&self) -> Result<String, Fault> {
         let mut names = Vec::new(self.alloc);
         for name in self.want.asked.split_whitespace() {
             let (id, version) = id_and_version(name);
@@ -79,8 +95,8 @@ impl<'a> Comparison<'a> {
         self.asked_text(&names)
     }
 
-    // Names with a space before each; ascending where several spawners may be asked in any order.
-    fn asked_text(&self, names: &[String]) -> Result<String, Fault> {
+    /// Names with a space before each; ascending where several spawners may be asked in any order.
+    pub fn asked_text(&self, names: &[String]) -> Result<String, Fault> {
         let mut sorted = Vec::new(self.alloc);
         for name in names {
             sorted.push(name.as_str())?;
@@ -96,103 +112,60 @@ impl<'a> Comparison<'a> {
     }
 
     fn compare_environments(&mut self, came: &Came) -> Result<(), Fault> {
-        for (name, variables) in &self.want.environments {
-            let mut wanted = String::new(self.alloc);
-            for (name, value) in variables {
-                write!(wanted, " {name}={value}")?;
-            }
+        let want = self.want;
+        for (name, variables) in &want.environments {
+            let wanted = variables_text(self.alloc, variables)?;
             let environment = environment_text(self.alloc, came.environment_of(name))?;
             self.compare(name, &wanted, &environment)?;
         }
-        Ok(())
-    }
-
-    fn compare_documents(&mut self, world: &mut MemWorld) -> Result<(), Fault> {
-        for (path, table) in &self.want.documents {
-            let text = text_or_none(self.alloc, world, path)?;
-            if !reads_as(self.alloc, &text, table) {
-                self.tell(path, "another document", &text)?;
-            }
+        for (program, variables) in &want.run_environments {
+            let wanted = variables_text(self.alloc, variables)?;
+            let environment = run_environment_text(self.alloc, came, program)?;
+            self.compare(program, &wanted, &environment)?;
         }
         Ok(())
-    }
-
-    fn compare_files(&mut self, world: &mut MemWorld) -> Result<(), Fault> {
-        for (path, wanted) in &self.want.files {
-            let text = text_or_none(self.alloc, world, path)?;
-            self.compare(path, wanted, &text)?;
-        }
-        Ok(())
-    }
-
-    fn compare_kinds(&mut self, world: &mut MemWorld) -> Result<(), Fault> {
-        for (path, wanted) in &self.want.kinds {
-            let kind = world.kind(&path_of(self.alloc, path)?)?;
-            self.compare(path, wanted, kind_word(kind))?;
-        }
-        Ok(())
-    }
-
-    // Whether the row says what stands at a path.
-    fn is_named(&self, path: &str) -> bool {
-        self.want.documents.contains_key(path)
-            || self.want.files.contains_key(path)
-            || self.want.kinds.contains_key(path)
-    }
-
-    /// Compares a run in which one more call failed: it ends with one of these statuses, and what it did is a beginning of
-    /// what the row wants.
-    pub fn judge_failed(&mut self, came: &mut Came, codes: &[u8]) -> Result<(), Fault> {
-        if !codes.contains(&came.status) || !is_told_in_a_line(self.alloc, came)? {
-            self.tell("with a failed call", "its line", &came.printed)?;
-        }
-        let wanted = self.wanted_asked()?;
-        let asked = self.asked_text(&came.asked(self.alloc)?)?;
-        if !wanted.starts_with(asked.as_str()) {
-            self.tell("asked with a failed call", &wanted, &asked)?;
-        }
-        let mut before = self.chain.world(&[])?;
-        for path in changed(self.alloc, &mut before, &mut came.world)? {
-            if !self.is_whole_or_unfinished(&mut came.world, path.as_str())? {
-                self.tell(path.as_str(), "as before or whole", "another")?;
-            }
-        }
-        Ok(())
-    }
-
-    // Whether a whole document that the row wants stands at a path, or the unfinished copy of one.
-    fn is_whole_or_unfinished(&self, world: &mut MemWorld, path: &str) -> Result<bool, Fault> {
-        if let Some(document) = path.strip_suffix(".new") {
-            return Ok(self.want.documents.contains_key(document));
-        }
-        let text = text_or_none(self.alloc, world, path)?;
-        match self.want.documents.get(path) {
-            Some(table) => Ok(reads_as(self.alloc, &text, table)),
-            None => Ok(false),
-        }
     }
 }
 
-fn environment_text(alloc: Global, env: Option<&Env>) -> Result<String, Fault> {
+/// Lines with a bar behind each.
+pub fn lines_text(alloc: Global, lines: &[String]) -> Result<String, AllocError> {
     let mut text = String::new(alloc);
-    if let Some(env) = env {
-        for place in 0..env.len() {
-            let name = env.name(place).as_str();
-            let value = env.value(place).as_str();
-            write!(text, " {name}={value}")?;
-        }
+    for line in lines {
+        write!(text, "{line}|")?;
     }
     Ok(text)
 }
 
-fn text_or_none(alloc: Global, world: &mut MemWorld, path: &str) -> Result<String, Fault> {
-    match text_at(alloc, world, &path_of(alloc, path)?)? {
-        Some(text) => Ok(text),
-        None => Ok(String::from_str(alloc, "no file")?),
+fn variables_text(
+    alloc: Global,
+    variables: &BTreeMap<String, String>,
+) -> Result<String, AllocError> {
+    let mut text = String::new(alloc);
+    for (name, value) in variables {
+        write!(text, " {name}={value}")?;
     }
+    Ok(text)
 }
 
-fn is_told_in_a_line(alloc: Global, came: &Came) -> Result<bool, Fault> {
-    let start = format!(in alloc; "error {} ", came.status)?;
-    Ok(came.printed.starts_with(start.as_str()) && came.printed.lines().count() == 1)
+fn environment_text(alloc: Global, env: Option<&Env>) -> Result<String, AllocError> {
+    let Some(env) = env else {
+        return String::from_str(alloc, "not run");
+    };
+    let mut text = String::new(alloc);
+    for place in 0..env.len() {
+        let name = env.name(place).as_str();
+        let value = env.value(place).as_str();
+        write!(text, " {name}={value}")?;
+    }
+    Ok(text)
+}
+
+// The environment of the first child of a program that ran over the files.
+fn run_environment_text(alloc: Global, came: &Came, program: &str) -> Result<String, Fault> {
+    for run in came.world.runs()? {
+        if run.job.program.as_str() == program {
+            return Ok(environment_text(alloc, Some(&run.job.env))?);
+        }
+    }
+    Ok(environment_text(alloc, None)?)
 }

@@ -1,16 +1,21 @@
 // The rows of a folder.
 use crate::chain::Chain;
 use crate::fault::{Fault, path_of};
-use crate::scenario::{Scenario, ScenarioFile};
+use crate::scenario::{Scenario, ScenarioFile, TreeFile};
+use crate::trees::Trees;
 use cnb_world::{List, Path, Text, Whole, World, read_whole};
 use std::alloc::Global;
 
 /// The most bytes of a file of rows.
 const MAX_FILE: u64 = 1_048_576;
 
-/// The scenarios of a folder.
+/// The file of trees.
+const TREES: &str = "trees.toml";
+
+/// The scenarios of a folder, and the trees that they name.
 #[derive(Drop)]
 pub struct Scenarios {
+    pub trees: Trees,
     pub rows: Vec<Scenario>,
     pub bases: Vec<Scenario>,
 }
@@ -19,13 +24,16 @@ impl Scenarios {
     /// Reads the files of a folder whose names end in `.toml`, ascending.
     pub fn read<W: World>(alloc: Global, world: &mut W, folder: &Path) -> Result<Scenarios, Fault> {
         let mut scenarios = Scenarios {
+            trees: read_trees(alloc, world, folder)?,
             rows: Vec::new(alloc),
             bases: Vec::new(alloc),
         };
         let names: List<Text> = world.list(folder)?;
         for name in names.as_slice() {
-            if name.as_str().ends_with(".toml") {
-                scenarios.add(read_file(alloc, world, folder, name.as_str())?)?;
+            if name.as_str().ends_with(".toml") && name.as_str() != TREES {
+                let text = read_text(alloc, world, folder, name.as_str())?;
+                let text = scenarios.trees.filled(alloc, &text)?;
+                scenarios.add(parse(alloc, name.as_str(), &text)?)?;
             }
         }
         Ok(scenarios)
@@ -47,7 +55,12 @@ impl Scenarios {
         let mut next = Some(row);
         for _ in 0..=self.rows.len().saturating_add(self.bases.len()) {
             let Some(scenario) = next else {
-                return Ok(Chain { alloc, scenarios });
+                let trees = &self.trees;
+                return Ok(Chain {
+                    alloc,
+                    trees,
+                    scenarios,
+                });
             };
             scenarios.push(scenario)?;
             next = self.base_of(alloc, scenario)?;
@@ -68,25 +81,34 @@ impl Scenarios {
     }
 }
 
-fn read_file<W: World>(
+fn read_text<W: World>(
     alloc: Global,
     world: &mut W,
     folder: &Path,
     name: &str,
-) -> Result<ScenarioFile, Fault> {
+) -> Result<String, Fault> {
     let path = path_of(
         alloc,
         format!(in alloc; "{}/{name}", folder.as_str())?.as_str(),
     )?;
     match read_whole(world, &path, MAX_FILE)? {
-        Whole::Bytes(bytes) => parse(alloc, name, bytes.as_slice()),
+        Whole::Bytes(bytes) => Ok(String::from_utf8_lossy(alloc, bytes.as_slice())?),
         Whole::Absent | Whole::Large(_) => Err(Fault::wrong(alloc, "no file of rows:", name)),
     }
 }
 
-fn parse(alloc: Global, name: &str, bytes: &[u8]) -> Result<ScenarioFile, Fault> {
-    match toml::from_slice(alloc, bytes) {
+fn parse(alloc: Global, name: &str, text: &str) -> Result<ScenarioFile, Fault> {
+    match toml::from_str(alloc, text) {
         Ok(file) => Ok(file),
         Err(error) => Err(Fault::Wrong(format!(in alloc; "{name}: {error}")?)),
     }
+}
+
+fn read_trees<W: World>(alloc: Global, world: &mut W, folder: &Path) -> Result<Trees, Fault> {
+    let text = read_text(alloc, world, folder, TREES)?;
+    let file: TreeFile = match toml::from_str(alloc, &text) {
+        Ok(file) => file,
+        Err(error) => return Err(Fault::Wrong(format!(in alloc; "{TREES}: {error}")?)),
+    };
+    Trees::of(alloc, file.tree)
 }

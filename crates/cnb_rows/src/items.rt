@@ -1,8 +1,10 @@
 // What stands at paths, and what the children of programs do.
 use crate::fault::{Fault, path_of};
 use crate::scenario::{FileRow, PlayRow};
+use crate::trees::Trees;
 use cnb_world::{Bytes, End, Item, List, Path, Placed, Play, Text};
-use std::alloc::Global;
+use std::alloc::{AllocError, Global};
+use std::collections::BTreeMap;
 
 /// Adds a file with this text.
 pub fn push_text(
@@ -11,8 +13,17 @@ pub fn push_text(
     path: &str,
     text: String,
 ) -> Result<(), Fault> {
+    push_bytes(alloc, items, path, Bytes::from_vec(text.into_bytes()))
+}
+
+/// Adds a file with these bytes.
+pub fn push_bytes(
+    alloc: Global,
+    items: &mut List<Placed>,
+    path: &str,
+    bytes: Bytes,
+) -> Result<(), Fault> {
     let path = path_of(alloc, path)?;
-    let bytes = Bytes::from_vec(text.into_bytes());
     let item = Item::File { exec: false, bytes };
     Ok(items.push(Placed { path, item })?)
 }
@@ -21,13 +32,65 @@ pub fn push_text(
 pub fn push_files(alloc: Global, items: &mut List<Placed>, rows: &[FileRow]) -> Result<(), Fault> {
     for row in rows {
         let path = path_of(alloc, &row.path)?;
-        let item = item(alloc, row)?;
+        let item = item_of(alloc, row)?;
         items.push(Placed { path, item })?;
     }
     Ok(())
 }
 
-fn item(alloc: Global, row: &FileRow) -> Result<Item, Fault> {
+/// Adds a folder at a place, and in it what stands at each path from its root.
+pub fn push_below(
+    alloc: Global,
+    items: &mut List<Placed>,
+    place: &str,
+    rows: &[FileRow],
+) -> Result<(), Fault> {
+    let path = path_of(alloc, place)?;
+    let item = Item::Folder;
+    items.push(Placed { path, item })?;
+    for row in rows {
+        let path = path_of(alloc, below(alloc, place, &row.path)?.as_str())?;
+        let item = item_of(alloc, row)?;
+        items.push(Placed { path, item })?;
+    }
+    Ok(())
+}
+
+fn below(alloc: Global, place: &str, path: &str) -> Result<String, AllocError> {
+    let place = if place == "/" { "" } else { place };
+    format!(in alloc; "{place}{path}")
+}
+
+/// Adds the trees that are named, each at its path.
+pub fn push_trees(
+    alloc: Global,
+    items: &mut List<Placed>,
+    trees: &Trees,
+    lays: &BTreeMap<String, String>,
+) -> Result<(), Fault> {
+    for (place, name) in lays {
+        trees.named(alloc, name)?.push_at(alloc, items, place)?;
+    }
+    Ok(())
+}
+
+/// Adds the files of the trees that are named, in the store.
+pub fn push_stored(
+    alloc: Global,
+    items: &mut List<Placed>,
+    trees: &Trees,
+    names: &str,
+) -> Result<(), Fault> {
+    for name in names.split_whitespace() {
+        let tree = trees.named(alloc, name)?;
+        let path = tree.stored_path(alloc)?;
+        let bytes = Bytes::of(alloc, &tree.spelling)?;
+        push_bytes(alloc, items, &path, bytes)?;
+    }
+    Ok(())
+}
+
+fn item_of(alloc: Global, row: &FileRow) -> Result<Item, Fault> {
     if row.folder {
         return Ok(Item::Folder);
     }
@@ -55,8 +118,9 @@ fn contents(alloc: Global, row: &FileRow) -> Result<Bytes, Fault> {
 }
 
 /// What a child of a program does.
-pub fn play(alloc: Global, row: &PlayRow) -> Result<Play, Fault> {
+pub fn play(alloc: Global, trees: &Trees, row: &PlayRow) -> Result<Play, Fault> {
     let mut leaves = List::new(alloc);
+    push_trees(alloc, &mut leaves, trees, &row.lays)?;
     push_files(alloc, &mut leaves, &row.leaves)?;
     Ok(Play {
         program: Text::of(alloc, &row.program)?,

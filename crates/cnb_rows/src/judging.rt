@@ -2,52 +2,108 @@
 use crate::chain::Chain;
 use crate::comparison::Comparison;
 use crate::fault::{Fault, path_of};
-use crate::run::Came;
-use crate::scenario::{Failing, Want};
-use cnb_world::{MemWorld, World};
+use crate::run::{Came, Outage};
+use crate::standing::Standing;
+use crate::want::Want;
+use cnb_world::{Sink, World};
 use std::alloc::Global;
 use std::thread::Threads;
 
-/// What differs in the run of a row from what it wants.
-pub fn judge<R: Threads + Sync>(rt: &R, chain: &Chain, want: &Want) -> Result<String, Fault> {
-    let mut comparison = Comparison::new(chain, want);
-    let mut came = run_as_given(rt, chain)?;
-    comparison.judge(&mut came)?;
-    Ok(comparison.text)
-}
-
-fn run_as_given<R: Threads + Sync>(rt: &R, chain: &Chain) -> Result<Came, Fault> {
-    match chain.failing() {
-        Some(failing) => chain.run(rt, failing),
-        None => chain.run(rt, &Failing::none(chain.alloc)),
-    }
-}
-
-/// What differs in the runs in which each call on the files, and then each child that was asked, fails in turn.
-pub fn judge_every_call<R: Threads + Sync>(
+/// What differs in the run of a row from what it wants and, where every call is to fail in turn, in those runs.
+pub fn judge<R: Threads + Sync>(
     rt: &R,
     chain: &Chain,
     want: &Want,
+    every_call: bool,
 ) -> Result<String, Fault> {
-    let mut comparison = Comparison::new(chain, want);
-    for number in 0..u64::MAX {
-        let mut failing = Failing::none(chain.alloc);
-        failing.world.push(number)?;
-        let mut came = chain.run(rt, &failing)?;
-        if !has_failed(chain.alloc, &mut came.world)? {
-            break;
-        }
-        comparison.judge_failed(&mut came, &[2, 5])?;
-    }
-    for number in 0..run_as_given(rt, chain)?.asked(chain.alloc)?.len() {
-        let mut failing = Failing::none(chain.alloc);
-        failing.spawner.push(number as u64)?;
-        comparison.judge_failed(&mut chain.run(rt, &failing)?, &[5])?;
+    let mut comparison = Comparison::new(chain, want)?;
+    let mut came = chain.run(rt, Outage::Nothing)?;
+    let whole = comparison.judge(&mut came)?;
+    if every_call && comparison.text.is_empty() {
+        fail_world(rt, &mut comparison, &whole)?;
+        fail_spawners(rt, &mut comparison, &whole, &came)?;
+        fail_sink(rt, &mut comparison, &whole)?;
+        fail_shelves(rt, &mut comparison, &whole)?;
     }
     Ok(comparison.text)
 }
 
+// Each call on the files, and each child that runs over them.
+fn fail_world<R: Threads + Sync>(
+    rt: &R,
+    comparison: &mut Comparison,
+    whole: &Standing,
+) -> Result<(), Fault> {
+    for number in 0..u64::MAX {
+        let mut came = comparison.chain.run(rt, Outage::World(number))?;
+        if !has_failed(comparison.alloc, &mut came)? {
+            break;
+        }
+        comparison.judge_refused(&mut came, whole, &["error 2 ", "error 5 "])?;
+    }
+    Ok(())
+}
+
 // Whether the call that was to fail came in the run: where it did not, the next call is that one.
-fn has_failed(alloc: Global, world: &mut MemWorld) -> Result<bool, Fault> {
-    Ok(world.kind(&path_of(alloc, "/")?).is_ok())
+fn has_failed(alloc: Global, came: &mut Came) -> Result<bool, Fault> {
+    Ok(came.world.kind(&path_of(alloc, "/")?).is_ok())
+}
+
+// Each child that is asked.
+fn fail_spawners<R: Threads + Sync>(
+    rt: &R,
+    comparison: &mut Comparison,
+    whole: &Standing,
+    came: &Came,
+) -> Result<(), Fault> {
+    if comparison.chain.spawner_count() > 1 {
+        return Ok(());
+    }
+    for number in 0..came.asked(comparison.alloc)?.len() {
+        let mut came = comparison.chain.run(rt, Outage::Spawner(number as u64))?;
+        comparison.judge_refused(&mut came, whole, &["error 5 "])?;
+    }
+    Ok(())
+}
+
+// Each write of the text.
+fn fail_sink<R: Threads + Sync>(
+    rt: &R,
+    comparison: &mut Comparison,
+    whole: &Standing,
+) -> Result<(), Fault> {
+    for number in 0..u64::MAX {
+        let mut came = comparison.chain.run(rt, Outage::Sink(number))?;
+        if came.out.write(b"").is_err() {
+            break;
+        }
+        comparison.judge_cut(&mut came, whole)?;
+    }
+    Ok(())
+}
+
+// Each call of each cache.
+fn fail_shelves<R: Threads + Sync>(
+    rt: &R,
+    comparison: &mut Comparison,
+    whole: &Standing,
+) -> Result<(), Fault> {
+    for place in 0..comparison.chain.shelves().len() {
+        for number in 0..u64::MAX {
+            let mut came = comparison.chain.run(rt, Outage::Shelf(place, number))?;
+            if is_unknown(&came, place) {
+                break;
+            }
+            comparison.judge_dropped(&mut came, whole)?;
+        }
+    }
+    Ok(())
+}
+
+// Whether the call that was to fail is one of those by which a cache was looked at after the run.
+fn is_unknown(came: &Came, place: usize) -> bool {
+    match came.caches.get(place) {
+        Some(holding) => holding.is_none(),
+        None => false,
+    }
 }

@@ -1,25 +1,33 @@
 //! Goes through the rows of a folder: what the top call is given in memory, and what is wanted of it.
 //!
-//! Prints `ok NAME` for each row, or `differs NAME:` and what differs. The folder is the one that a word names, or else the
-//! one that the program runs in; data/README.md says how a row is written.
+//! Prints `ok NAME` for each row, or `differs NAME:` and what differs. The folder is the one that a word names, or else
+//! the one that the program runs in; data/README.md says how a row is written.
 #![tactic(auto)]
 
 mod chain;
+mod compared_caches;
+mod compared_files;
 mod comparison;
+mod failed;
 mod fault;
 mod folder;
 mod items;
 mod judging;
 mod run;
 mod scenario;
+mod shelves;
 mod short;
+mod sink;
+mod spelling;
 mod standing;
+mod trees;
+mod want;
 
 use cnb_host::{HostWorld, words};
 use cnb_world::Path;
 use fault::{Fault, path_of};
 use folder::Scenarios;
-use judging::{judge, judge_every_call};
+use judging::judge;
 use scenario::Scenario;
 use std::alloc::Global;
 use std::env;
@@ -48,11 +56,7 @@ fn differences<R: Threads + Sync>(
     let Some(want) = &row.want else {
         return Err(Fault::wrong(alloc, "nothing is wanted of", &row.name));
     };
-    let found = judge(rt, &chain, want)?;
-    if row.every_call && found.is_empty() {
-        return judge_every_call(rt, &chain, want);
-    }
-    Ok(found)
+    judge(rt, &chain, want, row.every_call)
 }
 
 // Prints the line of a row, and tells whether the row is as wanted.

@@ -1,7 +1,7 @@
-// What a file of rows holds.
+// What a file of rows holds: what runs are given.
+use crate::want::Want;
 use serde::Deserialize;
 use std::collections::BTreeMap;
-use toml::Table;
 
 /// A file of rows. Those of `base` are only stood on; those of `row` are run.
 #[derive(Drop, Deserialize)]
@@ -11,6 +11,22 @@ pub struct ScenarioFile {
     pub base: Vec<Scenario>,
     #[serde(default)]
     pub row: Vec<Scenario>,
+}
+
+/// The file of trees.
+#[derive(Drop, Deserialize)]
+#[serde(deny_unknown_fields)]
+pub struct TreeFile {
+    pub tree: Vec<TreeRow>,
+}
+
+/// What stands in a tree, at paths from its root.
+#[derive(Drop, Deserialize)]
+#[serde(deny_unknown_fields)]
+pub struct TreeRow {
+    pub name: String,
+    #[serde(default)]
+    pub files: Vec<FileRow>,
 }
 
 /// What one run is given, and what is wanted of it.
@@ -28,6 +44,10 @@ pub struct Scenario {
     #[serde(default)]
     pub composites: BTreeMap<String, String>,
     #[serde(default)]
+    pub stored: String,
+    #[serde(default)]
+    pub lays: BTreeMap<String, String>,
+    #[serde(default)]
     pub files: Vec<FileRow>,
     #[serde(default)]
     pub replies: BTreeMap<String, String>,
@@ -35,6 +55,7 @@ pub struct Scenario {
     pub plans: BTreeMap<String, String>,
     #[serde(default)]
     pub plays: Vec<PlayRow>,
+    pub shelves: Option<Vec<ShelfRow>>,
     pub spawners: Option<u8>,
     pub failing: Option<Failing>,
     #[serde(default)]
@@ -42,7 +63,8 @@ pub struct Scenario {
     pub want: Option<Want>,
 }
 
-/// What stands at a path before the run: a file with `text`, `times` over, or with `bytes`, unless another kind is named.
+/// What stands at a path before the run: a file with `text`, `times` over, or with `bytes`, unless another kind is
+/// named.
 #[derive(Drop, Deserialize)]
 #[serde(deny_unknown_fields)]
 pub struct FileRow {
@@ -60,7 +82,7 @@ pub struct FileRow {
     pub odd: bool,
 }
 
-/// How a child of a program ends, what it writes on descriptor 3, and what it removes and leaves.
+/// How a child of a program ends, what it writes on descriptor 3, and what it removes, leaves and lays.
 #[derive(Drop, Deserialize)]
 #[serde(deny_unknown_fields)]
 pub struct PlayRow {
@@ -72,6 +94,20 @@ pub struct PlayRow {
     pub removes: Vec<String>,
     #[serde(default)]
     pub leaves: Vec<FileRow>,
+    #[serde(default)]
+    pub lays: BTreeMap<String, String>,
+}
+
+/// A cache: the trees that it holds, its rows document, and the numbers, from 0, of its calls that fail.
+#[derive(Drop, Deserialize)]
+#[serde(deny_unknown_fields)]
+pub struct ShelfRow {
+    #[serde(default)]
+    pub holds: String,
+    #[serde(default)]
+    pub rows: String,
+    #[serde(default)]
+    pub failing: Vec<u64>,
 }
 
 /// The numbers, from 0, of the calls that fail.
@@ -84,23 +120,4 @@ pub struct Failing {
     pub spawner: Vec<u64>,
     #[serde(default)]
     pub sink: Vec<u64>,
-}
-
-/// What a run comes to.
-#[derive(Drop, Deserialize)]
-#[serde(deny_unknown_fields)]
-pub struct Want {
-    pub status: u8,
-    #[serde(default)]
-    pub prints: Vec<String>,
-    #[serde(default)]
-    pub asked: String,
-    #[serde(default)]
-    pub environments: BTreeMap<String, BTreeMap<String, String>>,
-    #[serde(default)]
-    pub documents: BTreeMap<String, Table>,
-    #[serde(default)]
-    pub files: BTreeMap<String, String>,
-    #[serde(default)]
-    pub kinds: BTreeMap<String, String>,
 }

@@ -1,11 +1,128 @@
 // What stands in a world.
 use crate::fault::{Fault, path_of};
 use cnb_world::{Kind, MemWorld, Path, World};
-use std::alloc::Global;
+use std::alloc::{AllocError, Global};
+use std::collections::BTreeMap;
 use toml::Table;
 
-/// The word for a kind.
-pub fn kind_word(kind: Kind) -> &'static str {
+/// What stands at a path: the word for its kind, and the bytes of a file or of a link's target.
+#[derive(Drop, PartialEq, Eq)]
+pub struct Found {
+    pub kind: &'static str,
+    pub bytes: Vec<u8>,
+}
+
+/// All that stands in a world but its root, by path.
+#[derive(Drop)]
+pub struct Standing {
+    pub found: BTreeMap<String, Found>,
+}
+
+impl Standing {
+    pub fn of(alloc: Global, world: &mut MemWorld) -> Result<Standing, Fault> {
+        let mut standing = Standing {
+            found: BTreeMap::new(alloc),
+        };
+        let mut folders = Vec::new(alloc);
+        folders.push(path_of(alloc, "/")?)?;
+        for _ in 0..u64::MAX {
+            let Some(folder) = folders.pop() else {
+                break;
+            };
+            standing.visit(alloc, world, &folder, &mut folders)?;
+        }
+        Ok(standing)
+    }
+
+    fn visit(
+        &mut self,
+        alloc: Global,
+        world: &mut MemWorld,
+        folder: &Path,
+        folders: &mut Vec<Path>,
+    ) -> Result<(), Fault> {
+        let names = world.list(folder)?;
+        for name in names.as_slice() {
+            let Ok(path) = folder.join(alloc, name.as_str()) else {
+                return Err(Fault::Files);
+            };
+            let found = found_at(alloc, world, &path)?;
+            let is_folder = found.kind == "folder";
+            let text = String::from_str(alloc, path.as_str())?;
+            self.found.insert(text, found)?;
+            if is_folder {
+                folders.push(path)?;
+            }
+        }
+        Ok(())
+    }
+
+    /// The word for the kind of what stands at a path.
+    pub fn kind(&self, path: &str) -> &'static str {
+        match self.found.get(path) {
+            Some(found) => found.kind,
+            None => "absent",
+        }
+    }
+
+    /// The bytes of the file at a path.
+    pub fn file(&self, path: &str) -> Option<&[u8]> {
+        match self.found.get(path) {
+            Some(found) if is_file(found.kind) => Some(found.bytes.as_slice()),
+            _ => None,
+        }
+    }
+
+    /// The text of the file at a path, with a mark in place of what is no UTF-8, or `no file`.
+    pub fn text(&self, alloc: Global, path: &str) -> Result<String, AllocError> {
+        match self.file(path) {
+            Some(bytes) => String::from_utf8_lossy(alloc, bytes),
+            None => String::from_str(alloc, "no file"),
+        }
+    }
+
+    /// Whether the same stands at a path in both. What is absent and a folder count as the same.
+    pub fn is_same_at(&self, other: &Standing, path: &str) -> bool {
+        if is_open(self.kind(path)) || is_open(other.kind(path)) {
+            return is_open(self.kind(path)) && is_open(other.kind(path));
+        }
+        self.found.get(path) == other.found.get(path)
+    }
+
+    /// The paths where something other than a folder stands in either, and not the same.
+    pub fn changed(&self, alloc: Global, after: &Standing) -> Result<Vec<String>, AllocError> {
+        let mut changed = Vec::new(alloc);
+        for (path, _) in &self.found {
+            if !self.is_same_at(after, path) {
+                changed.push(String::from_str(alloc, path)?)?;
+            }
+        }
+        for (path, _) in &after.found {
+            if !self.found.contains_key(path.as_str()) && !self.is_same_at(after, path) {
+                changed.push(String::from_str(alloc, path)?)?;
+            }
+        }
+        Ok(changed)
+    }
+}
+
+/// Whether a path is a folder's or lies below it.
+pub fn is_in(folder: &str, path: &str) -> bool {
+    match path.strip_prefix(folder) {
+        Some(rest) => rest.is_empty() || rest.starts_with('/') || folder == "/",
+        None => false,
+    }
+}
+
+fn is_open(kind: &str) -> bool {
+    kind == "absent" || kind == "folder"
+}
+
+fn is_file(kind: &str) -> bool {
+    kind == "file" || kind == "executable"
+}
+
+fn kind_word(kind: Kind) -> &'static str {
     match kind {
         Kind::Absent => "absent",
         Kind::File { exec: false, .. } => "file",
@@ -16,15 +133,27 @@ pub fn kind_word(kind: Kind) -> &'static str {
     }
 }
 
-/// The text of the file at a path, with a mark in place of what is no UTF-8.
-pub fn text_at(alloc: Global, world: &mut MemWorld, path: &Path) -> Result<Option<String>, Fault> {
-    match world.kind(path)? {
-        Kind::File { len, .. } => {
-            let bytes = world.read(path, 0, len)?;
-            Ok(Some(String::from_utf8_lossy(alloc, bytes.as_slice())?))
-        }
-        Kind::Absent | Kind::Folder | Kind::Link | Kind::Odd => Ok(None),
+fn found_at(alloc: Global, world: &mut MemWorld, path: &Path) -> Result<Found, Fault> {
+    let kind = world.kind(path)?;
+    Ok(Found {
+        kind: kind_word(kind),
+        bytes: bytes_at(alloc, world, path, kind)?,
+    })
+}
+
+fn bytes_at(
+    alloc: Global,
+    world: &mut MemWorld,
+    path: &Path,
+    kind: Kind,
+) -> Result<Vec<u8>, Fault> {
+    let mut bytes = Vec::new(alloc);
+    match kind {
+        Kind::File { len, .. } => bytes.extend_from_slice(world.read(path, 0, len)?.as_slice())?,
+        Kind::Link => bytes.extend_from_slice(world.read_link(path)?.as_str().as_bytes())?,
+        Kind::Absent | Kind::Folder | Kind::Odd => {}
     }
+    Ok(bytes)
 }
 
 /// Whether a document reads as a table.
@@ -33,77 +162,4 @@ pub fn reads_as(alloc: Global, text: &str, table: &Table) -> bool {
         Ok(found) => found == *table,
         Err(_) => false,
     }
-}
-
-// All that stands but folders.
-fn leaves(alloc: Global, world: &mut MemWorld) -> Result<Vec<Path>, Fault> {
-    let mut leaves = Vec::new(alloc);
-    let mut folders = Vec::new(alloc);
-    folders.push(path_of(alloc, "/")?)?;
-    for _ in 0..u64::MAX {
-        let Some(folder) = folders.pop() else {
-            break;
-        };
-        visit(alloc, world, &folder, &mut folders, &mut leaves)?;
-    }
-    Ok(leaves)
-}
-
-fn visit(
-    alloc: Global,
-    world: &mut MemWorld,
-    folder: &Path,
-    folders: &mut Vec<Path>,
-    leaves: &mut Vec<Path>,
-) -> Result<(), Fault> {
-    let names = world.list(folder)?;
-    for name in names.as_slice() {
-        let Ok(path) = folder.join(alloc, name.as_str()) else {
-            return Err(Fault::Files);
-        };
-        match world.kind(&path)? {
-            Kind::Folder => folders.push(path)?,
-            Kind::Absent | Kind::File { .. } | Kind::Link | Kind::Odd => leaves.push(path)?,
-        }
-    }
-    Ok(())
-}
-
-/// The paths where something other than a folder stands or stood, and not the same.
-pub fn changed(
-    alloc: Global,
-    before: &mut MemWorld,
-    after: &mut MemWorld,
-) -> Result<Vec<Path>, Fault> {
-    let mut changed = Vec::new(alloc);
-    for path in leaves(alloc, before)? {
-        if !is_same(alloc, before, after, &path)? {
-            changed.push(path)?;
-        }
-    }
-    for path in leaves(alloc, after)? {
-        if is_open(before.kind(&path)?) {
-            changed.push(path)?;
-        }
-    }
-    Ok(changed)
-}
-
-fn is_open(kind: Kind) -> bool {
-    match kind {
-        Kind::Absent | Kind::Folder => true,
-        Kind::File { .. } | Kind::Link | Kind::Odd => false,
-    }
-}
-
-fn is_same(
-    alloc: Global,
-    before: &mut MemWorld,
-    after: &mut MemWorld,
-    path: &Path,
-) -> Result<bool, Fault> {
-    Ok(
-        before.kind(path)? == after.kind(path)?
-            && text_at(alloc, before, path)? == text_at(alloc, after, path)?,
-    )
 }

@@ -1,0 +1,97 @@
+// The trees that rows name.
+use crate::fault::{Fault, path_of};
+use crate::items::push_below;
+use crate::scenario::{FileRow, TreeRow};
+use crate::spelling::spelling;
+use cnb_world::{List, MemWorld, Placed};
+use sha2::{Digest, Sha256};
+use std::alloc::{AllocError, Global};
+
+/// A tree with its spelling and its digest.
+#[derive(Drop)]
+pub struct Tree {
+    pub name: String,
+    pub files: Vec<FileRow>,
+    pub spelling: Vec<u8>,
+    pub digest: [u8; 32],
+    pub digits: String,
+}
+
+impl Tree {
+    fn of(alloc: Global, row: TreeRow) -> Result<Tree, Fault> {
+        let TreeRow { name, files } = row;
+        let mut items = List::new(alloc);
+        push_below(alloc, &mut items, "/t", &files)?;
+        let mut world = MemWorld::new(alloc, items, List::new(alloc), List::new(alloc))?;
+        let spelling = spelling(alloc, &mut world, &path_of(alloc, "/t")?)?;
+        let digest = Sha256::digest(&spelling);
+        let digits = hex::encode(alloc, &digest)?;
+        Ok(Tree {
+            name,
+            files,
+            spelling,
+            digest,
+            digits,
+        })
+    }
+
+    /// Adds what the tree has, below a path.
+    pub fn push_at(
+        &self,
+        alloc: Global,
+        items: &mut List<Placed>,
+        place: &str,
+    ) -> Result<(), Fault> {
+        push_below(alloc, items, place, &self.files)
+    }
+
+    // The word in place of which texts have the digits.
+    fn word(&self, alloc: Global) -> Result<String, AllocError> {
+        let mut word = String::from_str(alloc, "{")?;
+        word.push_str(&self.name)?;
+        word.push('}')?;
+        Ok(word)
+    }
+
+    /// The path of the tree in the store.
+    pub fn stored_path(&self, alloc: Global) -> Result<String, AllocError> {
+        let digits = &self.digits;
+        format!(in alloc; "/store/trees/{digits}")
+    }
+}
+
+/// The trees that rows name.
+#[derive(Drop)]
+pub struct Trees {
+    pub all: Vec<Tree>,
+}
+
+impl Trees {
+    pub fn of(alloc: Global, rows: Vec<TreeRow>) -> Result<Trees, Fault> {
+        let mut all = Vec::new(alloc);
+        for row in rows {
+            all.push(Tree::of(alloc, row)?)?;
+        }
+        Ok(Trees { all })
+    }
+
+    /// The tree of a name.
+    pub fn named(&self, alloc: Global, name: &str) -> Result<&Tree, Fault> {
+        for tree in &self.all {
+            if tree.name.as_str() == name {
+                return Ok(tree);
+            }
+        }
+        Err(Fault::wrong(alloc, "no such tree:", name))
+    }
+
+    /// A text with the digits of the tree's digest in place of each `{NAME}`.
+    pub fn filled(&self, alloc: Global, text: &str) -> Result<String, AllocError> {
+        let mut filled = String::from_str(alloc, text)?;
+        for tree in &self.all {
+            let word = tree.word(alloc)?;
+            filled = filled.replace(alloc, word.as_str(), tree.digits.as_str())?;
+        }
+        Ok(filled)
+    }
+}
