@@ -10,6 +10,13 @@ component() {
     chmod 755 "$folder/bin/detect"
 }
 
+# builder BUILDPACKS ID VERSION: the bin/build of a buildpack is the script on standard input.
+builder() {
+    local program=$1/${2//\//_}/$3/bin/build
+    { echo '#!/bin/sh'; cat; } > "$program"
+    chmod 755 "$program"
+}
+
 # composite BUILDPACKS ID GROUP..: a buildpack of version 1.0.0 that stands for each of its groups in turn.
 composite() {
     local folder=$1/${2//\//_}/1.0.0
