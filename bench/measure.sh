@@ -1,6 +1,7 @@
 # What the benches of commands share: the program, a place to work in, and how two things are measured beside each
-# other.
+# other. All of it is exported, so that `usage` can run a function in a shell of its own.
 
+set -a
 top=$(cd "$(dirname "${BASH_SOURCE[0]}")/.." && pwd)
 . "$top/samples/functions.sh"
 "$top/samples/build"
@@ -8,13 +9,10 @@ lifecycle=${LIFECYCLE:-$top/bin/lifecycle}
 work=$(mktemp -d)
 trap 'rm -rf "$work"' EXIT
 
-# took COMMAND..: the microseconds of one run of it. What it prints goes to `said`.
+# took FUNCTION: what one run of it took, as `usage` tells it. What it prints goes to `said`.
 took() {
-    local begin end
-    begin=$(date +%s%N)
-    "$@" > "$work/said" 2>&1 || { cat "$work/said" >&2; echo "$1 failed" >&2; exit 1; }
-    end=$(date +%s%N)
-    echo $(((end - begin) / 1000))
+    "$top/bench/usage" "$work/usage" bash -eu -c "$1" > "$work/said" 2>&1 || { cat "$work/said" >&2; echo "$1 failed" >&2; exit 1; }
+    cat "$work/usage"
 }
 
 best() { sort -n "$1" | head -n 1; }
@@ -23,7 +21,6 @@ best() { sort -n "$1" | head -n 1; }
 # something else, which OTHER names. They run in turn, so that what else the machine does falls on both; BEFORE each of
 # them runs unmeasured.
 beside() {
-    local ours theirs
     rm -f "$work/ours" "$work/theirs"
     for _ in $(seq "$2"); do
         ${6-:}
@@ -31,9 +28,11 @@ beside() {
         ${6-:}
         took "$5" >> "$work/theirs"
     done
-    ours=$(best "$work/ours")
-    theirs=$(best "$work/theirs")
-    echo "$1: lifecycle $((ours / 1000)) ms, $4 $((theirs / 1000)) ms, ratio $((ours * 100 / theirs))%"
+    echo "$(best "$work/ours") $(best "$work/theirs")" | awk -v what="$1" -v other="$4" '
+        function told(clock, processors, memory) {
+            return sprintf("%d ms, processors %d ms, %d MiB", clock / 1000, processors / 1000, memory / 1024)
+        }
+        { printf "%s: lifecycle %s; %s %s; ratio %d%%\n", what, told($1, $2, $3), other, told($4, $5, $6), $1 * 100 / $4 }'
 }
 
 # files FOLDER COUNT BYTES: so many files of other contents each, by the hundred in a folder.
