@@ -2,9 +2,9 @@
 use Rattle.std.specs.Prelude.{◌≡◌, refl, ℕ, List, [], ◌∷◌, codes, Ok, Err}
 use Rattle.cnb_words.specs.Words.{asked_by}
 use Rattle.cnb_words.specs.declared.detect.DetectWords.{DetectWords}
-use Rattle.cnb_words.specs.declared.fault.WordsFault.TheVariants.{NotBuilt, Usage}
+use Rattle.cnb_words.specs.declared.fault.WordsFault.TheVariants.{Usage}
 use Rattle.cnb_words.specs.declared.launch.Call.TheVariants.{Entry}
-use Rattle.cnb_words.specs.declared.words.Asked.TheVariants.{Detect, Launch}
+use Rattle.cnb_words.specs.declared.words.Asked.TheVariants.{Detect, Drill, Launch}
 
 abbrev detect_with : ℕ → DetectWords
 detect_with workers = record { order = codes "/o"; buildpacks = codes "/b"; app = codes "/a"; platform = codes "/p"; work = codes "/w"; workers = workers }
@@ -30,8 +30,14 @@ no_option_stands_twice = refl
 pub no_value_in_a_word_of_its_own_begins_with_a_dash : asked_by (detect_before (codes "--workers" ∷ codes "-8" ∷ [])) ≡ Err Usage
 no_value_in_a_word_of_its_own_begins_with_a_dash = refl
 
-pub the_words_behind_drill_are_not_judged : asked_by (codes "lifecycle" ∷ codes "drill" ∷ codes "--" ∷ []) ≡ Err (NotBuilt (codes "drill"))
-the_words_behind_drill_are_not_judged = refl
+pub a_drill_has_a_number : asked_by (codes "lifecycle" ∷ codes "drill" ∷ codes "4095" ∷ []) ≡ Ok (Drill (record { number = 4095 }))
+a_drill_has_a_number = refl
+
+pub no_drill_is_4096 : asked_by (codes "lifecycle" ∷ codes "drill" ∷ codes "4096" ∷ []) ≡ Err Usage
+no_drill_is_4096 = refl
+
+pub no_number_has_a_leading_zero : asked_by (codes "lifecycle" ∷ codes "drill" ∷ codes "07" ∷ []) ≡ Err Usage
+no_number_has_a_leading_zero = refl
 
 pub a_process_is_launched : asked_by (codes "/r/cnb/process/web" ∷ codes "detect" ∷ []) ≡ Ok (Launch (record { root = codes "/r"; call = Entry (codes "web") (codes "detect" ∷ []) }))
 a_process_is_launched = refl

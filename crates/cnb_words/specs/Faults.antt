@@ -5,7 +5,7 @@ use Rattle.cnb_toml.specs.declared.fault.NameFault.TheVariants as name_fault
 use Rattle.cnb_world.specs.declared.path.PathFault.{PathFault}
 use Rattle.cnb_world.specs.declared.path.PathFault.TheVariants as path_fault
 use Rattle.cnb_words.specs.declared.fault.WordsFault.{WordsFault}
-use Rattle.cnb_words.specs.declared.fault.WordsFault.TheVariants.{Usage, NotBuilt, Memory}
+use Rattle.cnb_words.specs.declared.fault.WordsFault.TheVariants.{Usage, Memory}
 
 -- a text that is no path is no value
 abbrev pub fault_of_path : PathFault → WordsFault
@@ -22,4 +22,3 @@ abbrev pub Reads : {T : Type 0} → Result T WordsFault → Option T → Type 0
 Reads (Ok value) want = want ≡ Some value
 Reads (Err Usage) want = want ≡ None
 Reads (Err Memory) want = Unit {0}
-Reads (Err (NotBuilt name)) want = ⊥

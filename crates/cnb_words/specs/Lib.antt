@@ -3,6 +3,7 @@ pub mod Base
 pub mod Build
 pub mod Create
 pub mod Detect
+pub mod Drill
 pub mod Examples
 pub mod Export
 pub mod Faults

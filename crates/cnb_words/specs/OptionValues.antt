@@ -2,7 +2,7 @@
 use Rattle.std.specs.Prelude.{ℕ, ◌^◌, List, [], ◌∷◌, codes, length, nat_lt, if◌then◌else◌, Option, Some, None}
 use Rattle.std.specs.Option.{option_and_then, option_map}
 use Rattle.cnb_words.specs.Options.{has_name, in_front, value_of}
-use Rattle.cnb_words.specs.Values.{image_in, path_in, target_in, workers_in}
+use Rattle.cnb_words.specs.Values.{image_in, number_in, path_in, target_in}
 use Rattle.cnb_words.specs.declared.options.Given.{Given}
 
 -- one value after another, where all are there
@@ -31,10 +31,10 @@ where_given (Some text) = option_map Some (image_in text)
 abbrev pub optional_image_of : List ℕ → List Given → Option (Option (List ℕ))
 optional_image_of name options = where_given (value_of name options)
 
--- 8 workers where no number is given
+-- 1 to 64 workers, and 8 where no number is given
 abbrev pub workers_or_eight : Option (List ℕ) → Option ℕ
 workers_or_eight None = Some 8
-workers_or_eight (Some text) = workers_in text
+workers_or_eight (Some text) = number_in 1 64 text
 
 abbrev pub workers_of : List Given → Option ℕ
 workers_of options = workers_or_eight (value_of (codes "--workers") options)

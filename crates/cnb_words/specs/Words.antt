@@ -6,6 +6,7 @@ use Rattle.cnb_words.specs.Base as base
 use Rattle.cnb_words.specs.Build as build
 use Rattle.cnb_words.specs.Create as create
 use Rattle.cnb_words.specs.Detect as detect
+use Rattle.cnb_words.specs.Drill as drill
 use Rattle.cnb_words.specs.Export as export
 use Rattle.cnb_words.specs.Launch as launch
 use Rattle.cnb_words.specs.Options.{options_in}
@@ -15,10 +16,10 @@ use Rattle.cnb_words.specs.Restore as restore
 use Rattle.cnb_words.specs.Show as show
 use Rattle.cnb_words.specs.Unpack as unpack
 use Rattle.cnb_words.specs.declared.fault.WordsFault.{WordsFault}
-use Rattle.cnb_words.specs.declared.fault.WordsFault.TheVariants.{Usage, NotBuilt, Memory}
+use Rattle.cnb_words.specs.declared.fault.WordsFault.TheVariants.{Usage, Memory}
 use Rattle.cnb_words.specs.declared.options.Given.{Given}
 use Rattle.cnb_words.specs.declared.words.Asked.{Asked}
-use Rattle.cnb_words.specs.declared.words.Asked.TheVariants.{Detect, Analyze, Restore, Build, Export, Create, Rebase, Base, Unpack, Show, Launch}
+use Rattle.cnb_words.specs.declared.words.Asked.TheVariants.{Detect, Analyze, Restore, Build, Export, Create, Rebase, Base, Unpack, Show, Drill, Launch}
 
 -- what is asked for; where there is nothing, the words are refused
 abbrev pub asks : {T : Type 0} → (T → Asked) → Option T → Result Asked WordsFault
@@ -54,15 +55,14 @@ options_asked command words = with_options (options_in words) (phase_asked comma
 
 -- a command and the words behind it
 abbrev pub asked_of : List ℕ → List (List ℕ) → Result Asked WordsFault
-asked_of command words = if bytes_eq command (codes "launch") then asks Launch (launch.launch_in words) else options_asked command words
-
--- `drill` is known and not served yet: the words behind it aren't judged
-abbrev pub where_served : List ℕ → Result Asked WordsFault → Result Asked WordsFault
-where_served command asked = if bytes_eq command (codes "drill") then Err (NotBuilt command) else asked
+asked_of command words =
+    if bytes_eq command (codes "launch") then asks Launch (launch.launch_in words)
+    else if bytes_eq command (codes "drill") then asks Drill (drill.drill_in words)
+    else options_asked command words
 
 abbrev pub command_asked : List (List ℕ) → Result Asked WordsFault
 command_asked [] = Err Usage
-command_asked (command ∷ words) = where_served command (asked_of command words)
+command_asked (command ∷ words) = asked_of command words
 
 -- the launcher, started by its own name in a root
 abbrev pub launcher_asked : List ℕ → List (List ℕ) → Result Asked WordsFault
@@ -86,7 +86,6 @@ asked_by (program ∷ words) =
 abbrev pub AsksAs : Result Asked WordsFault → Result Asked WordsFault → Type 0
 AsksAs (Ok asked) want = want ≡ Ok asked
 AsksAs (Err Usage) want = want ≡ Err Usage
-AsksAs (Err (NotBuilt name)) want = want ≡ Err (NotBuilt name)
 AsksAs (Err Memory) want = Unit {0}
 
 -- the folders of the caches that a command uses
@@ -101,9 +100,10 @@ caches_asked (Rebase words) = []
 caches_asked (Base words) = []
 caches_asked (Unpack words) = []
 caches_asked (Show words) = []
+caches_asked (Drill words) = []
 caches_asked (Launch words) = []
 
--- what is asked for has short paths, few workers and few caches
+-- what is asked for has short paths, few workers, few caches and a small number
 abbrev pub AsksWithinLimits : Asked → Type 0
 AsksWithinLimits (Detect words) = detect.KeepsLimits words
 AsksWithinLimits (Analyze words) = analyze.KeepsLimits words
@@ -115,4 +115,5 @@ AsksWithinLimits (Rebase words) = rebase.KeepsLimits words
 AsksWithinLimits (Base words) = base.KeepsLimits words
 AsksWithinLimits (Unpack words) = unpack.KeepsLimits words
 AsksWithinLimits (Show words) = show.KeepsLimits words
+AsksWithinLimits (Drill words) = drill.KeepsLimits words
 AsksWithinLimits (Launch words) = launch.KeepsLimits words

@@ -1,13 +1,12 @@
 // Why words ask for nothing.
 
 use cnb_toml::NameFault;
-use cnb_world::{Memory, PathFault, Text};
+use cnb_world::{Memory, PathFault};
 
-/// Why words ask for nothing: they are no command with its options, or a command that is not served.
+/// Why words ask for nothing: they are no command with its options, or memory ran out.
 #[derive(Drop)]
 pub enum WordsFault {
     Usage,
-    NotBuilt(Text),
     Memory,
 }
 

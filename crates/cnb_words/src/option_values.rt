@@ -6,12 +6,14 @@ ghost use Rattle.cnb_words.specs.OptionValues.{caches_of, image_of, optional_ima
 
 use crate::fault::WordsFault;
 use crate::options::{Given, value_of};
-use crate::values::{image_in, path_in, target_in, workers_in};
+use crate::values::{image_in, number_in, path_in, target_in};
 use cnb_toml::ImageName;
 use cnb_world::{List, Path, Text};
 use std::alloc::Global;
 
 const END_OF_CACHES: usize = 4_294_967_296;
+
+const MOST_WORKERS: u32 = 64;
 
 /// The path of an option that must be given.
 pub(crate) fn path_of(alloc: Global, options: &[Given], name: &str) -> Result<Path, WordsFault>
@@ -73,7 +75,10 @@ pub(crate) fn workers_of(options: &[Given]) -> Result<usize, WordsFault>
     ensures few { IfOk result (λ workers. workers ≤ 64) }
 {
     match value_of(options, "--workers") {
-        Some(text) => workers_in(text.as_str().as_bytes()),
+        Some(text) => {
+            let workers = number_in(text.as_str(), 1, MOST_WORKERS)?;
+            Ok(workers as usize)
+        }
         None => Ok(8),
     }
 }

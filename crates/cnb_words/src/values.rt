@@ -1,15 +1,13 @@
 // The values of options.
-ghost use Rattle.std.specs.Prelude.{◌≡◌, ◌≤◌, IfOk, IfSome, IsTrue, length};
+ghost use Rattle.std.specs.Prelude.{◌≡◌, ◌≤◌, IfOk, IsTrue, length};
 ghost use Rattle.cnb_toml.specs.Names.{is_target_name};
 ghost use Rattle.cnb_words.specs.Faults.{Reads};
-ghost use Rattle.cnb_words.specs.Values.{image_in, leading_digit, number_in, path_in, target_in, two_digits, workers_in};
+ghost use Rattle.cnb_words.specs.Values.{image_in, is_decimal, number_in, path_in, target_in};
 
 use crate::fault::WordsFault;
 use cnb_toml::{ImageName, is_target_name};
 use cnb_world::{Path, Text};
 use std::alloc::Global;
-
-const MOST_WORKERS: usize = 64;
 
 /// The path that a text is, of at most 4,096 bytes.
 pub(crate) fn path_in(alloc: Global, text: &str) -> Result<Path, WordsFault>
@@ -39,48 +37,27 @@ pub(crate) fn target_in(alloc: Global, text: &str) -> Result<Text, WordsFault>
     Ok(Text::of(alloc, text)?)
 }
 
-fn leading_digit(digit: u8) -> Option<usize>
-    ensures number { result ≡ leading_digit digit }
-    ensures some { IfSome result (λ number. 1 ≤ number) }
-{
-    if digit.is_ascii_digit() && digit != b'0' {
-        Some((digit - b'0') as usize)
-    } else {
-        None
-    }
-}
-
-fn two_digits(tens: u8, ones: u8) -> Option<usize>
-    ensures number { result ≡ two_digits tens ones }
-    ensures some { IfSome result (λ number. 1 ≤ number) }
-{
-    if tens.is_ascii_digit() && tens != b'0' && ones.is_ascii_digit() {
-        Some((tens - b'0') as usize * 10 + (ones - b'0') as usize)
-    } else {
-        None
-    }
-}
-
-#[tactic(auto, using(crate::proofs::Numbers::one_digit, crate::proofs::Numbers::two_digits_are, crate::proofs::Numbers::no_digit, crate::proofs::Numbers::many_digits))]
-fn number_in(text: &[u8]) -> Option<usize>
-    ensures number { result ≡ number_in text.now }
-    ensures some { IfSome result (λ number. 1 ≤ number) }
+fn is_decimal(text: &[u8]) -> bool
+    ensures { result ≡ is_decimal text.now }
 {
     match text {
-        [ones] => leading_digit(*ones),
-        [tens, ones] => two_digits(*tens, *ones),
-        _ => None,
+        [] => false,
+        [digit] => digit.is_ascii_digit(),
+        [first, ..] => *first != b'0' && text.iter().all(|digit| digit.is_ascii_digit()),
     }
 }
 
-/// The number of workers that a text is.
-pub(crate) fn workers_in(text: &[u8]) -> Result<usize, WordsFault>
-    ensures reads { Reads result (workers_in text.now) }
-    ensures some { IfOk result (λ workers. 1 ≤ workers) }
-    ensures few { IfOk result (λ workers. workers ≤ 64) }
+/// The number from `least` to `most` that a text is.
+pub(crate) fn number_in(text: &str, least: u32, most: u32) -> Result<u32, WordsFault>
+    ensures reads { Reads result (number_in least most text.now) }
+    ensures at_least { IfOk result (λ number. least ≤ number) }
+    ensures at_most { IfOk result (λ number. number ≤ most) }
 {
-    match number_in(text) {
-        Some(number) if number <= MOST_WORKERS => Ok(number),
+    if !is_decimal(text.as_bytes()) {
+        return Err(WordsFault::Usage);
+    }
+    match text.parse::<u32>() {
+        Ok(number) if least <= number && number <= most => Ok(number),
         _ => Err(WordsFault::Usage),
     }
 }

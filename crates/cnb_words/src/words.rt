@@ -8,6 +8,7 @@ use crate::base::{BaseWords, base_in};
 use crate::build::{BuildWords, build_in};
 use crate::create::{CreateWords, create_in};
 use crate::detect::{DetectWords, detect_in};
+use crate::drill::{DrillWords, drill_in};
 use crate::export::{ExportWords, export_in};
 use crate::fault::WordsFault;
 use crate::launch::{LaunchWords, launch_at, launch_in, process_at};
@@ -17,7 +18,7 @@ use crate::rebase::{RebaseWords, rebase_in};
 use crate::restore::{RestoreWords, restore_in};
 use crate::show::{ShowWords, show_in};
 use crate::unpack::{UnpackWords, unpack_in};
-use cnb_world::{Path, Text};
+use cnb_world::Path;
 use std::alloc::Global;
 
 /// What the words ask for.
@@ -33,6 +34,7 @@ pub enum Asked {
     Base(BaseWords),
     Unpack(UnpackWords),
     Show(ShowWords),
+    Drill(DrillWords),
     Launch(LaunchWords),
 }
 
@@ -47,15 +49,6 @@ impl Asked {
             Asked::Create(options) => options.caches.as_slice(),
             _ => &[],
         }
-    }
-}
-
-fn not_built(alloc: Global, command: &str) -> WordsFault
-    ensures { AsksAs (Err result) (Err (WordsFault.NotBuilt command.now)) }
-{
-    match Text::of(alloc, command) {
-        Ok(command) => WordsFault::NotBuilt(command),
-        Err(_) => WordsFault::Memory,
     }
 }
 
@@ -114,6 +107,8 @@ pub(crate) fn asked_of(alloc: Global, command: &str, words: &[String]) -> Result
 {
     if command == "launch" {
         launch_in(alloc, words).map(Asked::Launch)
+    } else if command == "drill" {
+        drill_in(words).map(Asked::Drill)
     } else {
         options_asked(alloc, command, words)
     }
@@ -124,7 +119,6 @@ fn command_asked(alloc: Global, words: &[String]) -> Result<Asked, WordsFault>
     ensures limits { IfOk result AsksWithinLimits }
 {
     match words {
-        [command, ..] if command.as_str() == "drill" => Err(not_built(alloc, command.as_str())),
         [command, words @ ..] => asked_of(alloc, command.as_str(), words),
         [] => Err(WordsFault::Usage),
     }

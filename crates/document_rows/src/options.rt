@@ -1,8 +1,8 @@
 // What each command asks for, as its name and each of its options.
 use cnb_toml::ImageName;
 use cnb_words::{
-    AnalyzeWords, BaseWords, BuildWords, Call, CreateWords, DetectWords, ExportWords, LaunchWords,
-    RebaseWords, RestoreWords, ShowWords, UnpackWords,
+    AnalyzeWords, BaseWords, BuildWords, Call, CreateWords, DetectWords, DrillWords, ExportWords,
+    LaunchWords, RebaseWords, RestoreWords, ShowWords, UnpackWords,
 };
 use cnb_world::{List, Path, Text};
 use std::alloc::{AllocError, Global};
@@ -113,6 +113,12 @@ pub fn show(text: &mut String, words: &ShowWords) -> Result<(), AllocError> {
     text.push_str("show")?;
     add(text, "store", words.store.as_str())?;
     add(text, "image", words.image.as_str())
+}
+
+pub fn drill(alloc: Global, text: &mut String, words: &DrillWords) -> Result<(), AllocError> {
+    let number = format!(in alloc; "{}", words.number)?;
+    text.push_str("drill")?;
+    add(text, "number", number.as_str())
 }
 
 fn add_texts(text: &mut String, words: &List<Text>) -> Result<(), AllocError> {

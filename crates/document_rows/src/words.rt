@@ -26,6 +26,7 @@ fn add_command(alloc: Global, text: &mut String, asked: &Asked) -> Result<(), Al
         Asked::Base(words) => options::base(text, words),
         Asked::Unpack(words) => options::unpack(text, words),
         Asked::Show(words) => options::show(text, words),
+        Asked::Drill(words) => options::drill(alloc, text, words),
         Asked::Launch(words) => options::launch(text, words),
     }
 }
@@ -40,7 +41,6 @@ fn asked_text(alloc: Global, asked: &Asked) -> Result<String, AllocError> {
 fn fault_text(alloc: Global, fault: &WordsFault) -> Result<String, AllocError> {
     match fault {
         WordsFault::Usage => String::from_str(alloc, "usage"),
-        WordsFault::NotBuilt(name) => format!(in alloc; "not built {}", name.as_str()),
         WordsFault::Memory => String::from_str(alloc, "out of memory"),
     }
 }
