@@ -12,12 +12,10 @@ use Rattle.cnb_lifecycle.specs.Faults.{cause_of, of_words_fault}
 
 pub words_refused : (fault : WordsFault) (want : Result Asked WordsFault) (api : Result (Unit {0}) Refusal) → AsksAs (Err fault) want → IsAnswer {A = Asked} cause_of (Err (of_words_fault fault)) (where_served (of_words want) api)
 words_refused words.Usage want api h = ap (λ w. where_served (of_words w) api) h
-words_refused (words.NotBuilt command) want api h = ap (λ w. where_served (of_words w) api) h
 words_refused words.Memory want api h = tt
 
 pub words_cause : (fault : WordsFault) → IsGivenCause (cause_of (of_words_fault fault))
 words_cause words.Usage = tt
-words_cause (words.NotBuilt command) = tt
 words_cause words.Memory = tt
 
 pub api_refused : (asked : Asked) (want : Result Asked WordsFault) (api : Result (Unit {0}) Refusal) (refusal : Refusal) → want ≡ Ok asked → IsAnswer {A = Unit {0}} cause_of (Err refusal) api

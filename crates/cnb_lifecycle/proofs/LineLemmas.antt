@@ -1,7 +1,7 @@
 -- A line that was cut.
 use Rattle.std.proofs.Common.{ℕ, List, Option, Err}
 use Rattle.cnb_lifecycle.specs.declared.refusal.Refusal.{Refusal}
-use Rattle.cnb_lifecycle.specs.declared.refusal.Refusal.TheVariants.{Usage, File, Memory, Document, Child, Limit, OddFile, NotBuilt, PlatformApi, BuildpackApi, Order, NoTree, Exists, NoGroup, Damaged, NoImage, BuildFailed, UnknownUnmet, NoContents, Clash, NoPrevious, TwoDefaults, TopDiffers, TargetDiffers, ShellProcess, NoProcess, ExecFailed, BadExecOutput}
+use Rattle.cnb_lifecycle.specs.declared.refusal.Refusal.TheVariants.{Usage, File, Memory, Document, Child, Limit, OddFile, PlatformApi, BuildpackApi, Order, NoTree, Exists, NoGroup, Damaged, NoImage, BuildFailed, UnknownUnmet, NoContents, Clash, NoPrevious, TwoDefaults, TopDiffers, TargetDiffers, ShellProcess, NoProcess, ExecFailed, BadExecOutput}
 use Rattle.cnb_lifecycle.specs.declared.status.Status.TheVariants.{Output}
 use Rattle.cnb_lifecycle.specs.Printing.{AddsPart, Finishes, IsTold}
 use Rattle.cnb_lifecycle.specs.Report.{error_line}
@@ -15,7 +15,6 @@ cut_line (Document path fault) before now told h = h
 cut_line Child before now told h = h
 cut_line (Limit kind) before now told h = h
 cut_line (OddFile path) before now told h = h
-cut_line (NotBuilt text) before now told h = h
 cut_line (PlatformApi text) before now told h = h
 cut_line (BuildpackApi text) before now told h = h
 cut_line (Order id ambiguous) before now told h = h

@@ -5,11 +5,10 @@ use Rattle.cnb_detect.specs.declared.refusal.DetectRefusal.{DetectRefusal}
 use Rattle.cnb_detect.specs.declared.refusal.DetectRefusal.TheVariants as detect
 use Rattle.steps.specs.Causes.{Cause, FileFailed, ChildFailed, OutOfMemory, Decided}
 use Rattle.cnb_lifecycle.specs.declared.refusal.Refusal.{Refusal}
-use Rattle.cnb_lifecycle.specs.declared.refusal.Refusal.TheVariants.{Usage, File, Memory, Document, Child, Limit, OddFile, NotBuilt, PlatformApi, BuildpackApi, Order, NoTree, Exists, NoGroup, Damaged, NoImage, BuildFailed, UnknownUnmet, NoContents, Clash, NoPrevious, TwoDefaults, TopDiffers, TargetDiffers, ShellProcess, NoProcess, ExecFailed, BadExecOutput}
+use Rattle.cnb_lifecycle.specs.declared.refusal.Refusal.TheVariants.{Usage, File, Memory, Document, Child, Limit, OddFile, PlatformApi, BuildpackApi, Order, NoTree, Exists, NoGroup, Damaged, NoImage, BuildFailed, UnknownUnmet, NoContents, Clash, NoPrevious, TwoDefaults, TopDiffers, TargetDiffers, ShellProcess, NoProcess, ExecFailed, BadExecOutput}
 
 abbrev pub of_words_fault : WordsFault → Refusal
 of_words_fault words.Usage = Usage
-of_words_fault (words.NotBuilt command) = NotBuilt command
 of_words_fault words.Memory = Memory
 
 abbrev pub of_detect : DetectRefusal → Refusal
@@ -30,7 +29,6 @@ cause_of (Document path fault) = Decided
 cause_of Child = ChildFailed
 cause_of (Limit kind) = Decided
 cause_of (OddFile path) = Decided
-cause_of (NotBuilt text) = Decided
 cause_of (PlatformApi text) = Decided
 cause_of (BuildpackApi text) = Decided
 cause_of (Order id ambiguous) = Decided

@@ -7,7 +7,7 @@ use Rattle.cnb_world.specs.declared.limits.LimitKind.TheVariants.{Groups, Entrie
 use Rattle.cnb_toml.specs.declared.fault.DocFault.{DocFault}
 use Rattle.cnb_toml.specs.declared.fault.DocFault.TheVariants as fault
 use Rattle.cnb_lifecycle.specs.declared.refusal.Refusal.{Refusal}
-use Rattle.cnb_lifecycle.specs.declared.refusal.Refusal.TheVariants.{Usage, File, Memory, Document, Child, Limit, OddFile, NotBuilt, PlatformApi, BuildpackApi, Order, NoTree, Exists, NoGroup, Damaged, NoImage, BuildFailed, UnknownUnmet, NoContents, Clash, NoPrevious, TwoDefaults, TopDiffers, TargetDiffers, ShellProcess, NoProcess, ExecFailed, BadExecOutput}
+use Rattle.cnb_lifecycle.specs.declared.refusal.Refusal.TheVariants.{Usage, File, Memory, Document, Child, Limit, OddFile, PlatformApi, BuildpackApi, Order, NoTree, Exists, NoGroup, Damaged, NoImage, BuildFailed, UnknownUnmet, NoContents, Clash, NoPrevious, TwoDefaults, TopDiffers, TargetDiffers, ShellProcess, NoProcess, ExecFailed, BadExecOutput}
 
 abbrev pub code_of : Refusal → ℕ
 code_of Usage = 1
@@ -17,7 +17,6 @@ code_of (Document path fault) = 4
 code_of Child = 5
 code_of (Limit kind) = 6
 code_of (OddFile path) = 8
-code_of (NotBuilt text) = 9
 code_of (PlatformApi text) = 11
 code_of (BuildpackApi text) = 12
 code_of (Order id ambiguous) = 13
@@ -48,7 +47,6 @@ name_of (Document path fault) = codes "Document"
 name_of Child = codes "Child"
 name_of (Limit kind) = codes "Limit"
 name_of (OddFile path) = codes "OddFile"
-name_of (NotBuilt text) = codes "NotBuilt"
 name_of (PlatformApi text) = codes "PlatformApi"
 name_of (BuildpackApi text) = codes "BuildpackApi"
 name_of (Order id ambiguous) = codes "Order"
@@ -131,7 +129,6 @@ detail_of (Document path fault) = Some (with_text (spaced path (fault_name fault
 detail_of Child = None
 detail_of (Limit kind) = Some (limit_name kind)
 detail_of (OddFile path) = Some path
-detail_of (NotBuilt text) = Some text
 detail_of (PlatformApi text) = Some text
 detail_of (BuildpackApi text) = Some text
 detail_of (Order id ambiguous) = Some (spaced (if ambiguous then codes "Ambiguous" else codes "Absent") id)

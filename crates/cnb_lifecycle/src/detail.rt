@@ -141,7 +141,6 @@ impl Refusal {
             Refusal::BadExecOutput(path) => Text::of(alloc, path.as_str()).map(Some),
             Refusal::Document(path, fault) => document_detail(alloc, path, fault).map(Some),
             Refusal::Limit(kind) => Text::of(alloc, limit_name(*kind)).map(Some),
-            Refusal::NotBuilt(text) => text.copy(alloc).map(Some),
             Refusal::PlatformApi(text) => text.copy(alloc).map(Some),
             Refusal::BuildpackApi(text) => text.copy(alloc).map(Some),
             Refusal::Order { id, ambiguous } => order_detail(alloc, id, *ambiguous).map(Some),

@@ -36,7 +36,6 @@ impl From<WordsFault> for Refusal {
     fn from(fault: WordsFault) -> Self {
         match fault {
             WordsFault::Usage => Refusal::Usage,
-            WordsFault::NotBuilt(command) => Refusal::NotBuilt(command),
             WordsFault::Memory => Refusal::Memory,
         }
     }

@@ -23,8 +23,6 @@ pub enum Refusal {
     Limit(LimitKind),
     /// What stands at this path can't be kept in a tree, or a folder is wanted there.
     OddFile(Path),
-    /// The words name a command that isn't served yet.
-    NotBuilt(Text),
     /// The platform asks for another Platform API.
     PlatformApi(Text),
     /// A buildpack of another Buildpack API is asked for.
@@ -106,7 +104,6 @@ impl Refusal {
             Refusal::Child => 5,
             Refusal::Limit(_) => 6,
             Refusal::OddFile(_) => 8,
-            Refusal::NotBuilt(_) => 9,
             Refusal::PlatformApi(_) => 11,
             Refusal::BuildpackApi(_) => 12,
             Refusal::Order { .. } => 13,
@@ -143,7 +140,6 @@ impl Refusal {
             Refusal::Child => "Child",
             Refusal::Limit(_) => "Limit",
             Refusal::OddFile(_) => "OddFile",
-            Refusal::NotBuilt(_) => "NotBuilt",
             Refusal::PlatformApi(_) => "PlatformApi",
             Refusal::BuildpackApi(_) => "BuildpackApi",
             Refusal::Order { .. } => "Order",
