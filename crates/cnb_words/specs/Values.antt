@@ -1,7 +1,7 @@
 -- The values of options.
-use Rattle.std.specs.Prelude.{ℕ, ◌==◌, ◌&&◌, Bool, false, not, List, [], ◌∷◌, nat_le, if◌then◌else◌, Option, Some, None}
+use Rattle.std.specs.Prelude.{ℕ, ◌==◌, ◌&&◌, Bool, not, List, length, nat_le, nat_lt, slice_index, if◌then◌else◌, Option, Some, None}
 use Rattle.std.specs.Char.{is_ascii_digit}
-use Rattle.std.specs.Str.{all_ascii_digits}
+use Rattle.std.specs.List.{list_all}
 use Rattle.std.specs.Str.Parse.{digits_value}
 use Rattle.cnb_toml.specs.Names.{is_image_name, is_target_name}
 use Rattle.cnb_world.specs.Path.{is_short_path}
@@ -18,11 +18,13 @@ image_in text = if is_image_name text then Some text else None
 abbrev pub target_in : List ℕ → Option (List ℕ)
 target_in text = if is_target_name text then Some text else None
 
--- decimal digits, at least one, and no 0 in front of others
+-- a 0 in front of others
+abbrev pub has_leading_zero : List ℕ → Bool
+has_leading_zero text = nat_lt 1 (length text) && (slice_index text 0 == 48)
+
+-- decimal digits, at least one
 abbrev pub is_decimal : List ℕ → Bool
-is_decimal [] = false
-is_decimal (digit ∷ []) = is_ascii_digit digit
-is_decimal (digit ∷ next ∷ digits) = not (digit == 48) && all_ascii_digits (digit ∷ next ∷ digits)
+is_decimal text = nat_lt 0 (length text) && list_all is_ascii_digit text && not (has_leading_zero text)
 
 -- a number from the least to the most
 abbrev pub in_limits : ℕ → ℕ → ℕ → Option ℕ

@@ -1,8 +1,10 @@
 // The values of options.
 ghost use Rattle.std.specs.Prelude.{◌≡◌, ◌≤◌, IfOk, IsTrue, length};
+ghost use Rattle.std.specs.Char.{is_ascii_digit};
+ghost use Rattle.std.specs.List.{list_all};
 ghost use Rattle.cnb_toml.specs.Names.{is_target_name};
 ghost use Rattle.cnb_words.specs.Faults.{Reads};
-ghost use Rattle.cnb_words.specs.Values.{image_in, is_decimal, number_in, path_in, target_in};
+ghost use Rattle.cnb_words.specs.Values.{has_leading_zero, image_in, is_decimal, number_in, path_in, target_in};
 
 use crate::fault::WordsFault;
 use cnb_toml::{ImageName, is_target_name};
@@ -37,14 +39,22 @@ pub(crate) fn target_in(alloc: Global, text: &str) -> Result<Text, WordsFault>
     Ok(Text::of(alloc, text)?)
 }
 
+fn are_digits(text: &[u8]) -> bool
+    ensures { result ≡ list_all is_ascii_digit text.now }
+{
+    text.iter().all(|byte| byte.is_ascii_digit())
+}
+
+fn has_leading_zero(text: &[u8]) -> bool
+    ensures { result ≡ has_leading_zero text.now }
+{
+    text.len() > 1 && text[0] == b'0'
+}
+
 fn is_decimal(text: &[u8]) -> bool
     ensures { result ≡ is_decimal text.now }
 {
-    match text {
-        [] => false,
-        [digit] => digit.is_ascii_digit(),
-        [first, ..] => *first != b'0' && text.iter().all(|digit| digit.is_ascii_digit()),
-    }
+    !text.is_empty() && are_digits(text) && !has_leading_zero(text)
 }
 
 /// The number from `least` to `most` that a text is.
