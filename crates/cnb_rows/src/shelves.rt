@@ -26,9 +26,13 @@ fn shelf(
     more: Option<u64>,
 ) -> Result<MemShelf, Fault> {
     let mut held = List::new(alloc);
-    for name in row.holds.split_whitespace() {
-        let tree = trees.named(alloc, name)?;
-        let bytes = Bytes::of(alloc, &tree.spelling)?;
+    for word in row.holds.split_whitespace() {
+        let tree = trees.named(alloc, word.trim_end_matches('?'))?;
+        let bytes = if word.ends_with('?') {
+            Bytes::of(alloc, b"")?
+        } else {
+            Bytes::of(alloc, &tree.spelling)?
+        };
         let digest = tree.digest;
         held.push(Held { digest, bytes })?;
     }
@@ -88,14 +92,15 @@ fn push_name(names: &mut String, tree: &Tree, found: Option<Bytes>) -> Result<()
 
 /// The names of trees as a `Holding` has them, in the order of the trees.
 pub fn in_order(alloc: Global, trees: &Trees, wanted: &str) -> Result<String, Fault> {
-    for name in wanted.split_whitespace() {
-        trees.named(alloc, name)?;
+    for word in wanted.split_whitespace() {
+        trees.named(alloc, word.trim_end_matches('?'))?;
     }
     let mut names = String::new(alloc);
     for tree in &trees.all {
         let name = tree.name.as_str();
-        if wanted.split_whitespace().any(|word| word == name) {
-            write!(names, " {name}")?;
+        let mut words = wanted.split_whitespace();
+        if let Some(word) = words.find(|word| word.trim_end_matches('?') == name) {
+            write!(names, " {word}")?;
         }
     }
     Ok(names)
