@@ -9,7 +9,7 @@ use row_files::RowFault;
 use std::alloc::Global;
 
 /// The key that `a` or `a@2.0.0` says; a version that is left out is 1.0.0.
-pub fn key(alloc: Global, text: &str) -> Result<Key, Fault> {
+pub(crate) fn key(alloc: Global, text: &str) -> Result<Key, Fault> {
     let (id, version) = text.split_once('@').unwrap_or((text, "1.0.0"));
     match (BpId::parse(alloc, id), BpVersion::parse(alloc, version)) {
         (Ok(id), Ok(version)) => Ok(Key { id, version }),
@@ -18,7 +18,7 @@ pub fn key(alloc: Global, text: &str) -> Result<Key, Fault> {
 }
 
 /// Adds a key as `a@2.0.0`.
-pub fn push_key(text: &mut String, key: &Key) -> Result<(), Fault> {
+pub(crate) fn push_key(text: &mut String, key: &Key) -> Result<(), Fault> {
     let (id, version) = (key.id.as_str(), key.version.as_str());
     Ok(write!(text, "{id}@{version}")?)
 }
@@ -28,7 +28,7 @@ fn unread(alloc: Global, text: &str, fault: &DocFault) -> Result<Fault, Fault> {
 }
 
 /// The order that a row has as a document.
-pub fn order(given: &Given) -> Result<Order, Fault> {
+pub(crate) fn order(given: &Given) -> Result<Order, Fault> {
     let text = given.expanded(given.text("order")?)?;
     match read_order(given.alloc, text.as_bytes()) {
         Ok(order) => Ok(order),
@@ -37,7 +37,7 @@ pub fn order(given: &Given) -> Result<Order, Fault> {
 }
 
 /// The alternatives of a Build Plan.
-pub fn options(alloc: Global, text: &str) -> Result<List<PlanOption>, Fault> {
+pub(crate) fn options(alloc: Global, text: &str) -> Result<List<PlanOption>, Fault> {
     match read_build_plan(alloc, text.as_bytes()) {
         Ok(options) => Ok(options),
         Err(fault) => Err(unread(alloc, text, &fault)?),
@@ -58,7 +58,7 @@ fn component(alloc: Global, name: &str) -> Result<Descriptor, Fault> {
 }
 
 /// The descriptors of a row: its components, and behind them its documents between blank lines.
-pub fn descriptors(given: &Given) -> Result<Vec<Descriptor>, Fault> {
+pub(crate) fn descriptors(given: &Given) -> Result<Vec<Descriptor>, Fault> {
     let mut descriptors = Vec::new(given.alloc);
     for name in given.text_or_empty("components").split_whitespace() {
         descriptors.push(component(given.alloc, name)?)?;
@@ -73,7 +73,7 @@ pub fn descriptors(given: &Given) -> Result<Vec<Descriptor>, Fault> {
 }
 
 /// The catalog of a row's descriptors.
-pub fn catalog(given: &Given) -> Result<Catalog, Fault> {
+pub(crate) fn catalog(given: &Given) -> Result<Catalog, Fault> {
     let mut catalog = Catalog::new(given.alloc);
     for descriptor in descriptors(given)? {
         if let Err(fault) = catalog.add(descriptor) {

@@ -6,6 +6,7 @@ ghost use Rattle.detect_core.specs.Search.{is_short};
 use crate::buildpacks::{catalog, order, push_key};
 use crate::fault::Fault;
 use crate::given::{Given, path};
+use crate::meeting::Meeting;
 use crate::plans::push_plan;
 use bp_docs::{Order, PlanOption};
 use cnb_toml::Key;
@@ -13,7 +14,12 @@ use cnb_world::{Bytes, Env, List, MemSpawner, Probed, Reply, Text};
 use detect_core::{Chosen, DetectEnd, DetectFrame, Verdict, answer, detect};
 use order_expand::{Catalog, check};
 use std::alloc::Global;
+use std::sync::Arc;
+use std::sync::atomic::AtomicU64;
 use std::thread::Threads;
+
+/// Spawners take less than so much time for a child.
+const MOST_PAUSE: u64 = 4096;
 
 // The exit code that a word says, `none` where a child has none.
 fn exit_code(alloc: Global, word: &str) -> Result<Option<i32>, Fault> {
@@ -32,7 +38,7 @@ fn probed(alloc: Global, code: &str, plan: &str) -> Result<Probed, Fault> {
 }
 
 /// What a child's end says.
-pub fn judge(given: &Given) -> Result<String, Fault> {
+pub(crate) fn judge(given: &Given) -> Result<String, Fault> {
     let plan = given.expanded(given.text_or_empty("plan"))?;
     let probed = probed(given.alloc, given.text("code")?, plan.as_str())?;
     match answer(given.alloc, &probed)? {
@@ -95,40 +101,55 @@ fn frame(alloc: Global) -> Result<DetectFrame, Fault>
     })
 }
 
-// As many spawners as the row says, or one.
-fn spawners(given: &Given) -> Result<Vec<MemSpawner>, Fault> {
+// So many spawners of the row's children, each of which takes another time for a child.
+fn spawners<'a>(given: &Given<'a>, count: u64) -> Result<Vec<Meeting<'a>>, Fault> {
+    let begun = Arc::new(given.alloc, AtomicU64::new(0))?;
+    let pause = given.number_or("pause", 0)?;
     let mut spawners = Vec::new(given.alloc);
-    let count = if given.text_or_empty("spawners").is_empty() {
-        1
-    } else {
-        given.count("spawners")?
-    };
-    for _ in 0..count {
+    for place in 0..count {
+        let pause = pause.wrapping_mul(place) % MOST_PAUSE;
         let failing = given.numbers("failing")?;
-        spawners.push(MemSpawner::new(given.alloc, replies(given)?, failing)?)?;
+        let children = MemSpawner::new(given.alloc, replies(given)?, failing)?;
+        spawners.push(Meeting::new(given, &begun, pause, children)?)?;
     }
     Ok(spawners)
 }
 
-/// What a detection chooses, or why nothing, and which children ran.
-pub fn choose<R: Threads + Sync>(rt: &R, given: &Given) -> Result<String, Fault> {
+/// How a detection ended, and the children that ran: in order where there is one spawner, and else ascending by id and
+/// version.
+#[derive(Drop)]
+pub struct Detected {
+    pub end: Result<Chosen, DetectEnd>,
+    pub ran: Vec<String>,
+}
+
+/// What a detection chooses, or why nothing, and which children ran, by as many spawners as the row says, or one.
+pub(crate) fn choose<R: Threads + Sync>(rt: &R, given: &Given) -> Result<String, Fault> {
     let (catalog, order) = (catalog(given)?, order(given)?);
+    let count = given.number_or("spawners", 1)?;
     match check(given.alloc, &order, &catalog) {
-        Ok(_) => choose_by(rt, given, &order, &catalog),
+        Ok(_) => {
+            let detected = detect_by(rt, given, &order, &catalog, count)?;
+            let mut told = told_end(given.alloc, &detected.end)?;
+            push_runs(&mut told, &detected.ran)?;
+            Ok(told)
+        }
         Err(fault) => Ok(format!(in given.alloc; "{fault}")?),
     }
 }
 
-fn choose_by<R: Threads + Sync>(
+/// A detection by so many spawners.
+pub(crate) fn detect_by<R: Threads + Sync>(
     rt: &R,
     given: &Given,
     order: &Order,
     catalog: &Catalog,
-) -> Result<String, Fault>
+    count: u64,
+) -> Result<Detected, Fault>
     requires { IsOk (checked catalog.now order.now) }
 {
     let frame = frame(given.alloc)?;
-    let mut spawners = spawners(given)?;
+    let mut spawners = spawners(given, count)?;
     let workers = spawners.len();
     if workers == 0 {
         return Err(Fault::wrong(given.alloc, "none of", "spawners"));
@@ -142,15 +163,19 @@ fn choose_by<R: Threads + Sync>(
         workers,
         &frame,
     );
-    let mut told = match &end {
-        Ok(chosen) => told_choice(given.alloc, chosen)?,
-        Err(end) => String::from_str(given.alloc, told_end(end))?,
-    };
-    push_runs(given, &mut told, spawners.as_slice())?;
-    Ok(told)
+    let ran = ran(given.alloc, spawners.as_slice())?;
+    Ok(Detected { end, ran })
 }
 
-fn told_end(end: &DetectEnd) -> &'static str {
+/// How a detection ended, in words.
+pub(crate) fn told_end(alloc: Global, end: &Result<Chosen, DetectEnd>) -> Result<String, Fault> {
+    match end {
+        Ok(chosen) => told_choice(alloc, chosen),
+        Err(end) => Ok(String::from_str(alloc, told_refusal(end))?),
+    }
+}
+
+fn told_refusal(end: &DetectEnd) -> &'static str {
     match end {
         DetectEnd::NoGroup { erred: false } => "no group passes",
         DetectEnd::NoGroup { erred: true } => "no group passes, a child erred",
@@ -183,20 +208,24 @@ fn push_keys(told: &mut String, keys: &[Key]) -> Result<(), Fault> {
     Ok(())
 }
 
-// The children that ran: in order where there is one spawner, and else ascending by id and version.
-fn push_runs(given: &Given, told: &mut String, spawners: &[MemSpawner]) -> Result<(), Fault> {
-    let mut names = Vec::new(given.alloc);
+fn ran(alloc: Global, spawners: &[Meeting<'_>]) -> Result<Vec<String>, Fault> {
+    let mut names = Vec::new(alloc);
     for spawner in spawners {
-        for run in spawner.runs() {
+        for run in spawner.children.runs() {
             let (id, version) = (run.job.id.as_str(), run.job.version.as_str());
-            names.push(format!(in given.alloc; "{id}@{version}")?)?;
+            names.push(format!(in alloc; "{id}@{version}")?)?;
         }
     }
     if spawners.len() > 1 {
         names.sort()?;
     }
+    Ok(names)
+}
+
+/// Adds the names of the children that ran.
+pub(crate) fn push_runs(told: &mut String, names: &[String]) -> Result<(), Fault> {
     told.push_str("\nran")?;
-    for name in &names {
+    for name in names {
         write!(told, " {name}")?;
     }
     Ok(())

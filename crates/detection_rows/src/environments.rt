@@ -78,7 +78,7 @@ fn told_made(given: &Given, answer: &Result<Env, EnvFault>) -> Result<String, Fa
 }
 
 /// A file of a layer in an environment.
-pub fn apply(given: &Given) -> Result<String, Fault> {
+pub(crate) fn apply(given: &Given) -> Result<String, Fault> {
     let mut env = variables(given, "env")?;
     let (name, value) = (given.text("name")?, given.text("value")?);
     apply_file(given.alloc, &mut env, name, value, given.text("delimiter")?)?;
@@ -86,7 +86,7 @@ pub fn apply(given: &Given) -> Result<String, Fault> {
 }
 
 /// A folder of files in an environment.
-pub fn apply_folder(given: &Given) -> Result<String, Fault> {
+pub(crate) fn apply_folder(given: &Given) -> Result<String, Fault> {
     let mut env = variables(given, "env")?;
     let (mut world, folder) = (world(given)?, given.path("folder")?);
     let answer = env_folder(given.alloc, &mut world, &mut env, &folder);
@@ -116,7 +116,7 @@ fn layer_sets(given: &Given) -> Result<List<LayerSet>, Fault>
 }
 
 /// The path folders of layers in an environment.
-pub fn put_paths(given: &Given) -> Result<String, Fault> {
+pub(crate) fn put_paths(given: &Given) -> Result<String, Fault> {
     let when = if given.text("when")? == "build" {
         When::Build
     } else {
@@ -130,7 +130,7 @@ pub fn put_paths(given: &Given) -> Result<String, Fault> {
 }
 
 /// The environment of a build, with the platform's files where the row has some.
-pub fn make_build_env(given: &Given) -> Result<String, Fault> {
+pub(crate) fn make_build_env(given: &Given) -> Result<String, Fault> {
     let (env, files) = (variables(given, "env")?, platform_env(given)?);
     let (mut world, sets) = (world(given)?, layer_sets(given)?);
     let files = if files.as_slice().is_empty() {
@@ -145,7 +145,7 @@ pub fn make_build_env(given: &Given) -> Result<String, Fault> {
 }
 
 /// The environment of a launch, of a process of a type where the row has one.
-pub fn make_launch_env(given: &Given) -> Result<String, Fault> {
+pub(crate) fn make_launch_env(given: &Given) -> Result<String, Fault> {
     let env = variables(given, "env")?;
     let (mut world, sets) = (world(given)?, layer_sets(given)?);
     let kind = ProcType::parse(given.alloc, given.text_or_empty("type")).ok();
@@ -156,7 +156,7 @@ pub fn make_launch_env(given: &Given) -> Result<String, Fault> {
 }
 
 /// The platform's files, as they are read.
-pub fn read_platform(given: &Given) -> Result<String, Fault> {
+pub(crate) fn read_platform(given: &Given) -> Result<String, Fault> {
     let (mut world, folder) = (world(given)?, given.path("platform")?);
     match &platform_files(given.alloc, &mut world, &folder) {
         Ok(files) => told_files(given.alloc, files.as_slice()),
@@ -173,19 +173,19 @@ fn told_files(alloc: Global, files: &[EnvFile]) -> Result<String, Fault> {
 }
 
 /// The platform's files in an environment.
-pub fn apply_platform(given: &Given) -> Result<String, Fault> {
+pub(crate) fn apply_platform(given: &Given) -> Result<String, Fault> {
     let mut env = variables(given, "env")?;
     platform(given.alloc, &mut env, &platform_env(given)?)?;
     told(given, &env)
 }
 
 /// What children's environments begin with.
-pub fn begin(given: &Given) -> Result<String, Fault> {
+pub(crate) fn begin(given: &Given) -> Result<String, Fault> {
     told(given, &base_env(given.alloc, &variables(given, "env")?)?)
 }
 
 /// A variable that is set to a path.
-pub fn put_path(given: &Given) -> Result<String, Fault> {
+pub(crate) fn put_path(given: &Given) -> Result<String, Fault> {
     let mut env = variables(given, "env")?;
     set_path(
         given.alloc,
@@ -197,7 +197,7 @@ pub fn put_path(given: &Given) -> Result<String, Fault> {
 }
 
 /// The folder of a buildpack, and the name of its plan.
-pub fn places(given: &Given) -> Result<String, Fault> {
+pub(crate) fn places(given: &Given) -> Result<String, Fault> {
     let key = key(given.alloc, given.text("buildpack")?)?;
     let folder = buildpack_folder(given.alloc, &given.path("folder")?, &key)?;
     let name = plan_name(given.alloc, &key)?;
@@ -205,7 +205,7 @@ pub fn places(given: &Given) -> Result<String, Fault> {
 }
 
 /// The length of the file at a path.
-pub fn measure(given: &Given) -> Result<String, Fault> {
+pub(crate) fn measure(given: &Given) -> Result<String, Fault> {
     let (mut world, path) = (world(given)?, given.path("path")?);
     match &contents(given.alloc, &mut world, &path) {
         Ok(Some(bytes)) => Ok(format!(in given.alloc; "{} bytes", bytes.as_slice().len())?),

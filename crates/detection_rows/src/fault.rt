@@ -15,7 +15,7 @@ pub enum Fault {
 
 impl Fault {
     /// A fault of what was written: this text, and the word that it speaks of.
-    pub fn wrong(alloc: Global, text: &str, word: &str) -> Fault {
+    pub(crate) fn wrong(alloc: Global, text: &str, word: &str) -> Fault {
         Fault::Row(RowFault::wrong(alloc, text, word))
     }
 }

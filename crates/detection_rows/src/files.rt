@@ -8,7 +8,7 @@ use order_files::{ReadFault, read_catalog, read_order_file};
 use std::alloc::Global;
 
 /// The world in which the files stand that a row gives under their paths, and in which the calls fail that it numbers.
-pub fn world(given: &Given) -> Result<MemWorld, Fault> {
+pub(crate) fn world(given: &Given) -> Result<MemWorld, Fault> {
     let mut items = List::new(given.alloc);
     for (name, text) in &given.row.given {
         if name.as_str().starts_with('/') {
@@ -45,7 +45,7 @@ fn place(alloc: Global, name: &str, item: Item) -> Result<Placed, Fault> {
 }
 
 /// Why a document or a folder was not read.
-pub fn refusal(alloc: Global, fault: &ReadFault) -> Result<String, Fault> {
+pub(crate) fn refusal(alloc: Global, fault: &ReadFault) -> Result<String, Fault> {
     Ok(match fault {
         ReadFault::File(path) => format!(in alloc; "{} failed", path.as_str())?,
         ReadFault::Document(path, fault) => format!(in alloc; "{}: {fault}", path.as_str())?,
@@ -55,7 +55,7 @@ pub fn refusal(alloc: Global, fault: &ReadFault) -> Result<String, Fault> {
 }
 
 /// The order of an order file.
-pub fn read_order(given: &Given) -> Result<String, Fault> {
+pub(crate) fn read_order(given: &Given) -> Result<String, Fault> {
     let (mut world, path) = (world(given)?, given.path("path")?);
     match &read_order_file(given.alloc, &mut world, &path) {
         Ok(order) => told_entries(given.alloc, order),
@@ -86,7 +86,7 @@ fn push_entry(told: &mut String, entry: &Entry) -> Result<(), Fault> {
 }
 
 /// The row's order over the catalog of a folder.
-pub fn read_buildpacks(given: &Given) -> Result<String, Fault> {
+pub(crate) fn read_buildpacks(given: &Given) -> Result<String, Fault> {
     let (mut world, path) = (world(given)?, given.path("folder")?);
     match &read_catalog(given.alloc, &mut world, &path) {
         Ok(catalog) => told_order(given, catalog),

@@ -6,21 +6,22 @@ use cnb_world::{List, Path};
 use row_files::Row;
 use std::alloc::Global;
 
-/// A row, with the allocator for what is made of its texts.
+/// A row, with the allocator for what is made of its texts, and the system's clock.
 #[derive(Clone, Copy)]
 pub struct Given<'a> {
     pub alloc: Global,
+    pub clock: &'a HostRuntime,
     pub row: &'a Row,
 }
 
 impl<'a> Given<'a> {
     /// The text under a name.
-    pub fn text(&self, name: &str) -> Result<&'a str, Fault> {
+    pub(crate) fn text(&self, name: &str) -> Result<&'a str, Fault> {
         Ok(self.row.text(self.alloc, name)?)
     }
 
     /// The text under a name, or the empty text.
-    pub fn text_or_empty(&self, name: &str) -> &'a str {
+    pub(crate) fn text_or_empty(&self, name: &str) -> &'a str {
         match self.row.given.get(name) {
             Some(text) => text.as_str(),
             None => "",
@@ -28,7 +29,7 @@ impl<'a> Given<'a> {
     }
 
     /// The number under a name, which is at most 64.
-    pub fn count(&self, name: &str) -> Result<u32, Fault>
+    pub(crate) fn count(&self, name: &str) -> Result<u32, Fault>
         ensures { IfOk result (λ count. count ≤ 64) }
     {
         match u32::try_from(self.row.number(self.alloc, name)?) {
@@ -37,8 +38,16 @@ impl<'a> Given<'a> {
         }
     }
 
+    /// The number under a name, or this one where there is no such name.
+    pub(crate) fn number_or(&self, name: &str, number: u64) -> Result<u64, Fault> {
+        match self.row.given.get(name) {
+            Some(_) => Ok(self.row.number(self.alloc, name)?),
+            None => Ok(number),
+        }
+    }
+
     /// The words under a name, which are numbers; none where there is no such name.
-    pub fn numbers(&self, name: &str) -> Result<List<u64>, Fault> {
+    pub(crate) fn numbers(&self, name: &str) -> Result<List<u64>, Fault> {
         let mut numbers = List::new(self.alloc);
         for word in self.text_or_empty(name).split_whitespace() {
             match word.parse::<u64>() {
@@ -50,14 +59,14 @@ impl<'a> Given<'a> {
     }
 
     /// The path under a name.
-    pub fn path(&self, name: &str) -> Result<Path, Fault>
+    pub(crate) fn path(&self, name: &str) -> Result<Path, Fault>
         ensures { IfOk result (λ path. length path ≤ 4096) }
     {
         path(self.alloc, self.text(name)?)
     }
 
     /// The text, in which `<each>` stands for as many copies of the row's `each` as its `times` says.
-    pub fn expanded(&self, text: &str) -> Result<String, Fault> {
+    pub(crate) fn expanded(&self, text: &str) -> Result<String, Fault> {
         let Some((front, behind)) = text.split_once("<each>") else {
             return Ok(String::from_str(self.alloc, text)?);
         };
@@ -86,7 +95,7 @@ fn push_numbered(alloc: Global, text: &mut String, each: &str, number: u64) -> R
 }
 
 /// The path that a text is, which has at most 4,096 bytes.
-pub fn path(alloc: Global, text: &str) -> Result<Path, Fault>
+pub(crate) fn path(alloc: Global, text: &str) -> Result<Path, Fault>
     ensures { IfOk result (λ path. length path ≤ 4096) }
 {
     match Path::parse_short(alloc, text) {

@@ -4,6 +4,7 @@
 //! data/README.md says how a row is written.
 #![tactic(auto)]
 
+mod alike;
 mod buildpacks;
 mod detection;
 mod environments;
@@ -14,26 +15,29 @@ mod meeting;
 mod orders;
 mod plans;
 mod pool;
+mod random;
 
 use fault::Fault;
 use given::Given;
 use row_files::{Row, RowFault, run};
-use std::alloc::{AllocError, Global};
+use std::alloc::AllocError;
 use std::process::ExitCode;
 use std::thread::Threads;
 
-const FILES: [&str; 7] = [
+const FILES: [&str; 8] = [
     "orders.toml",
     "order_files.toml",
     "plans.toml",
     "drawn.toml",
     "detection.toml",
+    "random.toml",
     "pool.toml",
     "environments.toml",
 ];
 
-fn answer<R: Threads + Sync>(rt: &R, alloc: Global, row: &Row) -> Result<String, RowFault> {
-    let given = Given { alloc, row };
+fn answer<R: Threads + Sync>(rt: &R, clock: &HostRuntime, row: &Row) -> Result<String, RowFault> {
+    let alloc = clock.alloc();
+    let given = Given { alloc, clock, row };
     match told(rt, &given) {
         Ok(told) => Ok(String::from_str(alloc, told.as_str().trim_end())?),
         Err(Fault::Row(fault)) => Err(fault),
@@ -44,6 +48,7 @@ fn answer<R: Threads + Sync>(rt: &R, alloc: Global, row: &Row) -> Result<String,
 fn told<R: Threads + Sync>(rt: &R, given: &Given) -> Result<String, Fault> {
     match given.row.call.as_str() {
         "detect" => detection::choose(rt, given),
+        "detect_random" => alike::compare_orders(rt, given),
         "answer" => detection::judge(given),
         "run_all" => pool::run_jobs(rt, given),
         "round" => pool::round_of_two(given),
@@ -85,6 +90,9 @@ fn told_of_environments(call: &str, given: &Given) -> Result<String, Fault> {
 }
 
 fn main(rt: HostRuntime) -> Result<ExitCode, RowFault> {
-    let alloc = rt.alloc();
-    run(&rt, &FILES, |_, row| answer(&rt, alloc, row))
+    run(
+        &rt,
+        &FILES,
+        |clock: &HostRuntime, row: &Row| answer(&rt, clock, row),
+    )
 }

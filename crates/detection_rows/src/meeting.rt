@@ -1,34 +1,73 @@
-// A spawner whose children wait for others.
+// A spawner whose children wait for others, or take some time.
+use crate::fault::Fault;
+use crate::given::Given;
 use cnb_world::{DetectFault, DetectJob, MemSpawner, Probed, Spawner};
 use std::alloc::Global;
 use std::sync::Arc;
 use std::sync::atomic::AtomicU64;
 use std::sync::atomic::Ordering::SeqCst;
+use std::thread::sleep;
+use std::time::Duration;
 
-/// How often it is looked whether others have begun.
-const TURNS: u32 = 10_000_000;
+/// For how many milliseconds at least a child waits for others, where a row doesn't say: longer than a busy machine takes to
+/// let each thread begin.
+const PATIENCE: u64 = 20_000;
 
 /// Holds the children of some ids until so many have begun, counted over all spawners; it is a counted fault where they
-/// never do.
+/// never do. Then each child takes its time, as a number of reads of the count.
 #[derive(Drop)]
 pub struct Meeting<'a> {
-    pub held: &'a str,
-    pub least: u64,
-    pub begun: Arc<AtomicU64, Global>,
+    clock: &'a HostRuntime,
+    held: &'a str,
+    least: u64,
+    patience: u64,
+    begun: Arc<AtomicU64, Global>,
+    pause: u64,
     pub children: MemSpawner,
-    pub faults: u64,
+    faults: u64,
 }
 
-fn comes_to(count: &AtomicU64, least: u64) -> bool {
-    for _ in 0..TURNS {
+// Whether a count comes to a number while this thread sleeps so many milliseconds.
+fn comes_to(clock: &HostRuntime, count: &AtomicU64, least: u64, patience: u64) -> bool {
+    for _ in 0..patience {
         if count.load(SeqCst) >= least {
             return true;
         }
+        sleep(clock, Duration::from_millis(1));
     }
     false
 }
 
-impl Meeting<'_> {
+fn pass_time(count: &AtomicU64, turns: u64) {
+    for _ in 0..turns {
+        let _count = count.load(SeqCst);
+    }
+}
+
+impl<'a> Meeting<'a> {
+    /// A spawner of these children, which are held as the row says; all that share a count wait for one another.
+    pub(crate) fn new(
+        given: &Given<'a>,
+        begun: &Arc<AtomicU64, Global>,
+        pause: u64,
+        children: MemSpawner,
+    ) -> Result<Meeting<'a>, Fault> {
+        Ok(Meeting {
+            clock: given.clock,
+            held: given.text_or_empty("held"),
+            least: given.number_or("least", 0)?,
+            patience: given.number_or("patience", PATIENCE)?,
+            begun: Arc::try_clone(begun)?,
+            pause,
+            children,
+            faults: 0,
+        })
+    }
+
+    fn meets(&self) -> bool {
+        comes_to(self.clock, &self.begun, self.least, self.patience)
+    }
+
     fn is_held(&self, id: &str) -> bool {
         self.held.split_whitespace().any(|word| word == id)
     }
@@ -43,10 +82,11 @@ impl<'a> Spawner for Meeting<'a> {
 
     fn detect(&mut self, job: &DetectJob) -> Result<Probed, DetectFault> {
         self.begun.fetch_add(1, SeqCst);
-        if self.is_held(job.id.as_str()) && !comes_to(&self.begun, self.least) {
+        if self.is_held(job.id.as_str()) && !self.meets() {
             self.faults = self.faults.saturating_add(1);
             return Err(DetectFault::Failed);
         }
+        pass_time(&self.begun, self.pause);
         match self.children.detect(job) {
             Ok(probed) => Ok(probed),
             Err(DetectFault::Failed) => {

@@ -10,7 +10,7 @@ use order_expand::{Catalog, Member, Walk, check};
 use std::alloc::Global;
 
 /// Adds descriptors to a catalog, one after another.
-pub fn add_all(given: &Given) -> Result<String, Fault> {
+pub(crate) fn add_all(given: &Given) -> Result<String, Fault> {
     let mut catalog = Catalog::new(given.alloc);
     let mut told = String::new(given.alloc);
     for descriptor in descriptors(given)? {
@@ -23,13 +23,13 @@ pub fn add_all(given: &Given) -> Result<String, Fault> {
 }
 
 /// The groups of an order over the row's descriptors.
-pub fn expand(given: &Given) -> Result<String, Fault> {
+pub(crate) fn expand(given: &Given) -> Result<String, Fault> {
     told_order(given, &catalog(given)?)
 }
 
 /// The row's order over a catalog: how many groups it stands for, with these where the call isn't `check`, or why it is
 /// refused.
-pub fn told_order(given: &Given, catalog: &Catalog) -> Result<String, Fault> {
+pub(crate) fn told_order(given: &Given, catalog: &Catalog) -> Result<String, Fault> {
     let order = order(given)?;
     match check(given.alloc, &order, catalog) {
         Ok(number) if given.row.call.as_str() == "check" => {

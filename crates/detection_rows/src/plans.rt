@@ -58,7 +58,7 @@ fn trial(given: &Given) -> Result<Trial, Fault> {
 }
 
 /// The places that a trial keeps, from 0.
-pub fn keep(given: &Given) -> Result<String, Fault> {
+pub(crate) fn keep(given: &Given) -> Result<String, Fault> {
     let trial = trial(given)?;
     if trial.as_slice().len() > MOST {
         return Err(Fault::wrong(given.alloc, "too long:", "group"));
@@ -85,7 +85,7 @@ fn have_options(rows: &[AliveRow]) -> bool
 }
 
 /// The first trial of a group that passes, with the places that it keeps and its plan.
-pub fn first_trial(given: &Given) -> Result<String, Fault> {
+pub(crate) fn first_trial(given: &Given) -> Result<String, Fault> {
     let alive = alive(given)?;
     if alive.as_slice().len() > MOST || !have_options(alive.as_slice()) {
         return Err(Fault::wrong(given.alloc, "no fit group in", "group"));
@@ -105,7 +105,7 @@ fn told(alloc: Global, resolved: &Resolved) -> Result<String, Fault> {
 }
 
 /// Adds each entry of a plan on a line, as `q by a@1.0.0 for b`.
-pub fn push_plan(told: &mut String, plan: &[PlanEntry]) -> Result<(), Fault> {
+pub(crate) fn push_plan(told: &mut String, plan: &[PlanEntry]) -> Result<(), Fault> {
     for entry in plan {
         write!(told, "\n{} by", entry.name.as_str())?;
         for key in entry.providers.as_slice() {
@@ -136,7 +136,7 @@ fn push_need(told: &mut String, need: &Need) -> Result<(), Fault> {
 }
 
 /// Names in ascending order, each once.
-pub fn sort_names(given: &Given) -> Result<String, Fault> {
+pub(crate) fn sort_names(given: &Given) -> Result<String, Fault> {
     let names = given
         .text("names")?
         .split_whitespace()
@@ -149,7 +149,7 @@ pub fn sort_names(given: &Given) -> Result<String, Fault> {
 }
 
 /// Whether a name is among others.
-pub fn find_name(given: &Given) -> Result<String, Fault> {
+pub(crate) fn find_name(given: &Given) -> Result<String, Fault> {
     let mut names = List::new(given.alloc);
     for name in given.text("names")?.split_whitespace() {
         names.push(Text::of(given.alloc, name)?)?;

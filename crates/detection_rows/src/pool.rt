@@ -61,27 +61,21 @@ fn jobs(alloc: Global, count: u32) -> Result<Vec<DetectJob>, Fault> {
 fn spawners<'a>(given: &Given<'a>, jobs: u32) -> Result<Vec<Meeting<'a>>, Fault> {
     let begun = Arc::new(given.alloc, AtomicU64::new(0))?;
     let faulty = given.numbers("faulty")?;
-    let least = given.row.number(given.alloc, "least")?;
     let mut spawners = Vec::new(given.alloc);
     for number in 0..given.count("spawners")? {
         let mut calls = List::new(given.alloc);
         if faulty.as_slice().contains(&u64::from(number)) {
             calls.push(0)?;
         }
-        spawners.push(Meeting {
-            held: given.text("held")?,
-            least,
-            begun: Arc::try_clone(&begun)?,
-            children: MemSpawner::new(given.alloc, replies(given.alloc, jobs)?, calls)?,
-            faults: 0,
-        })?;
+        let children = MemSpawner::new(given.alloc, replies(given.alloc, jobs)?, calls)?;
+        spawners.push(Meeting::new(given, &begun, 0, children)?)?;
     }
     Ok(spawners)
 }
 
 /// What comes of jobs by some workers: the codes, or why not every job has one; the round's word; and how many children the
 /// spawners ran that may be used, and the others.
-pub fn run_jobs<R: Threads + Sync>(rt: &R, given: &Given) -> Result<String, Fault> {
+pub(crate) fn run_jobs<R: Threads + Sync>(rt: &R, given: &Given) -> Result<String, Fault> {
     let count = given.count("jobs")?;
     let workers = given.count("workers")? as usize;
     let jobs = jobs(given.alloc, count)?;
@@ -140,7 +134,7 @@ fn count_runs(spawners: &[Meeting<'_>], from: usize, to: usize) -> usize {
 }
 
 /// A round of two jobs by two workers who end in the other order than they drew, as numbers of jobs and as answers.
-pub fn round_of_two(given: &Given) -> Result<String, Fault> {
+pub(crate) fn round_of_two(given: &Given) -> Result<String, Fault> {
     let mut core = Core::new(given.alloc, 2, 2)?;
     let first = core.step(Event::Draw(1));
     let second = core.step(Event::Draw(0));
@@ -164,7 +158,7 @@ fn code_of(core: &Core, number: u32) -> Option<i32> {
 }
 
 /// The numbers that two passes of a round draw in turn, once more where both draw a job's number, and the word then.
-pub fn draw_tickets(given: &Given) -> Result<String, Fault> {
+pub(crate) fn draw_tickets(given: &Given) -> Result<String, Fault> {
     let (tickets, mut pass) = Tickets::new(given.alloc, given.count("jobs")?, 2)?;
     let mut other = tickets.split(&mut pass, 1);
     let drawn = (tickets.draw(&mut pass), tickets.draw(&mut other));
@@ -189,7 +183,7 @@ fn told_word(told: String, tickets: Tickets, pass: Pass, other: Pass) -> Result<
 }
 
 /// Each job has one answer, whatever the round: the call is a proof and does nothing.
-pub fn one_answer(given: &Given) -> Result<String, Fault> {
+pub(crate) fn one_answer(given: &Given) -> Result<String, Fault> {
     each_job_has_one_answer();
     Ok(String::from_str(given.alloc, "each job has one answer")?)
 }
