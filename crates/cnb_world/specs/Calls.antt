@@ -30,6 +30,12 @@ CountsFailed (Ok value) before now = now ≡ before
 CountsFailed (Err Failed) before now = Rose before now
 CountsFailed (Err Memory) before now = now ≡ before
 
+-- the path whose call failed last: this one, where the call failed
+abbrev pub LastFailed : {T : Type 0} → List ℕ → Result T FileFault → Option (List ℕ) → Option (List ℕ) → Type 0
+LastFailed path (Ok value) before now = now ≡ before
+LastFailed path (Err Failed) before now = now ≡ Some path
+LastFailed path (Err Memory) before now = now ≡ before
+
 -- A call that the tree doesn't allow answers `Failed` and is counted, or memory ran out; no other is counted.
 abbrev pub CountsMisuse : {T : Type 0} → Option Bool → Result T FileFault → ℕ → ℕ → Type 0
 CountsMisuse (Some false) (Ok value) before now = ⊥

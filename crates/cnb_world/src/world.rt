@@ -2,7 +2,7 @@
 ghost use Rattle.std.specs.Prelude.{◌≡◌, ◌≤◌, List as Seq, ℕ, length, take, drop, Option, IfOk, IfSome, OnOk, OnErr, not, false, is_some, ◌++◌, ◌∷◌, []};
 ghost use Rattle.std.specs.Option.{option_map};
 ghost use Rattle.cnb_world.specs.Tree.{Tree, IsTree, item_at, kind_of, bytes_of, can_list, can_read, can_create, can_make_folder, can_make_link, can_read_link, can_rename, created, appended, folder_made, is_root, linked, renamed, target_of, without, Lists};
-ghost use Rattle.cnb_world.specs.Calls.{CountsChild, CountsFailed, CountsMisuse, AreNames, AppendsSome, RemovesSome};
+ghost use Rattle.cnb_world.specs.Calls.{CountsChild, CountsFailed, CountsMisuse, LastFailed, AreNames, AppendsSome, RemovesSome};
 ghost use Rattle.cnb_world.specs.Runs.{Run};
 
 use crate::child::{ChildFault, ChildJob, End};
@@ -73,6 +73,9 @@ pub trait World {
     /// The calls on files that failed.
     ghost file_faults: { Self → ℕ };
 
+    /// The path whose call failed last: of a renaming, the new one.
+    ghost failed_at: { Self → Option (Seq ℕ) };
+
     /// The children that gave no end.
     ghost child_faults: { Self → ℕ };
 
@@ -90,6 +93,7 @@ pub trait World {
         ensures told { IfSome (tree self.old) (λ t. IfOk result (λ k. k ≡ kind_of (item_at t path.now))) }
         ensures tree { tree self.new ≡ tree self.old }
         ensures files { CountsFailed result (file_faults self.old) (file_faults self.new) }
+        ensures at { LastFailed path.now result (failed_at self.old) (failed_at self.new) }
         ensures children { child_faults self.new ≡ child_faults self.old }
         ensures runs { runs self.new ≡ runs self.old }
         ensures misused { misused self.new ≡ misused self.old };
@@ -100,6 +104,7 @@ pub trait World {
         ensures told { IfSome (tree self.old) (λ t. IfOk result (Lists t path.now)) }
         ensures tree { tree self.new ≡ tree self.old }
         ensures files { CountsFailed result (file_faults self.old) (file_faults self.new) }
+        ensures at { LastFailed path.now result (failed_at self.old) (failed_at self.new) }
         ensures children { child_faults self.new ≡ child_faults self.old }
         ensures runs { runs self.new ≡ runs self.old }
         ensures misused { CountsMisuse (option_map (λ t. can_list t path.now) (tree self.old)) result (misused self.old) (misused self.new) };
@@ -110,6 +115,7 @@ pub trait World {
         ensures told { IfSome (tree self.old) (λ t. IfOk result (λ bytes. bytes ≡ take max (drop at (bytes_of (item_at t path.now))))) }
         ensures tree { tree self.new ≡ tree self.old }
         ensures files { CountsFailed result (file_faults self.old) (file_faults self.new) }
+        ensures at { LastFailed path.now result (failed_at self.old) (failed_at self.new) }
         ensures children { child_faults self.new ≡ child_faults self.old }
         ensures runs { runs self.new ≡ runs self.old }
         ensures misused { CountsMisuse (option_map (λ t. can_read t path.now) (tree self.old)) result (misused self.old) (misused self.new) };
@@ -119,6 +125,7 @@ pub trait World {
         ensures ok { OnOk result (tree self.new ≡ option_map (created path.now exec) (tree self.old)) }
         ensures err { OnErr result (tree self.new ≡ tree self.old) }
         ensures files { CountsFailed result (file_faults self.old) (file_faults self.new) }
+        ensures at { LastFailed path.now result (failed_at self.old) (failed_at self.new) }
         ensures children { child_faults self.new ≡ child_faults self.old }
         ensures runs { runs self.new ≡ runs self.old }
         ensures misused { CountsMisuse (option_map (λ t. can_create t path.now) (tree self.old)) result (misused self.old) (misused self.new) };
@@ -128,6 +135,7 @@ pub trait World {
         ensures ok { OnOk result (tree self.new ≡ option_map (appended path.now bytes.now) (tree self.old)) }
         ensures err { OnErr result (AppendsSome (tree self.old) (tree self.new) path.now bytes.now) }
         ensures files { CountsFailed result (file_faults self.old) (file_faults self.new) }
+        ensures at { LastFailed path.now result (failed_at self.old) (failed_at self.new) }
         ensures children { child_faults self.new ≡ child_faults self.old }
         ensures runs { runs self.new ≡ runs self.old }
         ensures misused { CountsMisuse (option_map (λ t. can_read t path.now) (tree self.old)) result (misused self.old) (misused self.new) };
@@ -137,6 +145,7 @@ pub trait World {
         ensures ok { OnOk result (tree self.new ≡ option_map (folder_made path.now) (tree self.old)) }
         ensures err { OnErr result (tree self.new ≡ tree self.old) }
         ensures files { CountsFailed result (file_faults self.old) (file_faults self.new) }
+        ensures at { LastFailed path.now result (failed_at self.old) (failed_at self.new) }
         ensures children { child_faults self.new ≡ child_faults self.old }
         ensures runs { runs self.new ≡ runs self.old }
         ensures misused { CountsMisuse (option_map (λ t. can_make_folder t path.now) (tree self.old)) result (misused self.old) (misused self.new) };
@@ -146,6 +155,7 @@ pub trait World {
         ensures ok { OnOk result (tree self.new ≡ option_map (renamed old.now new.now) (tree self.old)) }
         ensures err { OnErr result (tree self.new ≡ tree self.old) }
         ensures files { CountsFailed result (file_faults self.old) (file_faults self.new) }
+        ensures at { LastFailed new.now result (failed_at self.old) (failed_at self.new) }
         ensures children { child_faults self.new ≡ child_faults self.old }
         ensures runs { runs self.new ≡ runs self.old }
         ensures misused { CountsMisuse (option_map (λ t. can_rename t old.now new.now) (tree self.old)) result (misused self.old) (misused self.new) };
@@ -155,6 +165,7 @@ pub trait World {
         ensures ok { OnOk result (tree self.new ≡ option_map (linked path.now target.now) (tree self.old)) }
         ensures err { OnErr result (tree self.new ≡ tree self.old) }
         ensures files { CountsFailed result (file_faults self.old) (file_faults self.new) }
+        ensures at { LastFailed path.now result (failed_at self.old) (failed_at self.new) }
         ensures children { child_faults self.new ≡ child_faults self.old }
         ensures runs { runs self.new ≡ runs self.old }
         ensures misused { CountsMisuse (option_map (λ t. can_make_link t path.now) (tree self.old)) result (misused self.old) (misused self.new) };
@@ -164,6 +175,7 @@ pub trait World {
         ensures told { IfSome (tree self.old) (λ t. IfOk result (λ target. target ≡ target_of (item_at t path.now))) }
         ensures tree { tree self.new ≡ tree self.old }
         ensures files { CountsFailed result (file_faults self.old) (file_faults self.new) }
+        ensures at { LastFailed path.now result (failed_at self.old) (failed_at self.new) }
         ensures children { child_faults self.new ≡ child_faults self.old }
         ensures runs { runs self.new ≡ runs self.old }
         ensures misused { CountsMisuse (option_map (λ t. can_read_link t path.now) (tree self.old)) result (misused self.old) (misused self.new) };
@@ -173,6 +185,7 @@ pub trait World {
         ensures ok { OnOk result (tree self.new ≡ option_map (without path.now) (tree self.old)) }
         ensures err { OnErr result (RemovesSome (tree self.old) (tree self.new) path.now) }
         ensures files { CountsFailed result (file_faults self.old) (file_faults self.new) }
+        ensures at { LastFailed path.now result (failed_at self.old) (failed_at self.new) }
         ensures children { child_faults self.new ≡ child_faults self.old }
         ensures runs { runs self.new ≡ runs self.old }
         ensures misused { CountsMisuse (option_map (λ _. not (is_root path.now)) (tree self.old)) result (misused self.old) (misused self.new) };
@@ -186,6 +199,7 @@ pub trait World {
         ensures err { OnErr result (runs self.new ≡ runs self.old) }
         ensures err_tree { OnErr result (tree self.new ≡ tree self.old) }
         ensures files { file_faults self.new ≡ file_faults self.old }
+        ensures at { failed_at self.new ≡ failed_at self.old }
         ensures children { CountsChild result (child_faults self.old) (child_faults self.new) }
         ensures misused { misused self.new ≡ misused self.old };
 }

@@ -1,8 +1,8 @@
 // A world in memory, with the calls that fail.
-ghost use Rattle.std.specs.Prelude.{◌≡◌, ◌&&◌, ◌<◌, Some, [], IfOk, IfSome, length, map};
+ghost use Rattle.std.specs.Prelude.{◌≡◌, ◌<◌, None, Some, [], IfOk, IfSome, length, map};
 ghost use Rattle.std.specs.FinMap.{empty};
 ghost use Rattle.cnb_world.specs.Tree.{IsTree, can_create, can_make_link, can_rename};
-ghost use Rattle.cnb_world.specs.Calls.{Rose};
+ghost use Rattle.cnb_world.specs.Calls.{CountsFailed, CountsMisuse, LastFailed, Rose};
 ghost use Rattle.cnb_world.specs.Memory.{tree_of, all_placed, end_of_run, row_of, runs_of};
 
 use crate::child::{ChildFault, ChildJob, End};
@@ -22,6 +22,7 @@ pub struct MemWorld {
     script: Vec<Play>,
     numbers: Numbers,
     file_faults: u64,
+    failed_at: Option<Path>,
     child_faults: u64,
     misused: u64,
     ghost standing: { IsTree (tree_of changes.list.items) },
@@ -38,6 +39,7 @@ impl MemWorld {
         ensures tree { IfOk result (λ world. ⟦<MemWorld as World>⟧.tree world ≡ Some (all_placed items empty)) }
         ensures runs { IfOk result (λ world. ⟦<MemWorld as World>⟧.runs world ≡ []) }
         ensures files { IfOk result (λ world. ⟦<MemWorld as World>⟧.file_faults world ≡ 0) }
+        ensures at { IfOk result (λ world. ⟦<MemWorld as World>⟧.failed_at world ≡ None) }
         ensures children { IfOk result (λ world. ⟦<MemWorld as World>⟧.child_faults world ≡ 0) }
         ensures misused { IfOk result (λ world. ⟦<MemWorld as World>⟧.misused world ≡ 0) }
     {
@@ -49,6 +51,7 @@ impl MemWorld {
             script: script.into_vec(),
             numbers: Numbers::new(faulty),
             file_faults: 0,
+            failed_at: None,
             child_faults: 0,
             misused: 0,
         })
@@ -61,29 +64,25 @@ impl MemWorld {
         self.changes.runs()
     }
 
-    // Counts a fault of the outside.
-    fn fault(&mut self) -> FileFault
-        ensures fault { result ≡ FileFault.Failed }
+    // Takes the number of a call on files. It fails, and is counted, where its path is of the wrong kind or its number is
+    // among those that fail.
+    fn begin(&mut self, path: &Path, fits: bool) -> Result<(), FileFault>
         ensures changes { self.new.changes ≡ self.old.changes }
         ensures children { self.new.child_faults ≡ self.old.child_faults }
-        ensures misused { self.new.misused ≡ self.old.misused }
-        ensures files { Rose self.old.file_faults self.new.file_faults }
+        ensures files { CountsFailed result self.old.file_faults self.new.file_faults }
+        ensures at { LastFailed path.now result self.old.failed_at self.new.failed_at }
+        ensures misused { CountsMisuse (Some fits) result self.old.misused self.new.misused }
     {
+        let is_faulty = self.numbers.is_next_faulty();
+        if fits && !is_faulty {
+            return Ok(());
+        }
+        self.failed_at = Some(path.copy(self.alloc)?);
         self.file_faults = raised(self.file_faults);
-        FileFault::Failed
-    }
-
-    // Counts a call on a path of the wrong kind.
-    fn misuse(&mut self) -> FileFault
-        ensures fault { result ≡ FileFault.Failed }
-        ensures changes { self.new.changes ≡ self.old.changes }
-        ensures children { self.new.child_faults ≡ self.old.child_faults }
-        ensures misused { Rose self.old.misused self.new.misused }
-        ensures files { Rose self.old.file_faults self.new.file_faults }
-    {
-        self.file_faults = raised(self.file_faults);
-        self.misused = raised(self.misused);
-        FileFault::Failed
+        if !fits {
+            self.misused = raised(self.misused);
+        }
+        Err(FileFault::Failed)
     }
 
     // Counts a child that gave no end.
@@ -91,6 +90,7 @@ impl MemWorld {
         ensures fault { result ≡ ChildFault.Failed }
         ensures changes { self.new.changes ≡ self.old.changes }
         ensures files { self.new.file_faults ≡ self.old.file_faults }
+        ensures at { self.new.failed_at ≡ self.old.failed_at }
         ensures misused { self.new.misused ≡ self.old.misused }
         ensures children { Rose self.old.child_faults self.new.child_faults }
     {
@@ -124,6 +124,8 @@ impl World for MemWorld {
 
     ghost file_faults = { λ w. w.file_faults };
 
+    ghost failed_at = { λ w. w.failed_at };
+
     ghost child_faults = { λ w. w.child_faults };
 
     ghost misused = { λ w. w.misused };
@@ -133,43 +135,26 @@ impl World for MemWorld {
     ghost standing = { λ w. w.standing };
 
     fn kind(&mut self, path: &Path) -> Result<Kind, FileFault> {
-        if self.numbers.is_next_faulty() {
-            return Err(self.fault());
-        }
+        self.begin(path, true)?;
         Ok(self.changes.kind(path.as_str()))
     }
 
     fn list(&mut self, path: &Path) -> Result<List<Text>, FileFault> {
-        let is_faulty = self.numbers.is_next_faulty();
-        if !self.changes.is_folder(path.as_str()) {
-            return Err(self.misuse());
-        }
-        if is_faulty {
-            return Err(self.fault());
-        }
+        let fits = self.changes.is_folder(path.as_str());
+        self.begin(path, fits)?;
         Ok(List::from_vec(self.changes.names(path.as_str())?))
     }
 
     fn read(&mut self, path: &Path, at: u64, max: u64) -> Result<Bytes, FileFault> {
-        let is_faulty = self.numbers.is_next_faulty();
-        if !self.changes.is_file(path.as_str()) {
-            return Err(self.misuse());
-        }
-        if is_faulty {
-            return Err(self.fault());
-        }
+        let fits = self.changes.is_file(path.as_str());
+        self.begin(path, fits)?;
         Ok(self.changes.read(path.as_str(), at, max)?)
     }
 
     #[tactic(auto, using(crate::proofs::Standing::keeps))]
     fn create(&mut self, path: &Path, exec: bool) -> Result<(), FileFault> {
-        let is_faulty = self.numbers.is_next_faulty();
-        if !self.can_create(path.as_str()) {
-            return Err(self.misuse());
-        }
-        if is_faulty {
-            return Err(self.fault());
-        }
+        let fits = self.can_create(path.as_str());
+        self.begin(path, fits)?;
         let bytes = Bytes::from_vec(Vec::new(self.alloc));
         self.changes.set(path.as_str(), Item::File { exec, bytes })?;
         Ok(())
@@ -177,77 +162,47 @@ impl World for MemWorld {
 
     #[tactic(auto, using(crate::proofs::Standing::keeps))]
     fn append(&mut self, path: &Path, bytes: &[u8]) -> Result<(), FileFault> {
-        let is_faulty = self.numbers.is_next_faulty();
-        if !self.changes.is_file(path.as_str()) {
-            return Err(self.misuse());
-        }
-        if is_faulty {
-            return Err(self.fault());
-        }
+        let fits = self.changes.is_file(path.as_str());
+        self.begin(path, fits)?;
         self.changes.append(path.as_str(), bytes)?;
         Ok(())
     }
 
     #[tactic(auto, using(crate::proofs::Standing::keeps))]
     fn make_folder(&mut self, path: &Path) -> Result<(), FileFault> {
-        let is_faulty = self.numbers.is_next_faulty();
-        if !self.changes.can_make_folder(path.as_str()) {
-            return Err(self.misuse());
-        }
-        if is_faulty {
-            return Err(self.fault());
-        }
+        let fits = self.changes.can_make_folder(path.as_str());
+        self.begin(path, fits)?;
         self.changes.make_folder(path.as_str())?;
         Ok(())
     }
 
     #[tactic(auto, using(crate::proofs::Standing::keeps))]
     fn rename(&mut self, old: &Path, new: &Path) -> Result<(), FileFault> {
-        let is_faulty = self.numbers.is_next_faulty();
-        if !self.can_rename(old.as_str(), new.as_str()) {
-            return Err(self.misuse());
-        }
-        if is_faulty {
-            return Err(self.fault());
-        }
+        let fits = self.can_rename(old.as_str(), new.as_str());
+        self.begin(new, fits)?;
         self.changes.rename(old.as_str(), new.as_str())?;
         Ok(())
     }
 
     #[tactic(auto, using(crate::proofs::Standing::keeps))]
     fn make_link(&mut self, path: &Path, target: &str) -> Result<(), FileFault> {
-        let is_faulty = self.numbers.is_next_faulty();
-        if !self.can_make_link(path.as_str()) {
-            return Err(self.misuse());
-        }
-        if is_faulty {
-            return Err(self.fault());
-        }
+        let fits = self.can_make_link(path.as_str());
+        self.begin(path, fits)?;
         let target = Text::of(self.alloc, target)?;
         self.changes.set(path.as_str(), Item::Link { target })?;
         Ok(())
     }
 
     fn read_link(&mut self, path: &Path) -> Result<Text, FileFault> {
-        let is_faulty = self.numbers.is_next_faulty();
-        if !self.changes.is_link(path.as_str()) {
-            return Err(self.misuse());
-        }
-        if is_faulty {
-            return Err(self.fault());
-        }
+        let fits = self.changes.is_link(path.as_str());
+        self.begin(path, fits)?;
         Ok(self.changes.link_target(path.as_str())?)
     }
 
     #[tactic(auto, using(crate::proofs::Standing::keeps))]
     fn remove(&mut self, path: &Path) -> Result<(), FileFault> {
-        let is_faulty = self.numbers.is_next_faulty();
-        if path.as_str() == "/" {
-            return Err(self.misuse());
-        }
-        if is_faulty {
-            return Err(self.fault());
-        }
+        let fits = path.as_str() != "/";
+        self.begin(path, fits)?;
         self.changes.empty(path.as_str())?;
         Ok(())
     }
