@@ -1,5 +1,5 @@
 -- A world over the files and programs of the system.
-use Rattle.std.specs.Prelude.{ℕ, List, map, None}
+use Rattle.std.specs.Prelude.{ℕ, List, map, Option, None}
 use Rattle.cnb_world.specs.Runs.{Run}
 use Rattle.cnb_world.specs.declared.child.ChildJob.{ChildJob}
 use Rattle.cnb_world.specs.declared.child.End.{End}
@@ -9,10 +9,11 @@ pub record Ended : Type 0 where
   pub job : ChildJob
   pub end : End
 
--- the children that ended, in order, and the counts of the calls that failed
+-- the children that ended, in order, the counts of the calls that failed, and the path of the call on files that failed last
 pub record System : Type 0 where
   pub runs : List Ended
   pub file_faults : ℕ
+  pub failed_at : Option (List ℕ)
   pub child_faults : ℕ
 
 -- what the child found and left isn't told

@@ -1,7 +1,7 @@
 // Files and children of the system as a world.
 ghost use Rattle.std.specs.Prelude.{◌≡◌, ◌≤◌, ◌++◌, ◌∷◌, [], None, false, IfOk, OnErr, length};
 ghost use Rattle.std.specs.Result.{result_ok};
-ghost use Rattle.cnb_world.specs.Calls.{CountsChild, CountsFailed};
+ghost use Rattle.cnb_world.specs.Calls.{CountsChild, CountsFailed, LastFailed};
 ghost use Rattle.cnb_host.specs.System.{runs_of};
 
 use crate::command::child_command;
@@ -25,6 +25,7 @@ pub struct HostWorld<R: Files + Processes + AllocGlobal + Clone + Drop> {
     kept: KeptFile<R>,
     runs: Vec<Row>,
     file_faults: u64,
+    failed_at: Option<Path>,
     child_faults: u64,
 }
 
@@ -48,13 +49,14 @@ impl<R: Files + Processes + AllocGlobal + Clone + Drop> Model for HostWorld<R> {
 
     ghost Value = { System };
 
-    ghost view = { λ world. record { runs = world.runs.items; file_faults = world.file_faults; child_faults = world.child_faults } };
+    ghost view = { λ world. record { runs = world.runs.items; file_faults = world.file_faults; failed_at = world.failed_at; child_faults = world.child_faults } };
 }
 
 impl<R: Files + Processes + AllocGlobal + Clone + Drop> HostWorld<R> {
     pub fn new(rt: R) -> HostWorld<R>
         ensures runs { result.runs ≡ [] }
         ensures files { result.file_faults ≡ 0 }
+        ensures at { result.failed_at ≡ None }
         ensures children { result.child_faults ≡ 0 }
     {
         let runs = Vec::new(rt.alloc());
@@ -63,19 +65,22 @@ impl<R: Files + Processes + AllocGlobal + Clone + Drop> HostWorld<R> {
             kept: KeptFile::none(),
             runs,
             file_faults: 0,
+            failed_at: None,
             child_faults: 0,
         }
     }
 
-    fn counted<T>(&mut self, outcome: Result<T, HostFault>) -> Result<T, FileFault>
+    fn counted<T>(&mut self, path: &Path, outcome: Result<T, HostFault>) -> Result<T, FileFault>
         ensures value { result_ok result ≡ result_ok outcome }
         ensures files { CountsFailed result self.old.file_faults self.new.file_faults }
+        ensures at { LastFailed path.now result self.old.failed_at self.new.failed_at }
         ensures children { self.new.child_faults ≡ self.old.child_faults }
         ensures runs { self.new.runs ≡ self.old.runs }
     {
         match outcome {
             Ok(value) => Ok(value),
             Err(HostFault::Failed) => {
+                self.failed_at = Some(path.copy(self.rt.alloc())?);
                 self.file_faults = self.file_faults.saturating_add(1);
                 Err(FileFault::Failed)
             }
@@ -87,6 +92,7 @@ impl<R: Files + Processes + AllocGlobal + Clone + Drop> HostWorld<R> {
         ensures value { result_ok result ≡ result_ok outcome }
         ensures children { CountsChild result self.old.child_faults self.new.child_faults }
         ensures files { self.new.file_faults ≡ self.old.file_faults }
+        ensures at { self.new.failed_at ≡ self.old.failed_at }
         ensures runs { self.new.runs ≡ self.old.runs }
     {
         match outcome {
@@ -108,6 +114,7 @@ impl<R: Files + Processes + AllocGlobal + Clone + Drop> HostWorld<R> {
         ensures side { job.now.side ≡ false → IfOk result (λ end. end.side ≡ []) }
         ensures err { OnErr result (self.new.runs ≡ self.old.runs) }
         ensures files { self.new.file_faults ≡ self.old.file_faults }
+        ensures at { self.new.failed_at ≡ self.old.failed_at }
         ensures children { self.new.child_faults ≡ self.old.child_faults }
     {
         let alloc = self.rt.alloc();
@@ -131,6 +138,8 @@ where
 
     ghost file_faults = { λ world. world.file_faults };
 
+    ghost failed_at = { λ world. world.failed_at };
+
     ghost child_faults = { λ world. world.child_faults };
 
     ghost misused = { λ _. 0 };
@@ -141,53 +150,53 @@ where
 
     fn kind(&mut self, path: &Path) -> Result<Kind, FileFault> {
         let kind = kind_at(&self.rt, path.as_str());
-        self.counted(kind)
+        self.counted(path, kind)
     }
 
     fn list(&mut self, path: &Path) -> Result<List<Text>, FileFault> {
         let names = names_in(&self.rt, path.as_str());
-        self.counted(names)
+        self.counted(path, names)
     }
 
     fn read(&mut self, path: &Path, at: u64, max: u64) -> Result<Bytes, FileFault> {
         let bytes = read_part(&self.rt, self.rt.alloc(), path.as_str(), at, max);
-        self.counted(bytes)
+        self.counted(path, bytes)
     }
 
     fn create(&mut self, path: &Path, exec: bool) -> Result<(), FileFault> {
         let created = self.kept.create(&self.rt, self.rt.alloc(), path, exec);
-        self.counted(created)
+        self.counted(path, created)
     }
 
     fn append(&mut self, path: &Path, bytes: &[u8]) -> Result<(), FileFault> {
         let appended = self.kept.append(&self.rt, path, bytes);
-        self.counted(appended)
+        self.counted(path, appended)
     }
 
     fn make_folder(&mut self, path: &Path) -> Result<(), FileFault> {
         let made = make_folders(&self.rt, path.as_str());
-        self.counted(made)
+        self.counted(path, made)
     }
 
     fn rename(&mut self, old: &Path, new: &Path) -> Result<(), FileFault> {
         let renamed = self.kept.rename(&self.rt, old, new);
-        self.counted(renamed)
+        self.counted(new, renamed)
     }
 
     fn make_link(&mut self, path: &Path, target: &str) -> Result<(), FileFault> {
         let made = make_link_at(&self.rt, path.as_str(), target);
-        self.counted(made)
+        self.counted(path, made)
     }
 
     fn read_link(&mut self, path: &Path) -> Result<Text, FileFault> {
         let target = link_target(&self.rt, path.as_str());
-        self.counted(target)
+        self.counted(path, target)
     }
 
     fn remove(&mut self, path: &Path) -> Result<(), FileFault> {
         self.kept.close();
         let removed = remove_at(&self.rt, path.as_str());
-        self.counted(removed)
+        self.counted(path, removed)
     }
 
     fn run(&mut self, job: &ChildJob) -> Result<End, ChildFault> {
