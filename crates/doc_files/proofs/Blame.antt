@@ -1,17 +1,18 @@
 -- Which path a fault names, after one step and another.
-use Rattle.std.proofs.Common.{◌≡◌, subst, ℕ, List, Result, Err}
+use Rattle.std.proofs.Common.{◌≡◌, ◌∙◌, ap, sym, subst, ℕ, List, Option, Some, Result, Err}
+use Rattle.cnb_world.specs.Calls.{LastFailed}
 use Rattle.cnb_world.specs.declared.world.FileFault.{FileFault}
 use Rattle.cnb_world.specs.declared.world.FileFault.TheVariants as file_fault
-use Rattle.doc_files.specs.Reading.{Blames, BlamesOne, BlamesOnly, FailsAt, Reads}
+use Rattle.doc_files.specs.Reading.{Blames, BlamesOne, BlamesOnly, FailsAt, NamesFailed, Reads}
 use Rattle.doc_files.specs.declared.fault.ReadFault.{ReadFault}
 use Rattle.doc_files.specs.declared.fault.ReadFault.TheVariants.{File, Document, Limit, Memory}
 
 -- one of some is one of more
-pub blames_more : (Some More : List ℕ → Type 0) → ((path : List ℕ) → Some path → More path) → (fault : ReadFault) → BlamesOne Some fault → BlamesOne More fault
-blames_more Some More grow (File path) h = grow path h
-blames_more Some More grow (Document path fault) h = grow path h
-blames_more Some More grow (Limit kind) h = tt
-blames_more Some More grow Memory h = tt
+pub blames_more : (Few More : List ℕ → Type 0) → ((path : List ℕ) → Few path → More path) → (fault : ReadFault) → BlamesOne Few fault → BlamesOne More fault
+blames_more Few More grow (File path) h = grow path h
+blames_more Few More grow (Document path fault) h = grow path h
+blames_more Few More grow (Limit kind) h = tt
+blames_more Few More grow Memory h = tt
 
 -- a call that failed names its path
 pub fails_among : (path : List ℕ) (Among : List ℕ → Type 0) → ((blamed : List ℕ) → blamed ≡ path → Among blamed) → (fault : ReadFault) → FailsAt path fault → BlamesOne Among fault
@@ -40,3 +41,11 @@ blames_among path Among is file_fault.Memory (Limit kind) h = absurd h
 -- two spellings of one path
 pub blames_same : (path other : List ℕ) → path ≡ other → (fault : ReadFault) → BlamesOnly path fault → BlamesOnly other fault
 blames_same path other same fault h = subst (λ p. BlamesOnly p fault) same h
+
+-- the path of a call that failed is that of the last one
+pub blamed_last : (T : Type 0) (path : List ℕ) (fault : FileFault) (refusal : ReadFault) (before now : Option (List ℕ)) → LastFailed {T = T} path (Err fault) before now → Blames path fault refusal → NamesFailed now refusal
+blamed_last T path fault Memory before now last h = tt
+blamed_last T path file_fault.Failed (File blamed) before now last h = last ∙ ap Some (sym h)
+blamed_last T path file_fault.Memory (File blamed) before now last h = absurd h
+blamed_last T path fault (Document blamed why) before now last h = tt
+blamed_last T path fault (Limit kind) before now last h = tt

@@ -38,6 +38,13 @@ FailsAt path Memory = Unit {0}
 FailsAt path (Document blamed fault) = ⊥
 FailsAt path (Limit kind) = ⊥
 
+-- `File` has the path of the call that failed last
+abbrev pub NamesFailed : Option (List ℕ) → ReadFault → Type 0
+NamesFailed last (File path) = last ≡ Some path
+NamesFailed last (Document path fault) = Unit {0}
+NamesFailed last (Limit kind) = Unit {0}
+NamesFailed last Memory = Unit {0}
+
 -- a fault that names a path names one of these
 abbrev pub BlamesOne : (List ℕ → Type 0) → ReadFault → Type 0
 BlamesOne Among (File blamed) = Among blamed

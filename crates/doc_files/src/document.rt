@@ -4,7 +4,7 @@ ghost use Rattle.std.specs.Option.{option_map};
 ghost use Rattle.cnb_world.specs.Calls.{MayMisuse};
 ghost use Rattle.cnb_world.specs.Tree.{is_file_or_absent, item_at};
 ghost use Rattle.doc_files.specs.Counts.{CountsFiles};
-ghost use Rattle.doc_files.specs.Reading.{BlamesOnly, Reads, document_at};
+ghost use Rattle.doc_files.specs.Reading.{BlamesOnly, NamesFailed, Reads, document_at};
 
 use crate::fault::{ReadFault, blamed};
 use cnb_world::{Bytes, LimitKind, Path, Whole, World, read_whole};
@@ -14,6 +14,7 @@ use std::alloc::Global;
 const LONGEST_DOCUMENT: u64 = 1048576;
 
 /// The bytes of the document at a path, where one is there. What is neither a file nor absent can't be read: `File`.
+#[tactic(auto, using(crate::proofs::Blame::blamed_last))]
 pub fn read_document<W: World>(
     alloc: Global,
     world: &mut W,
@@ -21,6 +22,7 @@ pub fn read_document<W: World>(
 ) -> Result<Option<Bytes>, ReadFault>
     ensures reads { IfSome (W.tree world.old) (λ files. Reads result (document_at files path.now)) }
     ensures blames { IfErr result (BlamesOnly path.now) }
+    ensures cause { IfErr result (NamesFailed (W.failed_at world.new)) }
     ensures tree { W.tree world.new ≡ W.tree world.old }
     ensures files { CountsFiles result (W.file_faults world.old) (W.file_faults world.new) }
     ensures children { W.child_faults world.new ≡ W.child_faults world.old }
