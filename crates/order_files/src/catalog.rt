@@ -7,7 +7,7 @@ ghost use Rattle.cnb_world.specs.Path.{is_part, joined};
 ghost use Rattle.order_files.specs.Catalog.{IsOfCatalog, IsOfId, buildpack_in, buildpacks_in, catalog_in, followed_by, is_fit_buildpack, is_fit_catalog};
 ghost use Rattle.doc_files.specs.Counts.{CountsFiles};
 ghost use Rattle.order_files.specs.Places.{KeepsOtherIds, has_place};
-ghost use Rattle.doc_files.specs.Reading.{BlamesOne, Reads};
+ghost use Rattle.doc_files.specs.Reading.{BlamesOne, NamesFailed, Reads};
 
 use crate::version::with_versions;
 use cnb_world::{Path, Text, World};
@@ -31,6 +31,7 @@ fn with_buildpack<W: World>(
         (λ files. Reads result (followed_by (Ok catalog) (buildpack_in files buildpacks.now id_folder.now))) }
     ensures blames { IfErr result (BlamesOne (IsOfId (joined buildpacks.now id_folder.now))) }
     ensures others { IfOk result (KeepsOtherIds id_folder.now catalog) }
+    ensures cause { IfErr result (NamesFailed (W.failed_at world.new)) }
     ensures tree { W.tree world.new ≡ W.tree world.old }
     ensures files { CountsFiles result (W.file_faults world.old) (W.file_faults world.new) }
     ensures children { W.child_faults world.new ≡ W.child_faults world.old }
@@ -67,6 +68,7 @@ fn read_buildpacks<W: World>(
     ensures reads { IfSome (W.tree world.old) (λ files.
         Reads result (buildpacks_in files buildpacks.now id_folders.now)) }
     ensures blames { IfErr result (BlamesOne (IsOfCatalog buildpacks.now)) }
+    ensures cause { IfErr result (NamesFailed (W.failed_at world.new)) }
     ensures tree { W.tree world.new ≡ W.tree world.old }
     ensures files { CountsFiles result (W.file_faults world.old) (W.file_faults world.new) }
     ensures children { W.child_faults world.new ≡ W.child_faults world.old }
@@ -92,6 +94,7 @@ pub fn read_catalog<W: World>(
     requires { length buildpacks.now ≤ 4096 }
     ensures reads { IfSome (W.tree world.old) (λ files. Reads result (catalog_in buildpacks.now files)) }
     ensures blames { IfErr result (BlamesOne (IsOfCatalog buildpacks.now)) }
+    ensures cause { IfErr result (NamesFailed (W.failed_at world.new)) }
     ensures tree { W.tree world.new ≡ W.tree world.old }
     ensures files { CountsFiles result (W.file_faults world.old) (W.file_faults world.new) }
     ensures children { W.child_faults world.new ≡ W.child_faults world.old }

@@ -5,7 +5,7 @@ ghost use Rattle.cnb_world.specs.Calls.{MayMisuse};
 ghost use Rattle.doc_files.specs.Counts.{CountsFiles};
 ghost use Rattle.order_files.specs.Descriptor.{described, descriptor_at, descriptor_path, is_fit_descriptor, with_folder_names};
 ghost use Rattle.order_files.specs.Places.{BelongsTo, IsPlaced};
-ghost use Rattle.doc_files.specs.Reading.{BlamesOnly, Reads};
+ghost use Rattle.doc_files.specs.Reading.{BlamesOnly, NamesFailed, Reads};
 
 use bp_docs::{Descriptor, read_buildpack};
 use cnb_toml::DocFault;
@@ -75,6 +75,7 @@ pub(crate) fn read_descriptor<W: World>(
         Reads result (descriptor_at files folder.now id_folder.now version.now)) }
     ensures blames { IfErr result (BlamesOnly (descriptor_path folder.now)) }
     ensures placed { IfOk result (IsPlaced id_folder.now version.now) }
+    ensures cause { IfErr result (NamesFailed (W.failed_at world.new)) }
     ensures tree { W.tree world.new ≡ W.tree world.old }
     ensures files { CountsFiles result (W.file_faults world.old) (W.file_faults world.new) }
     ensures children { W.child_faults world.new ≡ W.child_faults world.old }

@@ -4,7 +4,7 @@ ghost use Rattle.std.specs.Option.{option_map};
 ghost use Rattle.cnb_world.specs.Calls.{MayMisuse};
 ghost use Rattle.doc_files.specs.Counts.{CountsFiles};
 ghost use Rattle.order_files.specs.OrderFile.{is_fit_order_file, order_file_in, order_of};
-ghost use Rattle.doc_files.specs.Reading.{BlamesOnly, Reads};
+ghost use Rattle.doc_files.specs.Reading.{BlamesOnly, NamesFailed, Reads};
 
 use bp_docs::{Order, read_order};
 use cnb_toml::DocFault;
@@ -36,6 +36,7 @@ pub fn read_order_file<W: World>(
 ) -> Result<Order, ReadFault>
     ensures reads { IfSome (W.tree world.old) (λ files. Reads result (order_file_in path.now files)) }
     ensures blames { IfErr result (BlamesOnly path.now) }
+    ensures cause { IfErr result (NamesFailed (W.failed_at world.new)) }
     ensures tree { W.tree world.new ≡ W.tree world.old }
     ensures files { CountsFiles result (W.file_faults world.old) (W.file_faults world.new) }
     ensures children { W.child_faults world.new ≡ W.child_faults world.old }

@@ -6,7 +6,7 @@ ghost use Rattle.cnb_world.specs.Path.{is_part, joined};
 ghost use Rattle.order_files.specs.Catalog.{IsOfId, IsOfVersion, are_fit_versions, followed_by, is_fit_version, listed, version_in, versions_in};
 ghost use Rattle.doc_files.specs.Counts.{CountsFiles};
 ghost use Rattle.order_files.specs.Places.{IsPlaced, KeepsOtherIds, KeepsOthers, has_place};
-ghost use Rattle.doc_files.specs.Reading.{BlamesOne, Reads};
+ghost use Rattle.doc_files.specs.Reading.{BlamesOne, NamesFailed, Reads};
 
 use crate::descriptor::read_descriptor;
 use bp_docs::Descriptor;
@@ -54,6 +54,7 @@ fn with_version<W: World>(
         (λ files. Reads result (followed_by (Ok catalog) (version_in files folder.now id_folder.now version.now))) }
     ensures blames { IfErr result (BlamesOne (IsOfVersion (joined folder.now version.now))) }
     ensures others { IfOk result (KeepsOthers id_folder.now version.now catalog) }
+    ensures cause { IfErr result (NamesFailed (W.failed_at world.new)) }
     ensures tree { W.tree world.new ≡ W.tree world.old }
     ensures files { CountsFiles result (W.file_faults world.old) (W.file_faults world.new) }
     ensures children { W.child_faults world.new ≡ W.child_faults world.old }
@@ -86,6 +87,7 @@ pub(crate) fn with_versions<W: World>(
         (λ files. Reads result (followed_by (Ok catalog) (versions_in files folder.now id_folder.now versions.now))) }
     ensures blames { IfErr result (BlamesOne (IsOfId folder.now)) }
     ensures others { IfOk result (KeepsOtherIds id_folder.now catalog) }
+    ensures cause { IfErr result (NamesFailed (W.failed_at world.new)) }
     ensures tree { W.tree world.new ≡ W.tree world.old }
     ensures files { CountsFiles result (W.file_faults world.old) (W.file_faults world.new) }
     ensures children { W.child_faults world.new ≡ W.child_faults world.old }

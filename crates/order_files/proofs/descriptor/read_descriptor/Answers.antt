@@ -6,6 +6,7 @@ use Rattle.doc_files.specs.Reading.{document_at}
 use Rattle.order_files.proofs.FolderSteps.{descriptor_fits, descriptor_from, descriptor_refused_from}
 use Rattle.doc_files.specs.Reading.{is_free}
 use Rattle.cnb_world.proofs.Steps.{refused, stepped_alone, stepped_refused}
+use Rattle.doc_files.proofs.Counts.{names_none}
 use Rattle.order_files.proofs.descriptor.read_descriptor.Goals as goal
 
 pub returns-in_err-found-clause-reads : goal.returns-in_err-found-clause-reads
@@ -36,3 +37,8 @@ returns-clause-reads g c =
 
 pub returns-clause-misused : goal.returns-clause-misused
 returns-clause-misused g c = descriptor_fits c.args.folder.now c.args.id_folder.now c.args.version.now c.in_ok-path.path c.in_ok-path.ensures.0 _ _ _ c.in_ok-found.ensures.misused
+
+pub returns-in_err-descriptor-clause-cause : goal.returns-in_err-descriptor-clause-cause
+returns-in_err-descriptor-clause-cause g c =
+    let exit = err_from_is_err_and c.from_residual-in_err-descriptor.result c.from_residual-in_err-descriptor.ensures.1 in
+    rw (exit.1, exit.2) (names_none _ _ c.in_err-descriptor.ensures.files)
