@@ -11,7 +11,7 @@ use Rattle.cnb_world.proofs.Folders.{not_longer}
 use Rattle.cnb_world.proofs.Joins.{path_beside_file}
 use Rattle.cnb_toml.specs.Names.{is_layer_name, is_reserved_layer}
 use Rattle.cnb_env.specs.Layers.{AreShort, IsShort}
-use Rattle.cnb_env.proofs.Lengths.{length_joined, part_within}
+use Rattle.cnb_world.proofs.Lengths.{length_joined, part_within}
 use Rattle.cnb_env.proofs.PlanNameLemmas.{long_part, part_bytes}
 
 -- the folder of a buildpack's layers

@@ -33,7 +33,7 @@ fn layers_folder(alloc: Global, frame: &BuildFrame, key: &Key) -> Result<Path, M
     frame.layers.below(alloc, name.as_str())
 }
 
-#[tactic(auto, using(crate::proofs::PlaceLemmas::beside_plan, crate::proofs::PlaceLemmas::no_root, cnb_env::proofs::Lengths::length_joined))]
+#[tactic(auto, using(crate::proofs::PlaceLemmas::beside_plan, crate::proofs::PlaceLemmas::no_root, cnb_world::proofs::Lengths::length_joined))]
 fn plan_path(alloc: Global, frame: &BuildFrame, key: &Key) -> Result<Path, Memory>
     requires { KeepsLimits frame.now }
     ensures path { IfOk result (λ path. path ≡ plan_path frame.now key.now) }

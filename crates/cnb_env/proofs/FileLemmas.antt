@@ -1,12 +1,10 @@
 -- One environment file: what its reading gives, step by step.
-use Rattle.std.proofs.Common.{◌≡◌, ◌∙◌, refl, sym, ap, subst, ℕ, ◌+◌, ◌≤◌, Bool, true, false, cond, ◌&&◌, List, [], ◌∷◌, length, length-append, ◌++◌, take, drop, arith, Option, Some, None, Result, Ok, Err}
-use Rattle.std.specs.Prelude.{IfSome, IsTrue, nat_lt, nat_le, not}
-use Rattle.std.specs.List.{list_all}
-use Rattle.std.specs.Str.{bytes_eq}
-use Rattle.std.proofs.lemmas.Bool.{leb-true}
+use Rattle.std.proofs.Common.{◌≡◌, ◌∙◌, refl, sym, ap, subst, ℕ, ◌+◌, ◌≤◌, Bool, true, false, cond, List, [], ◌∷◌, length, take, drop, arith, Option, Some, None, Result, Ok, Err}
+use Rattle.std.specs.Prelude.{IfSome, IsTrue, nat_lt}
 use Rattle.std.proofs.lemmas.Bool.Decides.{nat_tests}
 use Rattle.std.proofs.lemmas.Grind.{common_steps}
-use Rattle.cnb_world.specs.Path.{is_part, is_part_byte, joined}
+use Rattle.cnb_world.specs.Path.{is_part, joined}
+use Rattle.cnb_world.proofs.Lengths.{length_joined, part_within}
 use Rattle.cnb_world.specs.Tree.{Tree, item_at, kind_of, bytes_of}
 use Rattle.cnb_world.specs.declared.limits.LimitKind.TheVariants.{Document as DocumentLimit}
 use Rattle.cnb_world.specs.declared.world.Item.{Item}
@@ -80,24 +78,9 @@ module _ (naming : Naming) (folder name path : List ℕ) (place : path ≡ joine
   found_file None found file h r of = tt
   found_file (Some files) found file h r of = found_at files found (Ok file) h r of
 
-and_true : (a b : Bool) → (a && b) ≡ true → (a ≡ true) × (b ≡ true)
-and_true true b h = (refl, h)
-and_true false b h = absurd (cc)
-
-length-joined_by : (v : Bool) (path name : List ℕ) → length (cond v path (path ++ 47 ∷ []) ++ name) ≤ length path + 1 + length name
-length-joined_by true path name = omega (arith, length-append path name)
-length-joined_by false path name = omega (arith, length-append (path ++ 47 ∷ []) name, length-append path (47 ∷ []))
-
-part_short : (name : List ℕ) → is_part name ≡ true → length name ≤ 255
-part_short name h =
-    let bytes = and_true (nat_lt 0 (length name) && nat_le (length name) 255 && not (bytes_eq name (46 ∷ [])) && not (bytes_eq name (46 ∷ 46 ∷ []))) (list_all is_part_byte name) h in
-    let two = and_true (nat_lt 0 (length name) && nat_le (length name) 255 && not (bytes_eq name (46 ∷ []))) (not (bytes_eq name (46 ∷ 46 ∷ []))) bytes.0 in
-    let one = and_true (nat_lt 0 (length name) && nat_le (length name) 255) (not (bytes_eq name (46 ∷ []))) two.0 in
-    leb-true (length name) 255 (and_true (nat_lt 0 (length name)) (nat_le (length name) 255) one.0).1
-
 -- a name in a folder has a path
 pub file_fits : (folder name : List ℕ) → length folder ≤ 16384 → IsTrue (is_part name) → length (joined folder name) ≤ 32768
-file_fits folder name short part = let by : length (joined folder name) ≤ length folder + 1 + length name = length-joined_by (bytes_eq folder (47 ∷ [])) folder name in omega (arith, part_short name part)
+file_fits folder name short part = let by : length (joined folder name) ≤ length folder + 1 + length name = length_joined folder name in omega (arith, part_within name part)
 
 pub folder_fits : (platform : List ℕ) → length platform ≤ 8192 → length (joined platform (101 ∷ 110 ∷ 118 ∷ [])) ≤ 16384
-folder_fits platform short = let by : length (joined platform (101 ∷ 110 ∷ 118 ∷ [])) ≤ length platform + 1 + 3 = length-joined_by (bytes_eq platform (47 ∷ [])) platform (101 ∷ 110 ∷ 118 ∷ []) in omega arith
+folder_fits platform short = let by : length (joined platform (101 ∷ 110 ∷ 118 ∷ [])) ≤ length platform + 1 + 3 = length_joined platform (101 ∷ 110 ∷ 118 ∷ []) in omega arith

@@ -3,7 +3,7 @@ ghost use Rattle.std.specs.Prelude.{◌≡◌, ◌≤◌, IfErr, IfSome, OnErr, 
 ghost use Rattle.std.specs.Option.{option_map};
 ghost use Rattle.cnb_world.specs.Calls.{MayMisuse};
 ghost use Rattle.doc_files.specs.Counts.{CountsFiles};
-ghost use Rattle.doc_files.specs.Reading.{BlamesOne, Reads};
+ghost use Rattle.doc_files.specs.Reading.{BlamesOne, NamesFailed, Reads};
 ghost use Rattle.cnb_env.specs.Apply.{HasFirst, all_applied, applied_among, delimiter_in, is_delimiter_of};
 ghost use Rattle.cnb_env.specs.Files.{IsOfFolder, is_fit_folder};
 ghost use Rattle.cnb_env.specs.Layers.{LeavesFirst, folder_applied, giving};
@@ -75,6 +75,7 @@ pub fn env_folder<W: World>(
         Reads (giving env.new result) (folder_applied files folder.now env.old)) }
     ensures refused { LeavesFirst result (W.tree world.old) folder.now env.old env.new }
     ensures blames { IfErr result (BlamesOne (IsOfFolder folder.now)) }
+    ensures cause { IfErr result (NamesFailed (W.failed_at world.new)) }
     ensures tree { W.tree world.new ≡ W.tree world.old }
     ensures files { CountsFiles result (W.file_faults world.old) (W.file_faults world.new) }
     ensures children { W.child_faults world.new ≡ W.child_faults world.old }

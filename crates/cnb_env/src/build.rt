@@ -4,7 +4,7 @@ ghost use Rattle.std.specs.List.{All};
 ghost use Rattle.std.specs.Option.{option_copied, option_map};
 ghost use Rattle.cnb_world.specs.Calls.{MayMisuse};
 ghost use Rattle.doc_files.specs.Counts.{CountsFiles};
-ghost use Rattle.doc_files.specs.Reading.{BlamesOne, Reads};
+ghost use Rattle.doc_files.specs.Reading.{BlamesOne, NamesFailed, Reads};
 ghost use Rattle.cnb_env.specs.Layers.{AreShort, IsOfSets, are_fit_build_sets, build_env, with_platform};
 
 use crate::files::EnvFile;
@@ -36,6 +36,7 @@ pub fn build_env<W: World>(
     ensures reads { IfSome (W.tree world.old) (λ tree.
         Reads result (build_env done.now (option_copied files.entry) base.now tree)) }
     ensures blames { IfErr result (BlamesOne (IsOfSets done.now)) }
+    ensures cause { IfErr result (NamesFailed (W.failed_at world.new)) }
     ensures tree { W.tree world.new ≡ W.tree world.old }
     ensures files { CountsFiles result (W.file_faults world.old) (W.file_faults world.new) }
     ensures children { W.child_faults world.new ≡ W.child_faults world.old }

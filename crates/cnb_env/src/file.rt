@@ -4,7 +4,7 @@ ghost use Rattle.std.specs.List.{list_any};
 ghost use Rattle.cnb_world.specs.Path.{is_part, joined};
 ghost use Rattle.cnb_world.specs.Tree.{item_at};
 ghost use Rattle.doc_files.specs.Counts.{CountsFiles};
-ghost use Rattle.doc_files.specs.Reading.{BlamesOnly, Reads};
+ghost use Rattle.doc_files.specs.Reading.{BlamesOnly, NamesFailed, Reads};
 ghost use Rattle.cnb_env.specs.Contents.{contents_of, file_at, file_of, value_in};
 
 use crate::files::EnvFile;
@@ -18,6 +18,7 @@ use std::alloc::Global;
 const LONGEST_FILE: u64 = 1048576;
 
 /// The bytes of the regular file at a path, where one stands there.
+#[tactic(auto, using(doc_files::proofs::Blame::blamed_last))]
 pub fn contents<W: World>(
     alloc: Global,
     world: &mut W,
@@ -25,6 +26,7 @@ pub fn contents<W: World>(
 ) -> Result<Option<Bytes>, ReadFault>
     ensures reads { IfSome (W.tree world.old) (λ files. Reads result (contents_of (item_at files path.now))) }
     ensures blames { IfErr result (BlamesOnly path.now) }
+    ensures cause { IfErr result (NamesFailed (W.failed_at world.new)) }
     ensures tree { W.tree world.new ≡ W.tree world.old }
     ensures files { CountsFiles result (W.file_faults world.old) (W.file_faults world.new) }
     ensures children { W.child_faults world.new ≡ W.child_faults world.old }
@@ -101,6 +103,7 @@ pub(crate) fn read_file<W: World>(
     requires short { length folder.now ≤ 16384 }
     ensures reads { IfSome (W.tree world.old) (λ files. Reads result (file_at naming files folder.now name.now)) }
     ensures blames { IfErr result (BlamesOnly (joined folder.now name.now)) }
+    ensures cause { IfErr result (NamesFailed (W.failed_at world.new)) }
     ensures tree { W.tree world.new ≡ W.tree world.old }
     ensures files { CountsFiles result (W.file_faults world.old) (W.file_faults world.new) }
     ensures children { W.child_faults world.new ≡ W.child_faults world.old }

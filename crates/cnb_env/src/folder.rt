@@ -4,7 +4,7 @@ ghost use Rattle.std.specs.Option.{option_map};
 ghost use Rattle.cnb_world.specs.Calls.{AreNames, MayMisuse};
 ghost use Rattle.cnb_world.specs.Tree.{can_list};
 ghost use Rattle.doc_files.specs.Counts.{CountsFiles};
-ghost use Rattle.doc_files.specs.Reading.{BlamesOne, Reads};
+ghost use Rattle.doc_files.specs.Reading.{BlamesOne, NamesFailed, Reads};
 ghost use Rattle.cnb_env.specs.Contents.{with_found};
 ghost use Rattle.cnb_env.specs.Files.{IsOfFolder, files_of, folder_files_in, is_absent, is_fit_folder, listed_files};
 
@@ -36,6 +36,7 @@ fn read_files<W: World>(
     requires short { length folder.now ≤ 16384 }
     ensures reads { IfSome (W.tree world.old) (λ files. Reads result (files_of naming files folder.now names.now)) }
     ensures blames { IfErr result (BlamesOne (IsOfFolder folder.now)) }
+    ensures cause { IfErr result (NamesFailed (W.failed_at world.new)) }
     ensures tree { W.tree world.new ≡ W.tree world.old }
     ensures files { CountsFiles result (W.file_faults world.old) (W.file_faults world.new) }
     ensures children { W.child_faults world.new ≡ W.child_faults world.old }
@@ -60,6 +61,7 @@ fn read_folder<W: World>(
     requires { length folder.now ≤ 16384 }
     ensures reads { IfSome (W.tree world.old) (λ files. Reads result (listed_files naming files folder.now)) }
     ensures blames { IfErr result (BlamesOne (IsOfFolder folder.now)) }
+    ensures cause { IfErr result (NamesFailed (W.failed_at world.new)) }
     ensures tree { W.tree world.new ≡ W.tree world.old }
     ensures files { CountsFiles result (W.file_faults world.old) (W.file_faults world.new) }
     ensures children { W.child_faults world.new ≡ W.child_faults world.old }
@@ -79,6 +81,7 @@ fn is_absent(kind: Kind) -> bool
 }
 
 /// The files of a folder, ascending by name. A link is passed over, and a file that is ignored isn't read.
+#[tactic(auto, using(doc_files::proofs::Blame::blamed_last))]
 pub(crate) fn folder_files<W: World>(
     alloc: Global,
     world: &mut W,
@@ -88,6 +91,7 @@ pub(crate) fn folder_files<W: World>(
     requires { length folder.now ≤ 16384 }
     ensures reads { IfSome (W.tree world.old) (λ files. Reads result (folder_files_in naming folder.now files)) }
     ensures blames { IfErr result (BlamesOne (IsOfFolder folder.now)) }
+    ensures cause { IfErr result (NamesFailed (W.failed_at world.new)) }
     ensures tree { W.tree world.new ≡ W.tree world.old }
     ensures files { CountsFiles result (W.file_faults world.old) (W.file_faults world.new) }
     ensures children { W.child_faults world.new ≡ W.child_faults world.old }

@@ -4,7 +4,7 @@ ghost use Rattle.std.specs.List.{All};
 ghost use Rattle.std.specs.Option.{option_copied, option_map};
 ghost use Rattle.cnb_world.specs.Calls.{MayMisuse};
 ghost use Rattle.doc_files.specs.Counts.{CountsFiles};
-ghost use Rattle.doc_files.specs.Reading.{BlamesOne, Reads};
+ghost use Rattle.doc_files.specs.Reading.{BlamesOne, NamesFailed, Reads};
 ghost use Rattle.cnb_env.specs.Layers.{AreShort, IsOfSets, are_fit_launch_sets, launch_env};
 
 use crate::layers::{LayerSet, Phase, apply_sets};
@@ -35,6 +35,7 @@ pub fn launch_env<W: World>(
     ensures reads { IfSome (W.tree world.old) (λ tree.
         Reads result (launch_env sets.now (option_copied kind.entry) base.now tree)) }
     ensures blames { IfErr result (BlamesOne (IsOfSets sets.now)) }
+    ensures cause { IfErr result (NamesFailed (W.failed_at world.new)) }
     ensures tree { W.tree world.new ≡ W.tree world.old }
     ensures files { CountsFiles result (W.file_faults world.old) (W.file_faults world.new) }
     ensures children { W.child_faults world.new ≡ W.child_faults world.old }

@@ -5,7 +5,7 @@ ghost use Rattle.std.specs.Option.{option_map};
 ghost use Rattle.cnb_world.specs.Calls.{MayMisuse};
 ghost use Rattle.cnb_world.specs.Path.{is_part, joined};
 ghost use Rattle.doc_files.specs.Counts.{CountsFiles};
-ghost use Rattle.doc_files.specs.Reading.{BlamesOne, Reads};
+ghost use Rattle.doc_files.specs.Reading.{BlamesOne, NamesFailed, Reads};
 ghost use Rattle.cnb_env.specs.Files.{IsOfFolder, is_fit_folder};
 ghost use Rattle.cnb_env.specs.Layers.{AreShort, HasRoom, IsOfFolderIn, IsOfLayer, IsOfLayers, IsOfSets, IsShort};
 ghost use Rattle.cnb_env.specs.Layers.{are_fit_folders, are_fit_sets, is_fit_layer, is_fit_set};
@@ -51,6 +51,7 @@ fn apply_folder<W: World>(
     ensures reads { IfSome (W.tree world.old) (λ files.
         Reads (giving env.new result) (folder_applied files (joined layer.now name.now) env.old)) }
     ensures blames { IfErr result (BlamesOne (IsOfFolder (joined layer.now name.now))) }
+    ensures cause { IfErr result (NamesFailed (W.failed_at world.new)) }
     ensures tree { W.tree world.new ≡ W.tree world.old }
     ensures files { CountsFiles result (W.file_faults world.old) (W.file_faults world.new) }
     ensures children { W.child_faults world.new ≡ W.child_faults world.old }
@@ -76,6 +77,7 @@ fn apply_type_folder<W: World>(
     ensures reads { IfSome (W.tree world.old) (λ files.
         Reads (giving env.new result) (each (folder_applied files) (type_folders kind.now folder.now) env.old)) }
     ensures blames { IfErr result (BlamesOne (IsOfFolderIn folder.now)) }
+    ensures cause { IfErr result (NamesFailed (W.failed_at world.new)) }
     ensures tree { W.tree world.new ≡ W.tree world.old }
     ensures files { CountsFiles result (W.file_faults world.old) (W.file_faults world.new) }
     ensures children { W.child_faults world.new ≡ W.child_faults world.old }
@@ -101,6 +103,7 @@ fn apply_launch_folders<W: World>(
     ensures reads { IfSome (W.tree world.old) (λ files.
         Reads (giving env.new result) (each (folder_applied files) (launch_folders kind.now layer.now) env.old)) }
     ensures blames { IfErr result (BlamesOne (IsOfLayer layer.now)) }
+    ensures cause { IfErr result (NamesFailed (W.failed_at world.new)) }
     ensures tree { W.tree world.new ≡ W.tree world.old }
     ensures files { CountsFiles result (W.file_faults world.old) (W.file_faults world.new) }
     ensures children { W.child_faults world.new ≡ W.child_faults world.old }
@@ -126,6 +129,7 @@ fn apply_phase_folders<W: World>(
     ensures reads { IfSome (W.tree world.old) (λ files.
         Reads (giving env.new result) (each (folder_applied files) (phase_folders phase.now layer.now) env.old)) }
     ensures blames { IfErr result (BlamesOne (IsOfLayer layer.now)) }
+    ensures cause { IfErr result (NamesFailed (W.failed_at world.new)) }
     ensures tree { W.tree world.new ≡ W.tree world.old }
     ensures files { CountsFiles result (W.file_faults world.old) (W.file_faults world.new) }
     ensures children { W.child_faults world.new ≡ W.child_faults world.old }
@@ -151,6 +155,7 @@ fn apply_layer<W: World>(
     ensures reads { IfSome (W.tree world.old) (λ files.
         Reads (giving env.new result) (layer_applied phase.now files layer.now env.old)) }
     ensures blames { IfErr result (BlamesOne (IsOfLayer layer.now)) }
+    ensures cause { IfErr result (NamesFailed (W.failed_at world.new)) }
     ensures tree { W.tree world.new ≡ W.tree world.old }
     ensures files { CountsFiles result (W.file_faults world.old) (W.file_faults world.new) }
     ensures children { W.child_faults world.new ≡ W.child_faults world.old }
@@ -175,6 +180,7 @@ fn apply_layers<W: World>(
     ensures reads { IfSome (W.tree world.old) (λ files.
         Reads (giving env.new result) (each (layer_applied phase.now files) layers.now env.old)) }
     ensures blames { IfErr result (BlamesOne (IsOfLayers layers.now)) }
+    ensures cause { IfErr result (NamesFailed (W.failed_at world.new)) }
     ensures tree { W.tree world.new ≡ W.tree world.old }
     ensures files { CountsFiles result (W.file_faults world.old) (W.file_faults world.new) }
     ensures children { W.child_faults world.new ≡ W.child_faults world.old }
@@ -200,6 +206,7 @@ fn apply_set<W: World>(
     ensures reads { IfSome (W.tree world.old) (λ files.
         Reads (giving env.new result) (set_applied phase.now files layers.now env.old)) }
     ensures blames { IfErr result (BlamesOne (IsOfLayers layers.now)) }
+    ensures cause { IfErr result (NamesFailed (W.failed_at world.new)) }
     ensures tree { W.tree world.new ≡ W.tree world.old }
     ensures files { CountsFiles result (W.file_faults world.old) (W.file_faults world.new) }
     ensures children { W.child_faults world.new ≡ W.child_faults world.old }
@@ -225,6 +232,7 @@ pub(crate) fn apply_sets<W: World>(
     ensures reads { IfSome (W.tree world.old) (λ files.
         Reads (giving env.new result) (each (set_applied phase.now files) sets.now env.old)) }
     ensures blames { IfErr result (BlamesOne (IsOfSets sets.now)) }
+    ensures cause { IfErr result (NamesFailed (W.failed_at world.new)) }
     ensures tree { W.tree world.new ≡ W.tree world.old }
     ensures files { CountsFiles result (W.file_faults world.old) (W.file_faults world.new) }
     ensures children { W.child_faults world.new ≡ W.child_faults world.old }

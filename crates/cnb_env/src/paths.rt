@@ -4,7 +4,7 @@ ghost use Rattle.std.specs.List.{All, join_by};
 ghost use Rattle.cnb_world.specs.Path.{is_part};
 ghost use Rattle.cnb_world.specs.Tree.{is_folder, item_at};
 ghost use Rattle.doc_files.specs.Counts.{CountsFiles};
-ghost use Rattle.doc_files.specs.Reading.{BlamesOne, FailsAt, Reads, is_free};
+ghost use Rattle.doc_files.specs.Reading.{BlamesOne, FailsAt, NamesFailed, Reads, is_free};
 ghost use Rattle.cnb_env.specs.Layers.{IsOfLayers, IsShort, folders_at, giving, separated, standing_at};
 ghost use Rattle.cnb_env.specs.Layers.{with_build_paths, with_front, with_launch_paths, with_paths};
 
@@ -30,6 +30,7 @@ fn push_standing<W: World>(
     ensures found { IfSome (W.tree world.old) (λ files. OnOk result (paths.new ≡ paths.old ++ filter (λ p.
         is_folder (item_at files p)) (path ∷ []))) }
     ensures fails { IfErr result (FailsAt path) }
+    ensures cause { IfErr result (NamesFailed (W.failed_at world.new)) }
     ensures tree { W.tree world.new ≡ W.tree world.old }
     ensures files { CountsFiles result (W.file_faults world.old) (W.file_faults world.new) }
     ensures children { W.child_faults world.new ≡ W.child_faults world.old }
@@ -55,6 +56,7 @@ fn standing<W: World>(
         paths ≡ standing_at files layers.now name.now)) }
     ensures fails { IfErr result (λ fault. IsTrue (is_free fault)) }
     ensures blames { IfErr result (BlamesOne (IsOfLayers layers.now)) }
+    ensures cause { IfErr result (NamesFailed (W.failed_at world.new)) }
     ensures tree { W.tree world.new ≡ W.tree world.old }
     ensures files { CountsFiles result (W.file_faults world.old) (W.file_faults world.new) }
     ensures children { W.child_faults world.new ≡ W.child_faults world.old }
@@ -102,6 +104,7 @@ fn folders<W: World>(
         text ≡ folders_at files layers.now name.now)) }
     ensures fails { IfErr result (λ fault. IsTrue (is_free fault)) }
     ensures blames { IfErr result (BlamesOne (IsOfLayers layers.now)) }
+    ensures cause { IfErr result (NamesFailed (W.failed_at world.new)) }
     ensures tree { W.tree world.new ≡ W.tree world.old }
     ensures files { CountsFiles result (W.file_faults world.old) (W.file_faults world.new) }
     ensures children { W.child_faults world.new ≡ W.child_faults world.old }
@@ -139,6 +142,7 @@ fn put_launch_paths<W: World>(
         OnOk result (env.new ≡ with_launch_paths files layers.now env.old)) }
     ensures fails { IfErr result (λ fault. IsTrue (is_free fault)) }
     ensures blames { IfErr result (BlamesOne (IsOfLayers layers.now)) }
+    ensures cause { IfErr result (NamesFailed (W.failed_at world.new)) }
     ensures tree { W.tree world.new ≡ W.tree world.old }
     ensures files { CountsFiles result (W.file_faults world.old) (W.file_faults world.new) }
     ensures children { W.child_faults world.new ≡ W.child_faults world.old }
@@ -164,6 +168,7 @@ fn put_build_paths<W: World>(
         OnOk result (env.new ≡ with_build_paths files layers.now env.old)) }
     ensures fails { IfErr result (λ fault. IsTrue (is_free fault)) }
     ensures blames { IfErr result (BlamesOne (IsOfLayers layers.now)) }
+    ensures cause { IfErr result (NamesFailed (W.failed_at world.new)) }
     ensures tree { W.tree world.new ≡ W.tree world.old }
     ensures files { CountsFiles result (W.file_faults world.old) (W.file_faults world.new) }
     ensures children { W.child_faults world.new ≡ W.child_faults world.old }
@@ -195,6 +200,7 @@ pub(crate) fn put_paths<W: World>(
         OnOk result (env.new ≡ with_paths when files layers.now env.old)) }
     ensures fails { IfErr result (λ fault. IsTrue (is_free fault)) }
     ensures blames { IfErr result (BlamesOne (IsOfLayers layers.now)) }
+    ensures cause { IfErr result (NamesFailed (W.failed_at world.new)) }
     ensures tree { W.tree world.new ≡ W.tree world.old }
     ensures files { CountsFiles result (W.file_faults world.old) (W.file_faults world.new) }
     ensures children { W.child_faults world.new ≡ W.child_faults world.old }
@@ -220,6 +226,7 @@ pub fn layer_paths<W: World>(
         Reads (giving env.new result) (Ok (with_paths when files layers.now env.old))) }
     ensures refused { OnErr result (env.new ≡ env.old) }
     ensures blames { IfErr result (BlamesOne (IsOfLayers layers.now)) }
+    ensures cause { IfErr result (NamesFailed (W.failed_at world.new)) }
     ensures tree { W.tree world.new ≡ W.tree world.old }
     ensures files { CountsFiles result (W.file_faults world.old) (W.file_faults world.new) }
     ensures children { W.child_faults world.new ≡ W.child_faults world.old }

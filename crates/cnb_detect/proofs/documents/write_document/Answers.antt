@@ -2,7 +2,7 @@ use Rattle.std.proofs.Common.{◌∙◌, sym, ap, subst, IsTrue, arith}
 use Rattle.cnb_world.specs.Path.{is_path, beside}
 use Rattle.cnb_world.specs.Tree.{is_root}
 use Rattle.cnb_world.proofs.Joins.{path_beside_file}
-use Rattle.cnb_env.proofs.Lengths.{length_joined}
+use Rattle.cnb_world.proofs.Lengths.{length_joined}
 use Rattle.cnb_detect.proofs.DocumentLemmas.{no_root_below, longer}
 use Rattle.cnb_detect.proofs.documents.write_document.Goals as goal
 
