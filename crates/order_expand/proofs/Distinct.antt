@@ -1,17 +1,16 @@
 -- Dropping later elements that are the same as an earlier one.
-use Rattle.std.proofs.Common.{◌≡◌, ℕ, suc, ◌+◌, ◌<◌, Bool, true, false, cond, not, ◌||◌, List, [], ◌∷◌, ◌++◌, map, refl, sym, ◌∙◌, ap, inl, inr, length, drop, get_or, append-nil, add-one, drop-cons}
-use Rattle.std.specs.Prelude.{Vec}
-use Rattle.std.specs.declared.alloc.Global.{Global}
+use Rattle.std.proofs.Common.{◌≡◌, ℕ, ◌+◌, ◌<◌, Bool, true, false, cond, not, ◌||◌, List, [], ◌∷◌, ◌++◌, map, refl, sym, ◌∙◌, ap, inl, inr, length, take, get_or, append-nil}
 use Rattle.std.specs.List.{filter, list_any}
 use Rattle.std.proofs.lemmas.Bool.{cases_Bool, false_from_ne_true, not_from_false, both_ways}
-use Rattle.std.proofs.lemmas.Grind.{reverse_onto}
+use Rattle.std.proofs.lemmas.List.{map-append}
 use Rattle.std.proofs.lemmas.List.Elements.{filter-append}
 use Rattle.std.proofs.lemmas.Map.Views.{any-filter_same}
 use Rattle.std.proofs.lemmas.Slice.Eq.{bytes_eq-Decides}
-use Rattle.order_expand.specs.declared.expand.Chosen.{Chosen}
+use Rattle.order_expand.specs.declared.begun.Chosen.{Chosen}
 use Rattle.order_expand.specs.declared.member.Member.{Member}
-use Rattle.order_expand.specs.Chosen.{member_of, members_in, groups_in}
+use Rattle.order_expand.specs.Chosen.{member_of}
 use Rattle.order_expand.specs.Groups.{distinct, same_id}
+use Rattle.order_expand.proofs.Walks.{take_next}
 
 -- what is the same as something is the same as whatever that is the same as
 abbrev IsTransitive : {X : Type 0} → (X → X → Bool) → Type 0
@@ -43,24 +42,10 @@ pub same_id-trans : IsTransitive same_id
 same_id-trans a b c p q =
     (bytes_eq-Decides a.key.id c.key.id).1 ((bytes_eq-Decides a.key.id b.key.id).0 p ∙ (bytes_eq-Decides b.key.id c.key.id).0 q)
 
--- the members from a place on, where the last stands first
-members_in-drop : (group : List Chosen) (i : ℕ) (d : Chosen) → i < length group → d ≡ get_or group i d → members_in (drop i group) ≡ members_in (drop (i + 1) group) ++ member_of d ∷ []
-members_in-drop group i d h e =
-    ap members_in (drop-cons group i d h)
-    ∙ (reverse_onto (map member_of (drop (suc i) group)) (member_of (get_or group i d)) []
-    ∙ (λ k. members_in (drop (sym (add-one i) k) group) ++ member_of (sym e k) ∷ []))
-
--- where the members behind a place are done, a member that has no other's id is put at the end, and another is left out
-pub done_push : (group : List Chosen) (i j : ℕ) (d : Chosen) (done : List Member) → i < length group → d ≡ get_or group i d → j ≡ i + 1 → done ≡ distinct same_id (members_in (drop j group)) →
-    cond (list_any (λ m. same_id m (member_of d)) done) done (done ++ member_of d ∷ []) ≡ distinct same_id (members_in (drop i group))
-done_push group i j d done h e n w =
-    let so_far : done ≡ distinct same_id (members_in (drop (i + 1) group)) = w ∙ ap (λ k. distinct same_id (members_in (drop k group))) n in
+-- where the members up to a place are done, a member that has no other's id is put at the end, and another is left out
+pub done_push : (group : List Chosen) (i : ℕ) (d : Chosen) (done : List Member) → i < length group → d ≡ get_or group i d → done ≡ distinct same_id (map member_of (take i group)) →
+    cond (list_any (λ m. same_id m (member_of d)) done) done (done ++ member_of d ∷ []) ≡ distinct same_id (map member_of (take (i + 1) group))
+done_push group i d done h e so_far =
     ap (λ ms. cond (list_any (λ m. same_id m (member_of d)) ms) ms (ms ++ member_of d ∷ [])) so_far
-    ∙ sym (ap (distinct same_id) (members_in-drop group i d h e) ∙ distinct_push same_id same_id-trans (members_in (drop (i + 1) group)) (member_of d))
-
--- the groups that are left, and the next one
-pub next_group : (groups : List (Vec Chosen Global)) (i : ℕ) (group : Vec Chosen Global) → i < length groups → group ≡ get_or groups i group →
-    map (distinct same_id) (groups_in (drop i groups)) ≡ distinct same_id (members_in group.items) ∷ map (distinct same_id) (groups_in (drop (i + 1) groups))
-next_group groups i group h e =
-    ap (λ gs. map (distinct same_id) (groups_in gs)) (drop-cons groups i group h)
-    ∙ (λ k. distinct same_id (members_in (sym e k).items) ∷ map (distinct same_id) (groups_in (drop (sym (add-one i) k) groups)))
+    ∙ sym (ap (λ ds. distinct same_id (map member_of ds)) (take_next group i d h e)
+    ∙ (ap (distinct same_id) (map-append member_of (take i group) (d ∷ [])) ∙ distinct_push same_id same_id-trans (map member_of (take i group)) (member_of d)))

@@ -11,3 +11,6 @@ pub mod Keys
 pub mod Marks
 pub mod Meeting
 pub mod Accepted
+pub mod Joined
+pub mod Choices
+pub mod Steps

@@ -5,6 +5,8 @@ pub mod Examples
 pub mod Groups
 pub mod Places
 pub mod Chosen
+pub mod Begun
+pub mod Steps
 pub mod Sizes
 pub mod Nesting
 pub mod Met

@@ -1,9 +1,9 @@
 //! Which groups an order stands for, once every composite buildpack in it is replaced by the groups of its own order.
 #![tactic(auto)]
 
+mod begun;
 mod catalog;
 mod count;
-mod expand;
 mod fault;
 mod member;
 mod met;

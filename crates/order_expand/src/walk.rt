@@ -1,39 +1,40 @@
 // The listed groups, one after another.
-ghost use Rattle.std.specs.Prelude.{◌≡◌, ◌++◌, ◌∷◌, [], if◌then◌else◌, IfOk, OnOk, OnErr, IsOk, MatchOption, map, drop};
+ghost use Rattle.std.specs.Prelude.{◌≡◌, ◌++◌, ◌∷◌, [], if◌then◌else◌, IfOk, OnOk, OnErr, IsOk, MatchOption, map};
 ghost use Rattle.std.specs.List.{list_any};
 ghost use Rattle.order_expand.specs.Check.{checked};
-ghost use Rattle.order_expand.specs.Chosen.{member_of, members_in};
+ghost use Rattle.order_expand.specs.Chosen.{member_of};
 ghost use Rattle.order_expand.specs.Groups.{distinct, same_id, listed_groups};
 
+use crate::begun::{Begun, Chosen, Place, complete_next};
 use crate::catalog::Catalog;
-use crate::expand::{Chosen, ChosenGroup, groups_of_order};
 use crate::member::{Group, Member};
 use bp_docs::{Body, Order};
 use cnb_world::{List, Memory};
 use std::alloc::Global;
 use std::marker::Model;
 
-/// How many levels of groups an order has at most: those of the order itself and those of sixteen composites.
-const LEVELS: u32 = 17;
+/// How many levels of groups stand below those of the order: those of sixteen composites.
+const LEVELS: u32 = 16;
 
-/// A walk over the listed groups of an order. Contracts see the groups that are left.
+/// A walk over the listed groups of an order. It makes one group at a time, and keeps the one that is begun, and for
+/// each composite in it with groups that are still to be tried, one that waits. Contracts see the groups that are left.
 #[derive(Drop)]
 pub struct Walk<'a> {
     alloc: Global,
-    groups: Vec<ChosenGroup<'a>>,
-    place: usize,
+    catalog: &'a Catalog,
+    current: Begun<'a>,
+    waiting: Vec<Begun<'a>>,
 }
 
 impl<'a> Model for Walk<'a> {
-    ghost use Rattle.std.specs.Prelude.{List, map, drop};
-    ghost use Rattle.std.specs.List.{list_any};
+    ghost use Rattle.std.specs.Prelude.{List, map};
     ghost use Rattle.order_expand.specs.declared.member.Member.{Member};
-    ghost use Rattle.order_expand.specs.Chosen.{groups_in};
+    ghost use Rattle.order_expand.specs.Begun.{groups_left};
     ghost use Rattle.order_expand.specs.Groups.{distinct, same_id};
 
     ghost Value = { List (List Member) };
 
-    ghost view = { λ walk. map (distinct same_id) (groups_in (drop walk.place walk.groups.items)) };
+    ghost view = { λ walk. map (distinct same_id) (groups_left walk.catalog.now walk.current walk.waiting.items) };
 }
 
 fn member(alloc: Global, chosen: &Chosen) -> Result<Member, Memory>
@@ -72,13 +73,11 @@ fn add_unless_met(alloc: Global, members: &mut Group, chosen: &Chosen) -> Result
 
 /// The members of a group, of those with one id the first.
 fn members(alloc: Global, group: &[Chosen]) -> Result<Group, Memory>
-    ensures { IfOk result (λ members. members ≡ distinct same_id (members_in group.now)) }
+    ensures { IfOk result (λ members. members ≡ distinct same_id (map member_of group.now)) }
 {
     let mut members = List::new(alloc);
-    let mut left = group.len();
-    while left > 0 {
-        left -= 1;
-        add_unless_met(alloc, &mut members, &group[left])?;
+    for chosen in group {
+        add_unless_met(alloc, &mut members, chosen)?;
     }
     Ok(members)
 }
@@ -89,11 +88,24 @@ impl<'a> Walk<'a> {
         requires { IsOk (checked catalog.now order.now) }
         ensures { IfOk result (λ walk. walk ≡ listed_groups catalog.now order.now) }
     {
-        let groups = groups_of_order(alloc, catalog, LEVELS, order)?;
+        let members = Vec::new(alloc);
+        let later = Vec::new(alloc);
+        let waiting = Vec::new(alloc);
+        let next = Place::Groups {
+            levels: LEVELS,
+            groups: order.as_slice(),
+            optional: false,
+        };
+        let current = Begun {
+            members,
+            next,
+            later,
+        };
         Ok(Walk {
             alloc,
-            groups,
-            place: 0,
+            catalog,
+            current,
+            waiting,
         })
     }
 
@@ -103,11 +115,17 @@ impl<'a> Walk<'a> {
         ensures end { IfOk result (λ group. MatchOption group (self.new ≡ []) (λ g. self.old ≡ g ∷ self.new)) }
         ensures err { OnErr result (self.new ≡ self.old) }
     {
-        if self.place >= self.groups.len() {
+        let found = complete_next(
+            self.alloc,
+            self.catalog,
+            &mut self.current,
+            &mut self.waiting,
+        )?;
+        if !found {
             return Ok(None);
         }
-        let group = members(self.alloc, self.groups[self.place].as_slice())?;
-        self.place += 1;
+        let group = members(self.alloc, self.current.members.as_slice())?;
+        self.current.next = Place::Nowhere;
         Ok(Some(group))
     }
 }
