@@ -61,7 +61,7 @@ fn told<R: Threads + Sync>(rt: &R, given: &Given) -> Result<String, Fault> {
 fn told_of_orders(call: &str, given: &Given) -> Result<String, Fault> {
     match call {
         "add" => orders::add_all(given),
-        "check" | "walk" => orders::expand(given),
+        "check" | "walk" | "walk_digits" => orders::expand(given),
         "read_order_file" => files::read_order(given),
         "read_catalog" => files::read_buildpacks(given),
         "kept" => plans::keep(given),

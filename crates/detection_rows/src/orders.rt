@@ -35,6 +35,7 @@ pub(crate) fn told_order(given: &Given, catalog: &Catalog) -> Result<String, Fau
         Ok(number) if given.row.call.as_str() == "check" => {
             Ok(format!(in given.alloc; "{number} groups")?)
         }
+        Ok(_) if given.row.call.as_str() == "walk_digits" => digits(given.alloc, &order, catalog),
         Ok(number) => listed(given.alloc, &order, catalog, number),
         Err(fault) => Ok(format!(in given.alloc; "{fault}")?),
     }
@@ -56,6 +57,38 @@ fn listed(alloc: Global, order: &Order, catalog: &Catalog, number: u32) -> Resul
         told.push_str("and more")?;
     }
     Ok(told)
+}
+
+/// The number of groups, where the members of each are the digits of its number to the base of 8: `c0-1` where the first
+/// of four digits is 1, and so on, and `tail` behind them.
+fn digits(alloc: Global, order: &Order, catalog: &Catalog) -> Result<String, Fault>
+    requires { IsOk (checked catalog.now order.now) }
+{
+    let mut walk = Walk::new(alloc, order, catalog)?;
+    for number in 0..4096 {
+        let Some(group) = walk.next()? else {
+            return Ok(format!(in alloc; "{number} groups")?);
+        };
+        let mut told = String::new(alloc);
+        push_group(&mut told, group.as_slice())?;
+        if told.as_str() != digits_of(alloc, number)?.as_str() {
+            return Ok(format!(in alloc; "group {number} is {told}")?);
+        }
+    }
+    let end = if walk.next()?.is_some() {
+        "and more"
+    } else {
+        "in the order of their digits"
+    };
+    Ok(format!(in alloc; "4096 groups {end}")?)
+}
+
+fn digits_of(alloc: Global, number: u32) -> Result<String, Fault> {
+    let (first, second) = (number / 512 % 8, number / 64 % 8);
+    let (third, last) = (number / 8 % 8, number % 8);
+    Ok(
+        format!(in alloc; "c0-{first}@1.0.0 c1-{second}@1.0.0 c2-{third}@1.0.0 c3-{last}@1.0.0 tail@1.0.0")?,
+    )
 }
 
 // A group as `a@1.0.0 b@1.0.0?`, with `!` behind a buildpack that clears the environment.
