@@ -1,6 +1,6 @@
 -- Groups in front of others.
 use Rattle.std.proofs.Common.{◌≡◌, List, [], ◌∷◌, ◌++◌, map, refl, sym, ◌∙◌, ap, append-nil, append_assoc}
-use Rattle.std.specs.List.{flat_map, fold}
+use Rattle.std.specs.List.{fold}
 use Rattle.std.proofs.lemmas.Grind.{flat_map-append}
 use Rattle.std.proofs.lemmas.List.{map-append}
 use Rattle.order_expand.specs.Begun.{joined}

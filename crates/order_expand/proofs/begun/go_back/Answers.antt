@@ -1,7 +1,7 @@
-use Rattle.std.proofs.Common.{◌≡◌, ◌+◌, ◌-◌, List, [], ◌∷◌, take, sym, ◌∙◌, ap, append-nil, arith}
+use Rattle.std.proofs.Common.{◌≡◌, ◌-◌, List, [], take, sym, ◌∙◌, ap, append-nil, arith}
 use Rattle.order_expand.specs.declared.begun.Place.{Place}
 use Rattle.order_expand.specs.Begun.{groups_in, groups_with}
-use Rattle.order_expand.specs.Steps.{later_steps, steps_of}
+use Rattle.order_expand.specs.Steps.{later_steps}
 use Rattle.order_expand.proofs.Choices.{groups_at_end, steps_at_end, back_to_later, later_steps-snoc, nothing_later}
 use Rattle.order_expand.proofs.begun.go_back.Goals as goal
 

@@ -1,7 +1,7 @@
-use Rattle.std.proofs.Common.{◌≡◌, ◌+◌, ◌∙◌, ◌++◌, sym, ap, List, arith}
+use Rattle.std.proofs.Common.{◌≡◌, ◌∙◌, ◌++◌, sym, ap, List, arith}
 use Rattle.order_expand.specs.declared.member.Member.{Member}
 use Rattle.order_expand.specs.Begun.{groups_in, groups_with, groups_of_waiting}
-use Rattle.order_expand.specs.Steps.{place_steps, groups_steps, order_steps, later_steps, steps_of_waiting}
+use Rattle.order_expand.specs.Steps.{place_steps, groups_steps, order_steps, later_steps}
 use Rattle.order_expand.proofs.begun.go_on.Goals as goal
 
 pub returns-in_ok-reached-in-Entries-clause-groups : goal.returns-in_ok-reached-in-Entries-clause-groups

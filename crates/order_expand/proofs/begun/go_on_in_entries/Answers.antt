@@ -1,4 +1,4 @@
-use Rattle.std.proofs.Common.{◌≡◌, ◌∙◌, ◌∷◌, sym, ap, List, arith}
+use Rattle.std.proofs.Common.{◌≡◌, ◌∙◌, sym, ap, List, arith}
 use Rattle.std.proofs.lemmas.List.{nil_from_length}
 use Rattle.bp_docs.specs.declared.descriptor.Entry.{Entry}
 use Rattle.order_expand.specs.Begun.{groups_in, groups_with}

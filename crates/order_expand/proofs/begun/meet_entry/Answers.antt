@@ -1,11 +1,11 @@
-use Rattle.std.proofs.Common.{◌≡◌, ◌∙◌, ap, sym, refl, List, arith}
+use Rattle.std.proofs.Common.{◌∙◌, ap, refl, List, arith}
 use Rattle.bp_docs.specs.declared.descriptor.Body.TheVariants.{Component, Composite}
 use Rattle.bp_docs.specs.declared.descriptor.Descriptor.{Descriptor}
 use Rattle.std.specs.Prelude.{Option}
 use Rattle.order_expand.specs.declared.member.Member.{Member}
 use Rattle.order_expand.specs.Begun.{groups_with}
 use Rattle.order_expand.specs.Groups.{named, raw_groups, expanded, in_front_of}
-use Rattle.order_expand.specs.Steps.{named_steps, entries_steps, order_steps, later_steps}
+use Rattle.order_expand.specs.Steps.{entries_steps, order_steps, later_steps}
 use Rattle.order_expand.proofs.Choices.{component_met, composite_met, foreign_met, steps_met}
 use Rattle.order_expand.proofs.begun.meet_entry.Goals as goal
 

@@ -1,4 +1,4 @@
-use Rattle.std.proofs.Common.{◌≡◌, ◌∙◌, ◌++◌, ap, List, arith}
+use Rattle.std.proofs.Common.{◌∙◌, ◌++◌, ap, List, arith}
 use Rattle.order_expand.specs.declared.begun.Begun.{Begun}
 use Rattle.order_expand.specs.declared.begun.Place.{Place}
 use Rattle.order_expand.specs.Begun.{groups_in, groups_with, groups_of_waiting}

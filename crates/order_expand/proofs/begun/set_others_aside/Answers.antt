@@ -1,8 +1,7 @@
-use Rattle.std.proofs.Common.{◌≡◌, ◌++◌, ◌∙◌, [], ◌∷◌, cond, sym, length, List, arith}
+use Rattle.std.proofs.Common.{◌++◌, ◌∙◌, [], ◌∷◌, cond, sym, length}
 use Rattle.std.specs.List.{flat_map}
 use Rattle.std.proofs.lemmas.Bool.{eqb-true}
 use Rattle.std.proofs.lemmas.List.{nil_from_length}
-use Rattle.bp_docs.specs.declared.descriptor.Entry.{Entry}
 use Rattle.order_expand.specs.Begun.{groups_with, groups_of_waiting}
 use Rattle.order_expand.specs.Groups.{raw_groups, expanded}
 use Rattle.order_expand.proofs.begun.set_others_aside.Goals as goal

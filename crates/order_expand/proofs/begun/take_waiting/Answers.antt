@@ -1,7 +1,7 @@
 use Rattle.std.proofs.Common.{◌≡◌, ◌-◌, ◌+◌, List, [], ◌∷◌, ◌++◌, take, sym, ◌∙◌, ap, append-nil, arith}
 use Rattle.order_expand.specs.declared.begun.Begun.{Begun}
 use Rattle.order_expand.specs.Begun.{groups_in, groups_with, groups_left, groups_of_waiting}
-use Rattle.order_expand.specs.Steps.{later_steps, place_steps, steps_of, steps_left, steps_of_waiting}
+use Rattle.order_expand.specs.Steps.{later_steps, place_steps, steps_left, steps_of_waiting}
 use Rattle.order_expand.proofs.Choices.{groups_of_waiting-snoc, steps_of_waiting-snoc}
 use Rattle.order_expand.proofs.begun.take_waiting.Goals as goal
 
