@@ -25,7 +25,7 @@ filled_some : (ls : List OpenFolder) (node : Node) → 0 < width (filled ls node
 filled_some [] node = omega arith
 filled_some (l ∷ ls) node = choose (nat_lt (length (l.before ++ entry l.name node ∷ [])) l.count) (cut_at ls (NameLength l.count (l.before ++ entry l.name node ∷ []))) (filled ls (Folder (l.before ++ entry l.name node ∷ []))) (λ e. omega arith) (λ e. filled_some ls (Folder (l.before ++ entry l.name node ∷ [])))
 
-none_parts : (a b : Option Reason) → either_reason a b ≡ None → b ≡ None
+pub none_parts : (a b : Option Reason) → either_reason a b ≡ None → b ≡ None
 none_parts None b e = e
 none_parts (Some r) b e = absurd cc
 
@@ -33,10 +33,10 @@ none_ok : (b : Bool) (r : Reason) → unless b r ≡ None → b ≡ true
 none_ok true r e = refl
 none_ok false r e = absurd cc
 
-len_some : (at most : ℕ) (f : List ℕ) (r : Reason) → either_reason (large_past at) (unless (nat_lt 0 (from_be_bytes w16 f) && nat_le (from_be_bytes w16 f) most) r) ≡ None → 0 < from_be_bytes w16 f
+pub len_some : (at most : ℕ) (f : List ℕ) (r : Reason) → either_reason (large_past at) (unless (nat_lt 0 (from_be_bytes w16 f) && nat_le (from_be_bytes w16 f) most) r) ≡ None → 0 < from_be_bytes w16 f
 len_some at most f r h = ltb-true 0 (from_be_bytes w16 f) (and_parts (nat_lt 0 (from_be_bytes w16 f)) (nat_le (from_be_bytes w16 f) most) (none_ok _ r (none_parts (large_past at) _ h))).0
 
-positive : (n : ℕ) → (n ≡ 0 → ⊥) → 0 < n
+pub positive : (n : ℕ) → (n ≡ 0 → ⊥) → 0 < n
 positive n not0 = omega arith
 
 after_some : (depth at : ℕ) (ls : List OpenFolder) (hole : Hole) (f : List ℕ) → reason_of depth at hole f ≡ None → 0 < width (after ls hole f).hole

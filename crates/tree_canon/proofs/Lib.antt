@@ -13,3 +13,5 @@ pub mod Chunks
 pub mod Readers
 pub mod Feeds
 pub mod DigestTexts
+pub mod Scans
+pub mod ScanFeeds

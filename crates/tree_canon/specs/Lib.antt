@@ -10,3 +10,5 @@ pub mod Feeding
 pub mod Readers
 pub mod Digest
 pub mod Judging
+pub mod Scanning
+pub mod Scans

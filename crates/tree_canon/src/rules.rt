@@ -6,14 +6,17 @@ ghost use Rattle.tree_canon.specs.declared.fault.Reason.TheVariants as reasons;
 ghost use Rattle.tree_canon.specs.Spelling.{limit, magic};
 ghost use Rattle.tree_canon.specs.Names.{is_name, is_target, follows};
 ghost use Rattle.tree_canon.specs.CutTree.{width, last_name};
+ghost use Rattle.tree_canon.specs.Scanning.{field_width, own_reason_at, reason_at, bytes_taken};
 ghost use Rattle.tree_canon.specs.Rules.{unless, either_reason, large_past, first_byte, is_tag, length_reason, own_reason, reason_of};
 
 use crate::cut::Hole;
 use crate::fault::Reason;
 use crate::field::{first_byte, u16_of, u64_of};
 use crate::fitting::{MAX_DEPTH, MAX_NAME, MAX_TARGET, follows, is_name, is_target};
+use crate::next_field::NextField;
 use crate::node::Named;
 use crate::tree::MAX_LENGTH;
+use cnb_world::Bytes;
 
 impl Hole {
     /// The first reason that a whole field gives.
@@ -52,6 +55,52 @@ impl Hole {
             Hole::Target { size: _ } => target_reason(field),
             Hole::End(_) => Some(Reason::Rest),
         }
+    }
+}
+
+impl NextField {
+    /// The first reason that a whole field gives. Of a file's contents no byte is asked for.
+    pub fn reason_of(&self, depth: usize, at: u64, part: &[u8]) -> Option<Reason>
+        requires { bytes_taken self.now part.now ≡ field_width self.now }
+        ensures { result ≡ reason_at depth at self.now part.now }
+    {
+        if is_past(at, self.width()) {
+            return Some(Reason::Large);
+        }
+        self.own_reason(depth, at, part)
+    }
+
+    fn own_reason(&self, depth: usize, at: u64, part: &[u8]) -> Option<Reason>
+        requires taken { bytes_taken self.now part.now ≡ field_width self.now }
+        requires at { at ≤ limit }
+        ensures { result ≡ own_reason_at depth at self.now part.now }
+    {
+        match self {
+            NextField::Magic(k) => magic_reason(*k, part),
+            NextField::Tag => tag_reason(depth, part),
+            NextField::Count => None,
+            NextField::NameLength { left: _, last: _ } => length_reason(at + 2, MAX_NAME, part),
+            NextField::Name {
+                left: _,
+                last,
+                size: _,
+            } => name_reason(bytes_of(last), part),
+            NextField::Executable => executable_reason(part),
+            NextField::FileLength => file_length_reason(at + 8, part),
+            NextField::Contents { size: _, taken: _ } => None,
+            NextField::TargetLength => length_reason(at + 2, MAX_TARGET, part),
+            NextField::Target { size: _ } => target_reason(part),
+            NextField::End => Some(Reason::Rest),
+        }
+    }
+}
+
+fn bytes_of(name: &Option<Bytes>) -> Option<&[u8]>
+    ensures { option_copied result ≡ name.now }
+{
+    match name {
+        Some(name) => Some(name.as_slice()),
+        None => None,
     }
 }
 

@@ -1,0 +1,13 @@
+use Rattle.std.proofs.Common.{◌≡◌, ◌∙◌, sym, ap, reverse, None}
+use Rattle.tree_canon.specs.Scanning.{behind, place, reason_at}
+use Rattle.tree_canon.proofs.Scans.{fresh_part}
+use Rattle.tree_canon.proofs.scanner.Scanner.take_field.Goals as goal
+
+pub returns-clause-partial : goal.returns-clause-partial
+returns-clause-partial c =
+    let old = c.args.self.now in
+    let none : reason_at c.len-depth.result old.at old.next old.part.items ≡ None
+    = sym (c.reason_of.ensures ∙ ap (λ f. reason_at c.len-depth.result old.at old.next f) c.deref.ensures.value) ∙ c.in_default.is in
+    let here : place (reverse c.behind.new.folders.items) c.in_ok-self.field-0 ≡ behind (reverse old.folders.items) old.next old.part.items
+    = c.in_ok-self.ensures ∙ ap (λ h. behind (reverse old.folders.items) h old.part.items) c.replace-next.ensures.value in
+    fresh_part c.len-depth.result old.at (reverse old.folders.items) (reverse c.behind.new.folders.items) old.next c.in_ok-self.field-0 old.part.items _ none here c.clear.ensures.items

@@ -1,0 +1,163 @@
+-- What a scan keeps of a cut tree, which private calls alone speak of: no file's contents, and of the entries of an open
+-- folder the number of those to come and one name.
+use Rattle.std.specs.Prelude.{◌≡◌, ℕ, ◌==◌, ◌||◌, ◌+◌, ◌-◌, ◌<◌, ◌++◌, List, [], ◌∷◌, length, map, reverse, slice_index, if◌then◌else◌, nat_lt, nat_le, Option, None, Some}
+use Rattle.std.specs.Int.{from_be_bytes, w16, w32, w64}
+use Rattle.tree_canon.specs.declared.fault.Reason.{Reason}
+use Rattle.tree_canon.specs.declared.fault.Reason.TheVariants as reasons
+use Rattle.tree_canon.specs.declared.next_field.ScannedFolder.{ScannedFolder}
+use Rattle.tree_canon.specs.declared.next_field.NextField.{NextField}
+use Rattle.tree_canon.specs.declared.next_field.NextField.TheVariants as field
+use Rattle.tree_canon.specs.declared.scanner.Scanner.{Scanner}
+use Rattle.tree_canon.specs.Names.{is_name, is_target, follows}
+use Rattle.tree_canon.specs.Spelling.{magic}
+use Rattle.tree_canon.specs.CutTree.{OpenFolder, Hole, Magic, Tag, Count, NameLength, Name, Executable, FileLength, Contents, TargetLength, Target, End, CutTree, width, last_name}
+use Rattle.tree_canon.specs.Rules.{unless, either_reason, large_past, first_byte, is_tag, length_reason}
+use Rattle.tree_canon.specs.Reading.{State, Stuck, Going}
+
+-- what is kept of an open folder
+abbrev pub scanned_folder : OpenFolder → ScannedFolder
+scanned_folder f = record { left = f.count - (length f.before + 1); name = f.name }
+
+-- the field at a hole, of which so many bytes were read
+abbrev pub next_field : Hole → ℕ → NextField
+next_field (Magic k) n = field.Magic k
+next_field Tag n = field.Tag
+next_field Count n = field.Count
+next_field (NameLength count before) n = field.NameLength (count - (length before + 1)) (last_name before)
+next_field (Name count before size) n = field.Name (count - (length before + 1)) (last_name before) size
+next_field Executable n = field.Executable
+next_field (FileLength exec) n = field.FileLength
+next_field (Contents exec size) n = field.Contents size n
+next_field TargetLength n = field.TargetLength
+next_field (Target size) n = field.Target size
+next_field (End node) n = field.End
+
+-- what is kept of the bytes of a field: all, but nothing of a file's contents
+abbrev pub kept_part : Hole → List ℕ → List ℕ
+kept_part (Magic k) part = part
+kept_part Tag part = part
+kept_part Count part = part
+kept_part (NameLength count before) part = part
+kept_part (Name count before size) part = part
+kept_part Executable part = part
+kept_part (FileLength exec) part = part
+kept_part (Contents exec size) part = []
+kept_part TargetLength part = part
+kept_part (Target size) part = part
+kept_part (End node) part = part
+
+-- how many bytes the next field has
+abbrev pub field_width : NextField → ℕ
+field_width (field.Magic k) = 1
+field_width field.Tag = 1
+field_width field.Count = 4
+field_width (field.NameLength left last) = 2
+field_width (field.Name left last size) = size
+field_width field.Executable = 1
+field_width field.FileLength = 8
+field_width (field.Contents size taken) = size
+field_width field.TargetLength = 2
+field_width (field.Target size) = size
+field_width field.End = 1
+
+-- how many of them were read, where these are kept
+abbrev pub bytes_taken : NextField → List ℕ → ℕ
+bytes_taken (field.Magic k) part = length part
+bytes_taken field.Tag part = length part
+bytes_taken field.Count part = length part
+bytes_taken (field.NameLength left last) part = length part
+bytes_taken (field.Name left last size) part = length part
+bytes_taken field.Executable part = length part
+bytes_taken field.FileLength part = length part
+bytes_taken (field.Contents size taken) part = taken
+bytes_taken field.TargetLength part = length part
+bytes_taken (field.Target size) part = length part
+bytes_taken field.End part = length part
+
+-- the field with more bytes read, and what is kept of them
+abbrev pub Taken : Type 0
+Taken = NextField × List ℕ
+
+abbrev pub with_bytes : NextField → List ℕ → List ℕ → Taken
+with_bytes (field.Magic k) part bytes = (field.Magic k, part ++ bytes)
+with_bytes field.Tag part bytes = (field.Tag, part ++ bytes)
+with_bytes field.Count part bytes = (field.Count, part ++ bytes)
+with_bytes (field.NameLength left last) part bytes = (field.NameLength left last, part ++ bytes)
+with_bytes (field.Name left last size) part bytes = (field.Name left last size, part ++ bytes)
+with_bytes field.Executable part bytes = (field.Executable, part ++ bytes)
+with_bytes field.FileLength part bytes = (field.FileLength, part ++ bytes)
+with_bytes (field.Contents size taken) part bytes = (field.Contents size (taken + length bytes), part)
+with_bytes field.TargetLength part bytes = (field.TargetLength, part ++ bytes)
+with_bytes (field.Target size) part bytes = (field.Target size, part ++ bytes)
+with_bytes field.End part bytes = (field.End, part ++ bytes)
+
+-- what a whole field breaks beside its own length, in so many open folders and behind so many bytes
+abbrev pub own_reason_at : ℕ → ℕ → NextField → List ℕ → Option Reason
+own_reason_at depth at (field.Magic k) part = unless (first_byte part == slice_index magic k) reasons.Magic
+own_reason_at depth at field.Tag part = either_reason (unless (nat_le depth 64) reasons.Deep) (unless (is_tag (first_byte part)) reasons.Tag)
+own_reason_at depth at field.Count part = None
+own_reason_at depth at (field.NameLength left last) part = length_reason (at + 2) 255 part
+own_reason_at depth at (field.Name left last size) part = either_reason (unless (is_name part) reasons.Name) (unless (follows last part) reasons.Order)
+own_reason_at depth at field.Executable part = unless (first_byte part == 0 || first_byte part == 1) reasons.Exec
+own_reason_at depth at field.FileLength part = large_past (at + 8 + from_be_bytes w64 part)
+own_reason_at depth at (field.Contents size taken) part = None
+own_reason_at depth at field.TargetLength part = length_reason (at + 2) 4096 part
+own_reason_at depth at (field.Target size) part = unless (is_target part) reasons.Name
+own_reason_at depth at field.End part = Some reasons.Rest
+
+-- the first reason that a whole field gives
+abbrev pub reason_at : ℕ → ℕ → NextField → List ℕ → Option Reason
+reason_at depth at f part = either_reason (large_past (at + field_width f)) (own_reason_at depth at f part)
+
+-- the open folders, the innermost first, and the field that comes next
+pub record Place : Type 0 where
+  pub folders : List ScannedFolder
+  pub next : NextField
+
+abbrev pub place : List ScannedFolder → NextField → Place
+place fs f = record { folders = fs; next = f }
+
+-- a node is whole: its folder goes on, or is whole too
+abbrev pub behind_node : List ScannedFolder → Place
+behind_node [] = place [] field.End
+behind_node (f ∷ fs) = if nat_lt 0 f.left then place fs (field.NameLength (f.left - 1) (Some f.name)) else behind_node fs
+
+abbrev pub behind_tag : List ScannedFolder → ℕ → Place
+behind_tag fs tag = if tag == 68 then place fs field.Count else if tag == 70 then place fs field.Executable else place fs field.TargetLength
+
+abbrev pub behind_count : List ScannedFolder → ℕ → Place
+behind_count fs count = if nat_lt 0 count then place fs (field.NameLength (count - 1) None) else behind_node fs
+
+abbrev pub behind_file_length : List ScannedFolder → ℕ → Place
+behind_file_length fs size = if size == 0 then behind_node fs else place fs (field.Contents size 0)
+
+-- behind a field that meets its rules
+abbrev pub behind : List ScannedFolder → NextField → List ℕ → Place
+behind fs (field.Magic k) part = if nat_lt k 4 then place fs (field.Magic (k + 1)) else place fs field.Tag
+behind fs field.Tag part = behind_tag fs (first_byte part)
+behind fs field.Count part = behind_count fs (from_be_bytes w32 part)
+behind fs (field.NameLength left last) part = place fs (field.Name left last (from_be_bytes w16 part))
+behind fs (field.Name left last size) part = place (record { left = left; name = part } ∷ fs) field.Tag
+behind fs field.Executable part = place fs field.FileLength
+behind fs field.FileLength part = behind_file_length fs (from_be_bytes w64 part)
+behind fs (field.Contents size taken) part = behind_node fs
+behind fs field.TargetLength part = place fs (field.Target (from_be_bytes w16 part))
+behind fs (field.Target size) part = behind_node fs
+behind fs field.End part = place fs field.End
+
+-- the place of a cut tree, at the first byte of its next field
+abbrev pub place_of : CutTree → Place
+place_of c = place (map scanned_folder c.folders) (next_field c.hole 0)
+
+-- a scanner has come to a cut tree, behind so many bytes, and to a part of its next field
+pub record HasReached (s : Scanner) (count : ℕ) (c : CutTree) (read : List ℕ) : Type 0 where
+  pub at : s.at ≡ count
+  pub folders : reverse s.folders.items ≡ map scanned_folder c.folders
+  pub next : s.next ≡ next_field c.hole (length read)
+  pub part : s.part.items ≡ kept_part c.hole read
+  pub partial : length read < width c.hole
+
+-- the same of a state that goes on
+abbrev pub IsAt : Scanner → State → Type 0
+IsAt s (Stuck at reason) = ⊥
+IsAt s (Going at c part) = HasReached s at c part

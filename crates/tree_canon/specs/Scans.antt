@@ -1,0 +1,39 @@
+-- What a scan was fed, and what its calls answer: as a decoder does, but that no tree is handed over.
+use Rattle.std.specs.Prelude.{◌≡◌, ℕ, List, length, None, Some, Result, Ok, Err}
+use Rattle.tree_canon.specs.declared.node.Node.{Node}
+use Rattle.tree_canon.specs.declared.fault.Reason.TheVariants as reasons
+use Rattle.tree_canon.specs.declared.fault.DecodeFault.{DecodeFault}
+use Rattle.tree_canon.specs.declared.fault.DecodeFault.TheVariants as faults
+use Rattle.tree_canon.specs.declared.scanner.Scanner.{Scanner}
+use Rattle.tree_canon.specs.declared.scan.Scan.{Scan}
+use Rattle.tree_canon.specs.CutTree.{CutTree}
+use Rattle.tree_canon.specs.Division.{Spells, IsShort}
+use Rattle.tree_canon.specs.Reading.{Reads}
+use Rattle.tree_canon.specs.Feeding.{Fed, Feeds}
+use Rattle.tree_canon.specs.Scanning.{HasReached}
+
+-- the bytes are those of a cut tree, in which every field meets its rules, and a part of the next field, at which the
+-- scanner is
+pub record HasRead (s : Scanner) (bytes : List ℕ) : Type 0 where
+  pub count : ℕ
+  pub cut : CutTree
+  pub part : List ℕ
+  pub reads : Reads count cut part bytes
+  pub reached : HasReached s count cut part
+
+-- the bytes that a scan was fed, while nothing in them is broken, and else the fault that it keeps
+abbrev pub Scans : Scan → Fed → Type 0
+Scans s (Ok bytes) = (s.fault ≡ None) × HasRead s.scanner bytes
+Scans s (Err fault) = s.fault ≡ Some fault
+
+-- what `feed` answers and leaves
+pub record ScanFeeds (fed : Fed) (piece : List ℕ) (result : Result Unit DecodeFault) (new : Scan) : Type 0 where
+  pub next : Fed
+  pub feeds : Feeds fed piece result next
+  pub scans : Scans new next
+
+-- what `finish` answers: whether a tree is spelled, and else that the bytes are short
+abbrev pub ScanEnds : Fed → Result Unit DecodeFault → Type 0
+ScanEnds (Ok bytes) (Ok done) = (root : Node) × Spells root bytes
+ScanEnds (Ok bytes) (Err fault) = IsShort bytes × (fault ≡ faults.Bad (length bytes) reasons.Short)
+ScanEnds (Err fault) result = result ≡ Err fault
