@@ -2,6 +2,7 @@ pub mod Nodes
 pub mod Around
 pub mod Blames
 pub mod CallSteps
+pub mod Checked
 pub mod Entries
 pub mod Feeding
 pub mod Fit

@@ -1,5 +1,6 @@
 pub mod Answers
 pub mod Around
+pub mod Checking
 pub mod Judging
 pub mod Laying
 pub mod Overlay

@@ -6,6 +6,7 @@ ghost use Rattle.tree_store.specs.Answers.{BlamesAt, cause_of};
 ghost use Rattle.tree_store.specs.Steps.{checks_tree, lays_stored, puts_folder};
 ghost use Rattle.tree_store.specs.Store.{tree_path};
 
+use crate::checking::check_file;
 use crate::fault::StoreFault;
 use crate::laying::write_tree;
 use crate::reading::read_tree;
@@ -32,7 +33,9 @@ pub fn put_folder<W: World>(
     Ok(digest)
 }
 
-/// Sees that the store has a tree under a digest, and refuses as `get` does.
+/// Sees that the store has a tree under a digest, and refuses as `get` does. The file is read in pieces of 65,536 bytes,
+/// and nothing of the tree is kept but the names of the folders round the place that was read.
+#[tactic(auto, using(crate::proofs::Checked::checked_so))]
 pub fn check_tree<W: World>(
     alloc: Global,
     world: &mut W,
@@ -45,8 +48,7 @@ pub fn check_tree<W: World>(
     ensures files { CountsFiles cause_of result (W.file_faults world.old) (W.file_faults world.new) }
     ensures children { W.child_faults world.new ≡ W.child_faults world.old }
 {
-    get(alloc, world, store, digest)?;
-    Ok(())
+    check_file(alloc, world, store, digest)
 }
 
 /// Lays a stored tree at a place under a folder, as getting and then writing it do.

@@ -1,6 +1,7 @@
 //! Trees in files: reading a folder as a tree, laying a tree over files, and a store that keeps trees under their digests.
 #![tactic(auto)]
 
+mod checking;
 mod fault;
 mod folders;
 mod judging;

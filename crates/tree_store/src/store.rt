@@ -21,10 +21,10 @@ use std::alloc::Global;
 use tree_canon::{Digest, Judged, Tree, encode};
 
 /// How many bytes are read at once.
-const PIECE: u64 = 65536;
+pub(crate) const PIECE: u64 = 65536;
 
 // The path of a tree's file.
-fn tree_file(alloc: Global, store: &Path, digest: &Digest) -> Result<Path, Memory>
+pub(crate) fn tree_file(alloc: Global, store: &Path, digest: &Digest) -> Result<Path, Memory>
     requires { length store.now ≤ 8192 }
     ensures path { IfOk result (λ path. path ≡ tree_path store.now digest.now) }
     ensures beside { IfOk result (λ path. IsTrue (is_path (beside path))) }
@@ -101,7 +101,7 @@ pub fn has<W: World>(
 }
 
 // The bytes of the file at a path from a place on, at most as many as are read at once.
-fn read_piece<W: World>(
+pub(crate) fn read_piece<W: World>(
     alloc: Global,
     world: &mut W,
     path: &Path,
