@@ -47,7 +47,7 @@ layer_within cached row sound =
     let kept = (and_parts (not (cached && not row.flags.cache)) (is_kept row.meta) sound).1 in
     max-le (zero_within 33) (max-le (zero_within 33) (max-le (zero_within 33) (max-le (zero_within 33) (max-le (zero_within 33) (max-le (zero_within 33) (max-le (metadata_within row.meta kept) (zero_within 33)))))))
 
-same_layer-symmetric : (a b : LayerKey) → same_layer a b ≡ same_layer b a
+pub same_layer-symmetric : (a b : LayerKey) → same_layer a b ≡ same_layer b a
 same_layer-symmetric a b = ap (λ same. same && bytes_eq a.layer b.layer) (bytes_eq-symmetric a.id b.id) ∙ ap (λ same. bytes_eq b.id a.id && same) (bytes_eq-symmetric a.layer b.layer)
 
 pub layer_row_read : (cached : Bool) (before : List LayerRow) (row : LayerRow) → has_layer_names row ≡ true → may_follow same_layer layer_key (is_layer_row cached) before row ≡ true → layer_row_in cached before (layer_members row) ≡ Ok row

@@ -174,7 +174,8 @@ impl WrittenTable for ImageDoc {
 /// Reads an image. The first fault in the order of keys and rows is answered, as `rows.0.place`; what holds of a whole
 /// list is judged behind its rows.
 pub fn read_image(alloc: Global, bytes: &[u8]) -> Result<ImageDoc, DocFault>
-    ensures { Answers result (image_in bytes.now) }
+    ensures image { Answers result (image_in bytes.now) }
+    ensures readable { IfOk result (λ image. IsTrue (is_image_doc image)) }
 {
     read_document::<ImageDoc>(alloc, bytes)
 }

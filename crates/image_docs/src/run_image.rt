@@ -72,7 +72,8 @@ impl WrittenTable for RunDoc {
 
 /// Reads a run image. The first fault in the order of keys and rows is answered, as `rows.1`.
 pub fn read_run(alloc: Global, bytes: &[u8]) -> Result<RunDoc, DocFault>
-    ensures { Answers result (run_in bytes.now) }
+    ensures image { Answers result (run_in bytes.now) }
+    ensures readable { IfOk result (λ image. IsTrue (is_run_doc image)) }
 {
     read_document::<RunDoc>(alloc, bytes)
 }
