@@ -1,0 +1,17 @@
+pub mod Members
+pub mod Digits
+pub mod WordLemmas
+pub mod GroupLemmas
+pub mod SearchLemmas
+pub mod CountLemmas
+pub mod AskedLemmas
+pub mod NumberLemmas
+pub mod ReplyLemmas
+pub mod CheckLemmas
+pub mod RanLemmas
+pub mod DrillLemmas
+pub mod ChoiceLemmas
+pub mod TreeLemmas
+pub mod BuildpackLemmas
+pub mod ListLemmas
+pub mod SpawnerLemmas

@@ -1,0 +1,11 @@
+pub mod Buildpacks
+pub mod Digits
+pub mod Examples
+pub mod Frame
+pub mod Law
+pub mod Order
+pub mod Replies
+pub mod Report
+pub mod Runs
+pub mod Spawners
+pub mod Trees
