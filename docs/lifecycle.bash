@@ -46,7 +46,7 @@ _lifecycle() {
     local current=${COMP_WORDS[COMP_CWORD]} words
     COMPREPLY=()
     if [ "$COMP_CWORD" -eq 1 ]; then
-        words='analyze base build create detect export launch rebase restore show unpack'
+        words='analyze base build create detect drill export launch rebase restore show unpack'
     else
         case ${COMP_WORDS[COMP_CWORD - 1]} in
             --order) mapfile -t COMPREPLY < <(compgen -f -- "$current") && return ;;

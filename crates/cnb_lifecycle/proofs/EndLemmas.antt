@@ -1,16 +1,18 @@
 -- The end of the command that was asked for.
 use Rattle.std.proofs.Common.{◌≡◌, ◌∙◌, refl, sym, ap, subst, ℕ, List, Bool, true, false, Option, Some, None, Result, Ok, Err}
+use Rattle.std.specs.Prelude.{IfErr, IfOk}
 use Rattle.cnb_world.specs.declared.env.Variable.{Variable}
 use Rattle.cnb_words.specs.declared.words.Asked.{Asked}
 use Rattle.steps.specs.Causes.{CountsFiles, IsAnswer, IsGivenCause}
 use Rattle.steps.proofs.ReadingLaws.{where_map}
 use Rattle.steps.specs.Outside.{Outside, Seen, SpawnerSeen, faults_of}
 use Rattle.steps.specs.Steps.{gives}
-use Rattle.steps.proofs.StepLemmas.{ended, given, given_fault, went}
+use Rattle.steps.proofs.StepLemmas.{ended, given, given_fault, no_memory, went}
 use Rattle.shelf_set.specs.Caches.{Caches, WorldAndCaches, caches_of, world_and_caches}
 use Rattle.shelf_set.specs.ShelfState.{ShelfState}
 use Rattle.cnb_lifecycle.specs.declared.answer.Answer.{Answer}
 use Rattle.cnb_lifecycle.specs.declared.refusal.Refusal.{Refusal}
+use Rattle.cnb_lifecycle.specs.declared.refusal.Refusal.TheVariants.{Memory}
 use Rattle.cnb_lifecycle.specs.declared.status.Status.{Status}
 use Rattle.cnb_lifecycle.specs.Commands.{On, after_words, asked_of, does, options_in, refusal_of, uses_caches}
 use Rattle.cnb_lifecycle.specs.Ends.{CountsChild, Ends}
@@ -141,6 +143,11 @@ lifted_caches step old new spawners caches left result h = (h, refl)
 -- the command that was asked for did its steps
 pub arm : (asked command : Asked) (env : List Variable) (old new : Surroundings) (result : Result Answer Refusal) → asked ≡ command → does command env old result new → does asked env old result new
 arm asked command env old new result is h = subst (λ a. does a env old result new) (sym is) h
+
+-- an answer that is known, or want of memory
+pub known : (want : Answer) (result : Result Answer Refusal) (old : Surroundings) → IfOk result (λ answer. answer ≡ want) → IfErr result (λ refusal. refusal ≡ Memory) → gives cause_of (Ok want) old result old
+known want (Ok answer) old ok err = given cause_of (Ok want) old answer (ap Ok (sym ok))
+known want (Err refusal) old ok err = no_memory cause_of (Ok want) old refusal (ap cause_of err)
 
 -- a command that uses caches may change them
 pub busy : (asked command : Asked) (X : Type 0) → asked ≡ command → uses_caches command ≡ true → (uses_caches asked ≡ false) → X

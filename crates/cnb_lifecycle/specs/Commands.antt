@@ -5,7 +5,7 @@ use Rattle.cnb_world.specs.declared.env.Variable.{Variable}
 use Rattle.cnb_world.specs.Env.{value_of}
 use Rattle.cnb_words.specs.Words.{asked_by}
 use Rattle.cnb_words.specs.declared.words.Asked.{Asked}
-use Rattle.cnb_words.specs.declared.words.Asked.TheVariants.{Detect, Analyze, Restore, Build, Export, Create, Rebase, Base, Unpack, Show, Launch}
+use Rattle.cnb_words.specs.declared.words.Asked.TheVariants.{Detect, Analyze, Restore, Build, Export, Create, Rebase, Base, Unpack, Show, Drill, Launch}
 use Rattle.cnb_words.specs.declared.create.CreateWords.{CreateWords}
 use Rattle.cnb_words.specs.declared.detect.DetectWords.{DetectWords}
 use Rattle.cnb_words.specs.declared.fault.WordsFault.{WordsFault}
@@ -20,6 +20,7 @@ use Rattle.cnb_lifecycle.specs.Telling.{tells}
 use Rattle.cnb_build.specs.Command.{commands_build}
 use Rattle.cnb_create.specs.Creates.{creates}
 use Rattle.cnb_detect.specs.Detects.{detects}
+use Rattle.cnb_drill.specs.Report.{drill_text}
 use Rattle.cnb_export.specs.Command.{exports_command}
 use Rattle.cnb_launch.specs.Commands.{launches_command, unpacks_command}
 use Rattle.cnb_rebase.specs.Bases.{bases_command}
@@ -71,6 +72,7 @@ options_of_detect (Rebase options) = None
 options_of_detect (Base options) = None
 options_of_detect (Unpack options) = None
 options_of_detect (Show options) = None
+options_of_detect (Drill options) = None
 options_of_detect (Launch options) = None
 
 -- the options of `create`, where that is asked for
@@ -85,6 +87,7 @@ options_of_create (Rebase options) = None
 options_of_create (Base options) = None
 options_of_create (Unpack options) = None
 options_of_create (Show options) = None
+options_of_create (Drill options) = None
 options_of_create (Launch options) = None
 
 -- the options of a command, where the words ask for it
@@ -97,7 +100,8 @@ abbrev pub refusal_of : Result Asked Refusal → Option Refusal
 refusal_of (Ok asked) = None
 refusal_of (Err refusal) = Some refusal
 
--- What each command does. It answers the text to be printed, and `launch` how its child ended.
+-- What each command does. It answers the text to be printed, and `launch` how its child ended. The text of `drill` is known by
+-- its number, and nothing outside is read or changed.
 abbrev pub does : Asked → List Variable → Surroundings → Result Answer Refusal → Surroundings → Type 0
 does (Detect options) env = over_outside (tells Printed of_detect (detects options env))
 does (Analyze options) env = over_world (tells Printed of_restore (analyzes_command options))
@@ -109,6 +113,7 @@ does (Rebase options) env = over_world (tells Printed of_rebase (rebases_command
 does (Base options) env = over_world (tells Printed of_base (bases_command options))
 does (Unpack options) env = over_world (tells Printed of_launch (unpacks_command options))
 does (Show options) env = over_world (tells Printed of_image (shows_command options))
+does (Drill options) env = gives cause_of (Ok (Printed (drill_text options.number)))
 does (Launch options) env = over_world (tells Launched of_launch (launches_command options env))
 
 -- the words are read, which takes memory, and then the command does its steps
@@ -127,4 +132,5 @@ uses_caches (Rebase options) = false
 uses_caches (Base options) = false
 uses_caches (Unpack options) = false
 uses_caches (Show options) = false
+uses_caches (Drill options) = false
 uses_caches (Launch options) = false

@@ -2,13 +2,14 @@
 //!
 //! `lifecycle` reads the words, has the command's crate do its steps and writes the text of its end.
 //! Served are the commands that build an image and launch it (platform.md, "detector" to "launcher"), and `base`,
-//! `unpack` and `show`, which are this project's own.
+//! `unpack`, `show` and `drill`, which are this project's own.
 #![tactic(auto)]
 
 mod answer;
 mod caches;
 mod commands;
 mod detail;
+mod drilling;
 mod faults;
 mod launching;
 mod phase_faults;

@@ -20,6 +20,7 @@ ghost use Rattle.cnb_lifecycle.specs.Telling.{tells};
 use crate::answer::Answer;
 use crate::caches::numbers;
 use crate::commands::command;
+use crate::drilling::run_drill;
 use crate::launching::{run_launch, run_unpack};
 use crate::phases::{run_create, run_export, run_restore};
 use crate::printing::finish;
@@ -88,6 +89,7 @@ fn run_asked<W: World, S: Spawner + Send, R: Threads + Sync>(
         Asked::Base(options) => run_base(alloc, options, world),
         Asked::Unpack(options) => run_unpack(alloc, options, world),
         Asked::Show(options) => run_show(alloc, options, world),
+        Asked::Drill(options) => run_drill(rt, alloc, options),
         Asked::Launch(options) => run_launch(alloc, options, env, world),
     }
 }

@@ -7,7 +7,7 @@ use Rattle.cnb_lifecycle.specs.PhaseFaults.{of_create}
 use Rattle.cnb_create.specs.Surroundings.{over_outside}
 use Rattle.cnb_lifecycle.specs.Telling.{tells}
 use Rattle.cnb_lifecycle.specs.declared.answer.Answer.TheVariants.{Printed}
-use Rattle.cnb_lifecycle.proofs.EndLemmas.{arm, busy, choice_arm, lifted_caches, lifted_outside, lifted_world}
+use Rattle.cnb_lifecycle.proofs.EndLemmas.{arm, busy, choice_arm, known, lifted_caches, lifted_outside, lifted_world}
 use Rattle.cnb_lifecycle.proofs.top.run_asked.Goals as goal
 
 pub returns-in-Detect-clause-outcome : goal.returns-in-Detect-clause-outcome
@@ -46,6 +46,9 @@ returns-in-Unpack-clause-does g c = arm _ _ _ _ _ _ c.in-Unpack.is (lifted_world
 
 pub returns-in-Show-clause-does : goal.returns-in-Show-clause-does
 returns-in-Show-clause-does g c = arm _ _ _ _ _ _ c.in-Show.is (lifted_world _ _ _ _ _ _ c.run_show.ensures.steps)
+
+pub returns-in-Drill-clause-does : goal.returns-in-Drill-clause-does
+returns-in-Drill-clause-does g c = arm _ _ _ _ _ _ c.in-Drill.is (known _ _ _ c.run_drill.ensures.text c.run_drill.ensures.memory)
 
 pub returns-in-Launch-clause-does : goal.returns-in-Launch-clause-does
 returns-in-Launch-clause-does g c = arm _ _ _ _ _ _ c.in-Launch.is (lifted_world _ _ _ _ _ _ c.run_launch.ensures.steps)
