@@ -1,5 +1,5 @@
 -- The trials of a group by their numbers.
-use Rattle.std.proofs.Common.{◌≡◌, ℕ, zero, suc, ◌+◌, ◌*◌, ◌/◌, ◌%◌, ◌<◌, ◌≤◌, true, cond, List, [], ◌∷◌, ◌++◌, map, length, drop, take, get_or, refl, sym, ◌∙◌, ap, subst, arith, Option, Some, None, append_assoc, append-nil, length-append}
+use Rattle.std.proofs.Common.{◌≡◌, ℕ, zero, suc, ◌+◌, ◌-◌, ◌*◌, ◌/◌, ◌%◌, ◌<◌, ◌≤◌, true, cond, List, [], ◌∷◌, ◌++◌, map, length, drop, take, get_or, refl, sym, ◌∙◌, ap, subst, arith, Option, Some, None, append_assoc, append-nil, length-append}
 use Rattle.std.specs.Prelude.{slice_get, nat_lt}
 use Rattle.std.specs.Option.{option_map}
 use Rattle.std.specs.List.{flat_map, list_all}
@@ -7,12 +7,14 @@ use Rattle.std.proofs.lemmas.Bool.{and_parts, ltb-true, lt-ltb, cond-true}
 use Rattle.std.proofs.lemmas.List.{length-map, drop_more, drop_all, take_more, take-append-drop}
 use Rattle.std.proofs.lemmas.List.Folds.{list_all-append}
 use Rattle.std.proofs.lemmas.Nat.{div-add-mod'}
-use Rattle.std.proofs.lemmas.Option.{slice_get-map}
-use Rattle.std.proofs.Math.Nat.{mul_assoc, one-le-mul, le-mul_of_pos_right, mul-div_cancel_left, div-lt_iff_lt-mul, mod-lt}
+use Rattle.std.proofs.lemmas.Option.{slice_get-map, slice_get-get_or, slice_get_within}
+use Rattle.std.proofs.Math.Nat.{mul_assoc, mul-le-mul_right, one-le-mul, le-mul_of_pos_right, mul-div_cancel_left, div-lt_iff_lt-mul, mod-lt}
 use Rattle.bp_docs.specs.declared.build_plan.PlanOption.{PlanOption}
 use Rattle.plan_resolve.specs.declared.rows.TrialRow.{TrialRow}
 use Rattle.plan_resolve.specs.declared.rows.AliveRow.{AliveRow}
+use Rattle.plan_resolve.specs.Trials.{kept_of}
 use Rattle.plan_resolve.specs.Choices.{chosen_row, choices_of, choice_count}
+use Rattle.plan_resolve.specs.Prefixes.{IsDead, AllFail}
 use Rattle.plan_resolve.specs.Resolution.{has_options}
 
 -- ---- how many there are
@@ -63,12 +65,12 @@ length-pieces f (x ∷ xs) count each =
     let rest = length-pieces f xs count each in
     length-append (f x) (flat_map f xs) ∙ omega (arith, each x, rest)
 
-slice_get-append_within : {X : Type 0} (xs ys : List X) (n : ℕ) → n < length xs → slice_get (xs ++ ys) n ≡ slice_get xs n
+pub slice_get-append_within : {X : Type 0} (xs ys : List X) (n : ℕ) → n < length xs → slice_get (xs ++ ys) n ≡ slice_get xs n
 slice_get-append_within [] ys n h = absurd (omega arith)
 slice_get-append_within (x ∷ xs) ys zero h = refl
 slice_get-append_within (x ∷ xs) ys (suc n) h = slice_get-append_within xs ys n (omega arith)
 
-slice_get-append_past : {X : Type 0} (xs ys : List X) (n m : ℕ) → n ≡ length xs + m → slice_get (xs ++ ys) n ≡ slice_get ys m
+pub slice_get-append_past : {X : Type 0} (xs ys : List X) (n m : ℕ) → n ≡ length xs + m → slice_get (xs ++ ys) n ≡ slice_get ys m
 slice_get-append_past [] ys n m e = ap (slice_get ys) (omega arith)
 slice_get-append_past (x ∷ xs) ys zero m e = absurd (omega arith)
 slice_get-append_past (x ∷ xs) ys (suc n) m e = slice_get-append_past xs ys n m (omega arith)
@@ -90,25 +92,24 @@ length-choices (row ∷ rows) =
     length-pieces (λ option. map (λ trial. chosen_row row option ∷ trial) (choices_of rows)) row.options (choice_count rows)
     (λ option. length-map (choices_of rows) (λ trial. chosen_row row option ∷ trial) ∙ length-choices rows)
 
--- the first buildpack's alternative in the trial of a number, and the number of what follows
-pub choice_at : (row : AliveRow) (rows : List AliveRow) (number : ℕ) (option : PlanOption) → 0 < choice_count rows →
-    slice_get row.options (number / choice_count rows) ≡ Some option →
-    slice_get (choices_of (row ∷ rows)) number ≡ option_map (λ trial. chosen_row row option ∷ trial) (slice_get (choices_of rows) (number % choice_count rows))
-choice_at row rows number option some e =
-    let count = choice_count rows in
-    let f = λ (o : PlanOption). map (λ trial. chosen_row row o ∷ trial) (choices_of rows) in
-    ap (slice_get (flat_map f row.options)) (sym (div-add-mod' number count))
-    ∙ (pieces_at f row.options count (number / count) (number % count) option
-    (λ o. length-map (choices_of rows) (λ trial. chosen_row row o ∷ trial) ∙ length-choices rows) (mod-lt number some) e
-    ∙ slice_get-map (λ trial. chosen_row row option ∷ trial) (choices_of rows) (number % count))
+-- the trials with one of the first buildpack's alternatives, among all
+pub choice_at : (row : AliveRow) (rows : List AliveRow) (place number : ℕ) (option : PlanOption) → number < choice_count rows →
+    slice_get row.options place ≡ Some option →
+    slice_get (choices_of (row ∷ rows)) (place * choice_count rows + number) ≡ option_map (λ trial. chosen_row row option ∷ trial) (slice_get (choices_of rows) number)
+choice_at row rows place number option lt e =
+    pieces_at (λ o. map (λ trial. chosen_row row o ∷ trial) (choices_of rows)) row.options (choice_count rows) place number option
+    (λ o. length-map (choices_of rows) (λ trial. chosen_row row o ∷ trial) ∙ length-choices rows) lt e
+    ∙ slice_get-map (λ trial. chosen_row row option ∷ trial) (choices_of rows) number
 
 -- ---- a trial that is chosen row by row
 
--- the first i rows of the trial are chosen; a number among the choices of the others is left
+-- the first i rows of a trial are chosen; there are as many trials with them as choices of the others, and its number among these is left
 pub record IsChoosing (rows : List AliveRow) (first i later number : ℕ) (trial : List TrialRow) : Type 0 where
   pub later_is : later ≡ choice_count (drop i rows)
   pub within : number < later
-  pub rest : slice_get (choices_of rows) first ≡ option_map (λ rest. trial ++ rest) (slice_get (choices_of (drop i rows)) number)
+  pub below : number ≤ first
+  pub rest : (k : ℕ) → k < later →
+      slice_get (choices_of rows) ((first - number) + k) ≡ option_map (λ rest. trial ++ rest) (slice_get (choices_of (drop i rows)) k)
   pub len : length trial ≡ i
 
 positive_left : (a b n : ℕ) → n < a * b → 0 < a
@@ -153,13 +154,21 @@ join_map : (trial : List TrialRow) (row : TrialRow) (rest : Option (List TrialRo
 join_map trial row None = refl
 join_map trial row (Some rs) = ap Some (sym (append_assoc trial (row ∷ []) rs))
 
+nothing_before : (o : Option (List TrialRow)) → o ≡ option_map (λ rest. [] ++ rest) o
+nothing_before None = refl
+nothing_before (Some trial) = refl
+
 pub choosing_start : (rows : List AliveRow) (later number : ℕ) → later ≡ choice_count rows → number < later → IsChoosing rows number 0 later number []
 choosing_start rows later number e lt = record {
   later_is = e;
   within = lt;
-  rest = elim (slice_get (choices_of rows) number) as (λ o. o ≡ option_map (λ rest. [] ++ rest) o) [ None ↦ refl | Some trial ↦ refl ];
+  below = omega arith;
+  rest = λ k h. let at : (number - number) + k ≡ k = omega arith in rw at (nothing_before (slice_get (choices_of rows) k));
   len = refl;
 }
+
+place_within : (place count options k : ℕ) → place < options → k < count → place * count + k < options * count
+place_within place count options k lt h = let most : (place + 1) * count ≤ options * count = mul-le-mul_right count (omega arith) in omega arith
 
 pub choosing_step : (rows : List AliveRow) (first i later number : ℕ) (trial : List TrialRow) (row : AliveRow) (option : PlanOption) →
     i < length rows → row ≡ get_or rows i row → IsChoosing rows first i later number trial →
@@ -170,16 +179,23 @@ choosing_step rows first i later number trial row option lt is so_far e =
     let count = choice_count back in
     let now = turn rows first i later number trial row lt is so_far in
     let chosen = chosen_row row option in
-    record {
-      later_is = now.rest_is;
-      within = mod-lt number (rw now.rest_is now.positive_rest);
-      rest = so_far.rest
-          ∙ (ap (λ rs. option_map (λ rest. trial ++ rest) (slice_get (choices_of rs) number)) (drop_at rows i row lt is)
-          ∙ (ap (option_map (λ rest. trial ++ rest)) (choice_at row back number option now.positive_rest (ap (λ n. slice_get row.options (number / n)) (sym now.rest_is) ∙ e))
-          ∙ (join_map trial chosen (slice_get (choices_of back) (number % count))
-          ∙ ap (λ n. option_map (λ rest. (trial ++ chosen ∷ []) ++ rest) (slice_get (choices_of back) (number % n))) (sym now.rest_is))));
+    let at = drop_at rows i row lt is in
+    let all : later ≡ length row.options * count = so_far.later_is ∙ ap choice_count at in
+    let parts : number / count * count + number % count ≡ number = div-add-mod' number count in
+    rw now.rest_is (record {
+      later_is = refl;
+      within = mod-lt number now.positive_rest;
+      below = omega (arith, so_far.below);
+      rest = λ k h.
+          let place : (first - number % count) + k ≡ (first - number) + (number / count * count + k) = omega (arith, so_far.below) in
+          let within = place_within (number / count) count (length row.options) k now.index h in
+          ap (slice_get (choices_of rows)) place
+          ∙ (so_far.rest (number / count * count + k) (omega arith)
+          ∙ (ap (λ rs. option_map (λ rest. trial ++ rest) (slice_get (choices_of rs) (number / count * count + k))) at
+          ∙ (ap (option_map (λ rest. trial ++ rest)) (choice_at row back (number / count) k option h (ap (λ n. slice_get row.options (number / n)) (sym now.rest_is) ∙ e))
+          ∙ join_map trial chosen (slice_get (choices_of back) k))));
       len = length-append trial (chosen ∷ []) ∙ omega (arith, so_far.len);
-    }
+    })
 
 last_choice : (trial : List TrialRow) (number : ℕ) → number < 1 → option_map (λ rest. trial ++ rest) (slice_get ([] ∷ []) number) ≡ Some trial
 last_choice trial zero lt = ap Some (append-nil trial)
@@ -190,4 +206,29 @@ pub choosing_end : (rows : List AliveRow) (first i later number : ℕ) (trial : 
 choosing_end rows first i later number trial le so_far =
     let none = drop_all i rows le in
     let one : later ≡ 1 = so_far.later_is ∙ ap choice_count none in
-    so_far.rest ∙ (ap (λ rs. option_map (λ rest. trial ++ rest) (slice_get (choices_of rs) number)) none ∙ last_choice trial number (omega (arith, so_far.within, one)))
+    let here : first ≡ (first - number) + number = omega (arith, so_far.below) in
+    ap (slice_get (choices_of rows)) here
+    ∙ (so_far.rest number so_far.within
+    ∙ (ap (λ rs. option_map (λ rest. trial ++ rest) (slice_get (choices_of rs) number)) none ∙ last_choice trial number (omega (arith, so_far.within, one))))
+
+-- ---- trials that begin with a dead prefix
+
+dead_one : (prefix trial : List TrialRow) (rest : Option (List TrialRow)) → IsDead prefix → Some trial ≡ option_map (λ rs. prefix ++ rs) rest → kept_of trial ≡ None
+dead_one prefix trial None dead e = absurd cc
+dead_one prefix trial (Some rs) dead e = let same : trial ≡ prefix ++ rs = cc in ap kept_of same ∙ dead rs
+
+pub dead_choices : (rows : List AliveRow) (first i later number : ℕ) (prefix : List TrialRow) → IsChoosing rows first i later number prefix → IsDead prefix →
+    AllFail rows first (later - number)
+dead_choices rows first i later number prefix so_far dead =
+    let back = choices_of (drop i rows) in
+    let last : later - 1 < length back = omega (arith, so_far.within, so_far.later_is, length-choices (drop i rows)) in
+    let there : slice_get (choices_of rows) ((first - number) + (later - 1)) ≡ Some (prefix ++ get_or back (later - 1) []) =
+    so_far.rest (later - 1) (omega (arith, so_far.within)) ∙ ap (option_map (λ rest. prefix ++ rest)) (slice_get-get_or back (later - 1) [] last) in
+    let most = slice_get_within (choices_of rows) ((first - number) + (later - 1)) (prefix ++ get_or back (later - 1) []) there in
+    record {
+      some = omega (arith, so_far.within);
+      within = omega (arith, so_far.within, so_far.below, most, length-choices rows);
+      each = λ k trial lt e.
+          let at : (first - number) + (number + k) ≡ first + k = omega (arith, so_far.below) in
+          dead_one prefix trial (slice_get back (number + k)) dead (sym e ∙ (ap (slice_get (choices_of rows)) (sym at) ∙ so_far.rest (number + k) (omega arith)));
+    }

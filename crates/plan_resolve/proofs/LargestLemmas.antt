@@ -48,7 +48,7 @@ all_from p (x ∷ xs) each = and_from (p x) (list_all p xs)
     (each x (or_left (x == x) (is_in x xs) (eq-eqb x x refl)))
     (all_from p xs (λ i h. each i (or_right (i == x) (is_in i xs) h)))
 
-all_mono : {X : Type 0} (p q : X → Bool) (xs : List X) → ((x : X) → p x ≡ true → q x ≡ true) → list_all p xs ≡ true → list_all q xs ≡ true
+pub all_mono : {X : Type 0} (p q : X → Bool) (xs : List X) → ((x : X) → p x ≡ true → q x ≡ true) → list_all p xs ≡ true → list_all q xs ≡ true
 all_mono p q [] each a = refl
 all_mono p q (x ∷ xs) each a = let parts = and_parts (p x) (list_all p xs) a in
     and_from (q x) (list_all q xs) (each x parts.0) (all_mono p q xs each parts.1)

@@ -1,8 +1,8 @@
 -- The first passing trial, found by one trial after another.
-use Rattle.std.proofs.Common.{◌≡◌, ℕ, ◌+◌, ◌≤◌, List, ◌∷◌, length, drop, refl, ◌∙◌, ap, Option, Some, None, Ok, Bool, true, false, cond}
+use Rattle.std.proofs.Common.{◌≡◌, ℕ, zero, suc, ◌+◌, ◌<◌, ◌≤◌, List, [], ◌∷◌, length, get_or, arith, drop, refl, ◌∙◌, ap, Option, Some, None, Ok, Bool, true, false, cond}
 use Rattle.std.specs.Prelude.{slice_get, nat_lt}
 use Rattle.std.proofs.lemmas.List.{drop_more, drop_all}
-use Rattle.std.proofs.lemmas.Option.{slice_get_within, get_or_from_slice_get}
+use Rattle.std.proofs.lemmas.Option.{slice_get_within, slice_get-get_or, get_or_from_slice_get}
 use Rattle.plan_resolve.specs.declared.rows.TrialRow.{TrialRow}
 use Rattle.plan_resolve.specs.declared.rows.AliveRow.{AliveRow}
 use Rattle.plan_resolve.specs.declared.rows.Resolved.{Resolved}
@@ -23,6 +23,19 @@ pub next_fails : (rows : List AliveRow) (trials : List (List TrialRow)) (number 
 next_fails rows trials number trial e fails =
     ap (first_passing rows number) (drop_at trials number trial e)
     ∙ ap (answer_of rows number trial (first_passing rows (number + 1) (drop (number + 1) trials))) fails
+
+-- the search goes on behind trials that all fail
+pub next_fail : (rows : List AliveRow) (trials : List (List TrialRow)) (number count : ℕ) → number + count ≤ length trials →
+    ((k : ℕ) (trial : List TrialRow) → k < count → slice_get trials (number + k) ≡ Some trial → kept_of trial ≡ None) →
+    first_passing rows number (drop number trials) ≡ first_passing rows (number + count) (drop (number + count) trials)
+next_fail rows trials number zero within each = let same : number ≡ number + 0 = omega arith in ap (λ n. first_passing rows n (drop n trials)) same
+next_fail rows trials number (suc count) within each =
+    let trial = get_or trials (number + count) [] in
+    let here = slice_get-get_or trials (number + count) [] (omega arith) in
+    let next : number + count + 1 ≡ number + suc count = omega arith in
+    next_fail rows trials number count (omega arith) (λ k t lt e. each k t (omega arith) e)
+    ∙ (next_fails rows trials (number + count) trial here (each count trial (omega arith) here)
+    ∙ ap (λ n. first_passing rows n (drop n trials)) next)
 
 pub next_passes : (rows : List AliveRow) (trials : List (List TrialRow)) (number : ℕ) (trial : List TrialRow) (set : List ℕ) → slice_get trials number ≡ Some trial → kept_of trial ≡ Some set →
     first_passing rows number (drop number trials) ≡ Some (resolved_at rows number trial set)

@@ -1,13 +1,14 @@
 // The trials of a group by their numbers.
-ghost use Rattle.std.specs.Prelude.{◌≡◌, ◌<◌, IsTrue, IfOk, Some, None, length, slice_get, nat_lt, if◌then◌else◌};
+ghost use Rattle.std.specs.Prelude.{◌≡◌, ◌<◌, ◌^◌, IsTrue, IfOk, IfSome, IfNone, Some, None, length, slice_get, nat_lt, if◌then◌else◌};
 ghost use Rattle.std.specs.List.{list_all};
 ghost use Rattle.plan_resolve.specs.Choices.{choices_of, choice_count};
+ghost use Rattle.plan_resolve.specs.Prefixes.{AllFail};
 ghost use Rattle.plan_resolve.specs.Resolution.{has_options};
 
 use crate::borrowed::BorrowedRow;
+use crate::prefix::Prefix;
 use crate::rows::AliveRow;
 use cnb_world::Memory;
-use std::alloc::Global;
 
 /// How many trials are tried at most.
 const MOST_TRIALS: usize = 65_536;
@@ -27,26 +28,32 @@ pub fn trial_count(rows: &[AliveRow]) -> Option<u32>
     Some(count as u32)
 }
 
-/// The trial of a number, where there are so many trials.
-pub fn chosen<'a>(
-    alloc: Global,
+/// Chooses the rows of the trial of a number, one after another. Where those so far are dead, it stops, and answers how
+/// many trials from that number on begin with them.
+pub fn choose<'a>(
     rows: &'a [AliveRow],
     trials: u32,
     number: u32,
-) -> Result<Vec<BorrowedRow<'a>>, Memory>
+    prefix: &mut Prefix<'a>,
+) -> Result<Option<u32>, Memory>
+    requires len { length rows.now < 2 ^ 32 }
     requires count { trials ≡ choice_count rows.now }
     requires within { number < trials }
-    ensures trial { IfOk result (λ trial. slice_get (choices_of rows.now) number ≡ Some trial.items) }
-    ensures len { IfOk result (λ trial. length trial.items ≡ length rows.now) }
+    ensures trial { IfOk result (λ o. IfNone o (slice_get (choices_of rows.now) number ≡ Some prefix.new.rows.items)) }
+    ensures len { IfOk result (λ o. IfNone o (length prefix.new.rows.items ≡ length rows.now)) }
+    ensures dead { IfOk result (λ o. IfSome o (AllFail rows.now number)) }
 {
-    let mut trial = Vec::with_capacity(alloc, rows.len())?;
+    prefix.clear();
     let mut later = trials;
     let mut number = number;
     for row in rows {
         let options = row.options.as_slice();
         later /= options.len() as u32;
-        trial.push(BorrowedRow::chosen(row, &options[(number / later) as usize]))?;
+        let is_dead = prefix.push(BorrowedRow::chosen(row, &options[(number / later) as usize]))?;
         number %= later;
+        if is_dead {
+            return Ok(Some(later - number));
+        }
     }
-    Ok(trial)
+    Ok(None)
 }

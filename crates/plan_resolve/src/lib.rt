@@ -5,6 +5,7 @@ mod borrowed;
 mod choosing;
 mod kept_rows;
 mod plan;
+mod prefix;
 mod pruning;
 mod resolution;
 mod rows;

@@ -58,7 +58,8 @@ fn is_required_by(trial: &[BorrowedRow], places: &[u32], name: &str) -> bool
         .any(|place| requires_name(trial, *place, name))
 }
 
-fn are_provided(trial: &[BorrowedRow], before: &[u32], needs: &[Need]) -> bool
+/// Whether each of these requirements is provided by one of the places.
+pub fn are_provided(trial: &[BorrowedRow], before: &[u32], needs: &[Need]) -> bool
     ensures { result ≡ list_all (λ need. is_provided_by trial.now (reverse before.now) need.name) needs.now }
 {
     needs

@@ -5,9 +5,10 @@ ghost use Rattle.plan_resolve.specs.Choices.{choices_of, choice_count};
 ghost use Rattle.plan_resolve.specs.Resolution.{resolution, ResolvesAs, has_options, first_passing, resolved_at};
 
 use crate::borrowed::BorrowedRow;
-use crate::choosing::{chosen, trial_count};
+use crate::choosing::{choose, trial_count};
 use crate::kept_rows::kept_rows;
 use crate::plan::plan;
+use crate::prefix::Prefix;
 use crate::pruning::{failing, kept_places, numbers_below};
 use crate::rows::{Alive, AliveRow, Resolved};
 use cnb_world::{List, Memory};
@@ -54,30 +55,30 @@ fn resolved<'a>(
     })
 }
 
-/// The first of all trials that passes. Where a trial fails at once, the buildpack that it fails by is most likely the one
-/// that the next trial fails by.
+/// The first of all trials that passes. Those that begin with a dead prefix are passed over. Where a trial fails at once,
+/// the buildpack that it fails by is most likely the one that the next trial fails by.
 fn first_passing(alloc: Global, rows: &[AliveRow], trials: u32) -> Result<Option<Resolved>, Memory>
     requires len { length rows.now < 2 ^ 32 }
     requires count { trials ≡ choice_count rows.now }
     ensures { IfOk result (λ passing. passing ≡ first_passing rows.now 0 (choices_of rows.now)) }
 {
     let all = numbers_below(alloc, rows.len() as u32)?;
+    let mut prefix = Prefix::with_capacity(alloc, rows.len())?;
     let mut likely = 0;
-    for number in 0..trials {
-        let trial = chosen(alloc, rows, trials, number)?;
-        if let Some(index) = failing(trial.as_slice(), all.as_slice(), likely) {
+    let mut number = 0;
+    while number < trials {
+        if let Some(count) = choose(rows, trials, number, &mut prefix)? {
+            number += count;
+            continue;
+        }
+        let trial = prefix.rows();
+        if let Some(index) = failing(trial, all.as_slice(), likely) {
             likely = index;
-        } else if let Some(places) = kept_places(alloc, trial.as_slice())? {
-            let resolved = resolved(
-                alloc,
-                rows,
-                trials,
-                number,
-                trial.as_slice(),
-                places.as_slice(),
-            )?;
+        } else if let Some(places) = kept_places(alloc, trial)? {
+            let resolved = resolved(alloc, rows, trials, number, trial, places.as_slice())?;
             return Ok(Some(resolved));
         }
+        number += 1;
     }
     Ok(None)
 }
