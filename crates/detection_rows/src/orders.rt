@@ -86,9 +86,9 @@ fn digits(alloc: Global, order: &Order, catalog: &Catalog) -> Result<String, Fau
 fn digits_of(alloc: Global, number: u32) -> Result<String, Fault> {
     let (first, second) = (number / 512 % 8, number / 64 % 8);
     let (third, last) = (number / 8 % 8, number % 8);
-    Ok(
-        format!(in alloc; "c0-{first}@1.0.0 c1-{second}@1.0.0 c2-{third}@1.0.0 c3-{last}@1.0.0 tail@1.0.0")?,
-    )
+    Ok(format!(in alloc;
+        "c0-{first}@1.0.0 c1-{second}@1.0.0 c2-{third}@1.0.0 c3-{last}@1.0.0 tail@1.0.0"
+    )?)
 }
 
 // A group as `a@1.0.0 b@1.0.0?`, with `!` behind a buildpack that clears the environment.
