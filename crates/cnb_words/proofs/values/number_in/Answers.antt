@@ -7,6 +7,6 @@ use Rattle.cnb_words.proofs.values.number_in.Goals as goal
 
 pub returns-in_default-3-clause-reads : goal.returns-in_default-3-clause-reads
 returns-in_default-3-clause-reads c =
-    let decimal : is_decimal c.args.text.now ≡ true = first_of (search rules, cc, grind (arith, nat_tests)) in
-    let parsed : ParsesUnsigned 32 10 c.args.text.now (Err c.in_default.field-0) = first_of (search rules, assumption c.in_default.ensures, assumption) in
+    let decimal : is_decimal c.args.text.now ≡ true = grind (arith, nat_tests) in
+    let parsed : ParsesUnsigned 32 10 c.args.text.now (Err c.in_default.field-0) = assumption c.in_default.ensures in
     no_number c.args.least c.args.most c.args.text.now c.in_default.field-0 decimal c.ranges.most.fits parsed
