@@ -12,7 +12,6 @@ use Rattle.bp_docs.specs.declared.descriptor.Entry.{Entry}
 use Rattle.bp_docs.specs.declared.descriptor.Descriptor.{Descriptor}
 use Rattle.order_expand.specs.declared.order.OrderFault.{OrderFault}
 use Rattle.order_expand.specs.declared.order.OrderFault.TheVariants as order
-use Rattle.order_expand.specs.declared.member.Member.{Member}
 use Rattle.order_expand.specs.Check.{checked, ChecksAs}
 use Rattle.order_expand.specs.Groups.{listed_groups}
 use Rattle.steps.specs.Asking.{AreSaid, AreSome, AskedBy, CountsSpawners, IsMadeOf, OneRose, RunShares}
@@ -28,14 +27,14 @@ use Rattle.detect_core.specs.Job.{detect_job}
 use Rattle.detect_core.specs.Search.{DetectsAs, IsChoice, RunsAsked, end_cause, is_short}
 use Rattle.detect_core.specs.Asking.{unmet}
 use Rattle.detect_core.proofs.MemberLemmas.{flat, keys_of_members, members-front}
-use Rattle.cnb_drill.specs.Digits.{asked_count, asked_from, digits_of}
+use Rattle.cnb_drill.specs.Digits.{asked_count}
 use Rattle.cnb_drill.specs.Runs.{RunsDrill, said_by}
 use Rattle.cnb_drill.specs.Spawners.{AnswerBy}
 use Rattle.cnb_drill.specs.Frame.{drill_frame}
 use Rattle.cnb_drill.specs.Law.{found_in, found_of}
 use Rattle.cnb_drill.specs.Order.{drill_catalog, drill_order}
 use Rattle.cnb_drill.specs.Replies.{drill_replies}
-use Rattle.cnb_drill.proofs.Members.{IsDrilled, drill_resolved, group_keys, members}
+use Rattle.cnb_drill.proofs.Members.{IsDrilled, drill_resolved, group_keys}
 use Rattle.cnb_drill.proofs.CountLemmas.{each_append, each_first, each_second}
 use Rattle.cnb_drill.proofs.CheckLemmas.{checked_drill}
 use Rattle.cnb_drill.proofs.DrillLemmas.{drilled_by_runs, asked_by_runs, reached_by_replies}

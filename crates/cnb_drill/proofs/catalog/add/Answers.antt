@@ -1,4 +1,4 @@
-use Rattle.std.proofs.Common.{◌≡◌, true, false, subst, Err}
+use Rattle.std.proofs.Common.{◌≡◌, true, subst, Err}
 use Rattle.order_expand.specs.Added.{AddsTo}
 use Rattle.order_expand.specs.Catalog.{has_key}
 use Rattle.order_expand.specs.declared.catalog.CatalogFault.{CatalogFault}

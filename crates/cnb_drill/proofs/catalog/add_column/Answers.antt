@@ -1,4 +1,4 @@
-use Rattle.std.proofs.Common.{◌≡◌, ◌∙◌, sym, ap, [], ◌∷◌, ◌++◌, append-nil, arith}
+use Rattle.std.proofs.Common.{◌∙◌, sym, ap, [], ◌∷◌, ◌++◌, append-nil, arith}
 use Rattle.order_expand.specs.Catalog.{has_key}
 use Rattle.cnb_drill.specs.Buildpacks.{component, component_key, composite}
 use Rattle.cnb_drill.specs.Order.{columns_below}

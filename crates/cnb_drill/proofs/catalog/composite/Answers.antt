@@ -1,4 +1,4 @@
-use Rattle.std.proofs.Common.{◌≡◌, [], ◌∷◌, arith}
+use Rattle.std.proofs.Common.{[], ◌∷◌, arith}
 use Rattle.bp_docs.specs.declared.descriptor.Body.TheVariants.{Composite}
 use Rattle.cnb_drill.specs.Buildpacks.{component_key, entry_of}
 use Rattle.cnb_drill.proofs.ListLemmas.{pushed, all_pushed}

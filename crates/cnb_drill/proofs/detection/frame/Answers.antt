@@ -1,4 +1,3 @@
-use Rattle.std.proofs.Common.{◌≡◌}
 use Rattle.cnb_drill.specs.Frame.{drill_frame}
 use Rattle.cnb_drill.proofs.detection.frame.Goals as goal
 

@@ -1,6 +1,6 @@
 use Rattle.std.proofs.Common.{◌≡◌, ◌∙◌, ap, subst, IfOk, ℕ, List}
 use Rattle.cnb_toml.specs.Names.{is_bp_id}
-use Rattle.cnb_drill.specs.Buildpacks.{component_key, key_of_id}
+use Rattle.cnb_drill.specs.Buildpacks.{key_of_id}
 use Rattle.cnb_drill.proofs.BuildpackLemmas.{component_id, component_text}
 use Rattle.cnb_drill.proofs.keys.component_key.Goals as goal
 

@@ -1,6 +1,6 @@
 use Rattle.std.proofs.Common.{◌≡◌, ◌∙◌, ap, subst, IfOk, ℕ, List}
 use Rattle.cnb_toml.specs.Names.{is_bp_id}
-use Rattle.cnb_drill.specs.Buildpacks.{composite_key, key_of_id}
+use Rattle.cnb_drill.specs.Buildpacks.{key_of_id}
 use Rattle.cnb_drill.proofs.BuildpackLemmas.{composite_id, composite_text}
 use Rattle.cnb_drill.proofs.keys.composite_key.Goals as goal
 

@@ -1,4 +1,4 @@
-use Rattle.std.proofs.Common.{◌≡◌, ◌∙◌, sym, append-nil, arith}
+use Rattle.std.proofs.Common.{◌∙◌, sym, append-nil, arith}
 use Rattle.std.specs.Prelude.{Some}
 use Rattle.cnb_drill.specs.Buildpacks.{component_key}
 use Rattle.cnb_drill.specs.Replies.{digit_code, digit_plan, reply_by}

@@ -1,4 +1,4 @@
-use Rattle.std.proofs.Common.{◌≡◌, ◌∙◌, ap}
+use Rattle.std.proofs.Common.{◌∙◌, ap}
 use Rattle.std.specs.Prelude.{Some}
 use Rattle.cnb_world.specs.Replies.{cut_replies}
 use Rattle.cnb_drill.proofs.ReplyLemmas.{cut_drill}
