@@ -1,6 +1,7 @@
 pub mod CauseLemmas
 pub mod CommandLemmas
 pub mod EndLemmas
+pub mod KeepLemmas
 pub mod SinkLemmas
 pub mod PhaseLemmas
 pub mod NumberLemmas

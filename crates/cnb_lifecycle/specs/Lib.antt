@@ -1,6 +1,7 @@
 pub mod Commands
 pub mod Ends
 pub mod Faults
+pub mod Keeping
 pub mod Printing
 pub mod Refusal
 pub mod Report

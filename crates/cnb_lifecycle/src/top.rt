@@ -1,9 +1,9 @@
 // The top call.
-ghost use Rattle.std.specs.Prelude.{◌≡◌, ◌<◌, ◌^◌, false, Err, List as Seq, ℕ, length, map, string_bytes};
+ghost use Rattle.std.specs.Prelude.{◌≡◌, ◌<◌, ◌^◌, false, Err, List as Seq, ℕ, OnErr, length, map, string_bytes};
 ghost use Rattle.std.specs.List.{range_with_len};
 ghost use Rattle.cnb_words.specs.Words.{AsksWithinLimits};
 ghost use Rattle.steps.specs.Causes.{CountsFiles};
-ghost use Rattle.steps.specs.Outside.{faults_of, outside, spawners_seen};
+ghost use Rattle.steps.specs.Outside.{faults_of, outside, seen, spawners_seen};
 ghost use Rattle.steps.specs.Steps.{gives};
 ghost use Rattle.shelf_set.specs.Caches.{caches_of};
 ghost use Rattle.shelf_set.specs.Dropping.{AreStanding};
@@ -11,6 +11,7 @@ ghost use Rattle.cnb_detect.specs.Outcome.{ComesTo};
 ghost use Rattle.cnb_lifecycle.specs.Commands.{after_words, asked_of, command_in, does, options_in, options_of_create, options_of_detect, refusal_of, uses_caches, On};
 ghost use Rattle.cnb_lifecycle.specs.Ends.{CauseOfChild, CauseOfFile, CountsChild, Ends};
 ghost use Rattle.cnb_lifecycle.specs.Faults.{cause_of, of_detect};
+ghost use Rattle.cnb_lifecycle.specs.Keeping.{KeepsCreated, OnRefusal};
 ghost use Rattle.cnb_lifecycle.specs.Printing.{CountsOutput};
 ghost use Rattle.cnb_create.specs.Outcome.{ComesToChoice};
 ghost use Rattle.cnb_create.specs.Surroundings.{over_outside, shelf_seen, surroundings};
@@ -69,6 +70,8 @@ fn run_asked<W: World, S: Spawner + Send, R: Threads + Sync>(
         result
         (surroundings (outside W.World S.Spawner world.new spawners.new.items)
         (caches_of (map (λ s. shelf_seen (⟦<dyn Shelf as Shelf>⟧ s.vtable) s.value) shelves.new.items) places.new))) }
+    ensures image { On (options_of_create asked.now) (λ options.
+        OnErr result (KeepsCreated options (seen W.World world.old) (seen W.World world.new))) }
     ensures shelves { (uses_caches asked.now ≡ false) → (shelves.new.items ≡ shelves.old.items) }
     ensures files { CountsFiles cause_of result (W.file_faults world.old) (W.file_faults world.new) }
     ensures children { CountsChild result
@@ -139,6 +142,8 @@ fn run_words<W: World, S: Spawner + Send, R: Threads + Sync>(
         result
         (surroundings (outside W.World S.Spawner world.new spawners.new.items)
         (caches_of (map (λ s. shelf_seen (⟦<dyn Shelf as Shelf>⟧ s.vtable) s.value) shelves.new.items) standing))) }
+    ensures image { On (options_in options_of_create (command_in (map string_bytes words.now) env.now)) (λ options.
+        OnErr result (KeepsCreated options (seen W.World world.old) (seen W.World world.new))) }
     ensures shelves { On (asked_of (command_in (map string_bytes words.now) env.now)) (λ asked.
         (uses_caches asked ≡ false) → (shelves.new.items ≡ shelves.old.items)) }
     ensures files { CountsFiles cause_of result (W.file_faults world.old) (W.file_faults world.new) }
@@ -214,6 +219,10 @@ pub fn lifecycle<W: World, S: Spawner + Send, O: Sink, R: Threads + Sync>(
         (outside W.World S.Spawner world.new spawners.new.items)
         (map (λ s. shelf_seen (⟦<dyn Shelf as Shelf>⟧ s.vtable) s.value) shelves.new.items)
         result (O.taken out.old) (O.taken out.new)) }
+    // Where `create` is refused, the image's document is as it was, if its path is apart from all else that is written and the
+    // build children left it.
+    ensures image { On (options_in options_of_create (command_in (map string_bytes words.now) env.now)) (λ options.
+        OnRefusal result (KeepsCreated options (seen W.World world.old) (seen W.World world.new))) }
 
     // Each failure of the outside is counted, and told by the status.
     ensures files { CauseOfFile result (W.file_faults world.old) (W.file_faults world.new) }

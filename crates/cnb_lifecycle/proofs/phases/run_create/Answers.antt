@@ -31,3 +31,8 @@ pub returns-in_err-text-clause-children : goal.returns-in_err-text-clause-childr
 returns-in_err-text-clause-children g c =
     let exit = err_from_is_err_and c.from_residual.result c.from_residual.ensures.1 in
     rw (exit.1, exit.2) (either_as of_create phase.cause_of create_cause _ _ _ _ _ c.in_err-text.ensures.children)
+
+pub returns-in_err-text-clause-image : goal.returns-in_err-text-clause-image
+returns-in_err-text-clause-image g c =
+    let exit = err_from_is_err_and c.from_residual.result c.from_residual.ensures.1 in
+    rw (exit.1) c.in_err-text.ensures.image

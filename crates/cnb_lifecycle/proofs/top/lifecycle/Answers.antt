@@ -10,6 +10,7 @@ use Rattle.cnb_lifecycle.specs.Telling.{tells}
 use Rattle.cnb_lifecycle.specs.declared.answer.Answer.TheVariants.{Printed}
 use Rattle.cnb_lifecycle.proofs.CauseLemmas.{cause_of_child, cause_of_file}
 use Rattle.cnb_lifecycle.proofs.EndLemmas.{ends, stood}
+use Rattle.cnb_lifecycle.proofs.KeepLemmas.{refused_each}
 use Rattle.cnb_lifecycle.proofs.top.lifecycle.Goals as goal
 
 pub returns-clause-refused : goal.returns-clause-refused
@@ -33,3 +34,6 @@ returns-clause-files g c = cause_of_file _ _ _ _ _ _ c.finish.ensures.finishes c
 
 pub returns-clause-children : goal.returns-clause-children
 returns-clause-children g c = cause_of_child _ _ _ _ _ _ _ _ c.finish.ensures.finishes c.run_words-end.ensures.children
+
+pub returns-clause-image : goal.returns-clause-image
+returns-clause-image g c = refused_each _ _ _ _ _ _ c.finish.ensures.finishes c.run_words-end.ensures.image

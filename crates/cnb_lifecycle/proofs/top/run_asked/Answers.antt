@@ -1,13 +1,17 @@
 use Rattle.std.proofs.Common.{refl}
+use Rattle.std.specs.Prelude.{OnErr}
 use Rattle.cnb_detect.specs.Outcome.{ComesTo}
 use Rattle.cnb_create.specs.Outcome.{ComesToChoice}
 use Rattle.cnb_lifecycle.specs.Commands.{options_of_create, options_of_detect}
 use Rattle.cnb_lifecycle.specs.Faults.{of_detect}
+use Rattle.cnb_lifecycle.specs.Keeping.{KeepsCreated}
 use Rattle.cnb_lifecycle.specs.PhaseFaults.{of_create}
 use Rattle.cnb_create.specs.Surroundings.{over_outside}
 use Rattle.cnb_lifecycle.specs.Telling.{tells}
+use Rattle.steps.specs.Outside.{seen}
 use Rattle.cnb_lifecycle.specs.declared.answer.Answer.TheVariants.{Printed}
 use Rattle.cnb_lifecycle.proofs.EndLemmas.{arm, busy, choice_arm, known, lifted_caches, lifted_outside, lifted_world}
+use Rattle.cnb_lifecycle.proofs.KeepLemmas.{asked_for}
 use Rattle.cnb_lifecycle.proofs.top.run_asked.Goals as goal
 
 pub returns-in-Detect-clause-outcome : goal.returns-in-Detect-clause-outcome
@@ -62,3 +66,7 @@ returns-in-Create-clause-shelves g c = busy _ _ _ c.in-Create.is refl
 pub returns-in-Create-clause-chosen : goal.returns-in-Create-clause-chosen
 returns-in-Create-clause-chosen g c =
     choice_arm options_of_create _ _ _ (λ options. tells Printed of_create (ComesToChoice options c.args.env.now)) _ _ _ c.in-Create.is refl c.run_create.ensures.chosen
+
+pub returns-in-Create-clause-image : goal.returns-in-Create-clause-image
+returns-in-Create-clause-image g c =
+    asked_for options_of_create _ _ _ (λ options. OnErr c.run_create.result (KeepsCreated options (seen g.W.World c.args.world.now) (seen g.W.World c.run_create.new.world))) c.in-Create.is refl c.run_create.ensures.image

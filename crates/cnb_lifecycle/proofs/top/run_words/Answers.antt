@@ -1,17 +1,21 @@
 use Rattle.std.proofs.Common.{◌∙◌, ap, refl}
 use Rattle.std.specs.List.{range_with_len}
+use Rattle.std.specs.Prelude.{OnErr}
 use Rattle.std.proofs.lemmas.Result.{err_from_is_err_and}
 use Rattle.steps.specs.Causes.{OutOfMemory}
 use Rattle.cnb_detect.specs.Outcome.{ComesTo}
 use Rattle.cnb_create.specs.Outcome.{ComesToChoice}
 use Rattle.cnb_lifecycle.specs.Commands.{options_of_create, options_of_detect}
 use Rattle.cnb_lifecycle.specs.Faults.{of_detect}
+use Rattle.cnb_lifecycle.specs.Keeping.{KeepsCreated}
 use Rattle.cnb_lifecycle.specs.PhaseFaults.{of_create}
 use Rattle.cnb_create.specs.Surroundings.{over_outside}
 use Rattle.cnb_lifecycle.specs.Telling.{tells}
+use Rattle.steps.specs.Outside.{seen}
 use Rattle.cnb_lifecycle.specs.declared.answer.Answer.TheVariants.{Printed}
 use Rattle.cnb_lifecycle.proofs.CauseLemmas.{given_child, given_files}
 use Rattle.cnb_lifecycle.proofs.EndLemmas.{begun, choice_begun, early_choice, early_does, early_idle, early_refused, early_shelves, kept_shelves, not_refused}
+use Rattle.cnb_lifecycle.proofs.KeepLemmas.{nothing_done, words_ask}
 use Rattle.cnb_lifecycle.proofs.NumberLemmas.{all_stand}
 use Rattle.cnb_lifecycle.proofs.top.run_words.Goals as goal
 
@@ -109,3 +113,13 @@ returns-clause-chosen g c =
 
 pub returns-clause-shelves : goal.returns-clause-shelves
 returns-clause-shelves g c = kept_shelves _ _ _ c.in_ok-asked.ensures.command c.run_asked.ensures.shelves
+
+pub returns-in_err-places-clause-image : goal.returns-in_err-places-clause-image
+returns-in_err-places-clause-image g c = nothing_done _ _ _
+
+pub returns-in_err-asked-clause-image : goal.returns-in_err-asked-clause-image
+returns-in_err-asked-clause-image g c = nothing_done _ _ _
+
+pub returns-clause-image : goal.returns-clause-image
+returns-clause-image g c =
+    words_ask options_of_create _ _ (λ options. OnErr c.run_asked.result (KeepsCreated options (seen g.W.World c.args.world.now) (seen g.W.World c.run_asked.new.world))) c.in_ok-asked.ensures.command c.run_asked.ensures.image
