@@ -1,5 +1,6 @@
 -- The counts of failures, as the status tells them.
-use Rattle.std.proofs.Common.{◌≡◌, ◌∙◌, refl, sym, subst, ℕ, ◌≤◌, List, [], ◌∷◌, Option, Result, Ok, Err, inl, inr, ◌⊎◌, arith}
+use Rattle.std.proofs.Common.{◌≡◌, ◌∙◌, refl, sym, ap, subst, ℕ, ◌≤◌, List, [], ◌∷◌, Option, Result, Ok, Err, inl, inr, ◌⊎◌, arith}
+use Rattle.std.specs.Prelude.{IfErr}
 use Rattle.cnb_world.specs.Calls.{Rose}
 use Rattle.steps.specs.Asking.{NoneFell, OneRose, SpawnersBy}
 use Rattle.steps.specs.Causes.{Cause, FileFailed, ChildFailed, OutOfMemory, Decided, CountsFiles, FilesBy, IsGivenCause}
@@ -30,6 +31,12 @@ given_child (FileFailed path) count counts h = absurd h
 given_child ChildFailed count counts h = absurd h
 given_child OutOfMemory count counts h = (omega arith, none_fell counts)
 given_child Decided count counts h = (refl, refl)
+
+-- no child is counted where nothing but want of memory is refused
+pub known_children : {A : Type 0} (result : Result A Refusal) (count : ℕ) (counts : List ℕ) → IfErr result (λ refusal. refusal ≡ Memory) → CountsChild result count count counts counts
+known_children (Ok answer) count counts memory = (refl, refl)
+known_children (Err refusal) count counts memory =
+    subst (λ cause. EitherBy cause count count counts counts) (sym (ap cause_of memory)) (given_child OutOfMemory count counts tt)
 
 -- a refusal of `detect` has the same cause as what it is told as
 pub same_cause : (refusal : DetectRefusal) → cause_of (of_detect refusal) ≡ detect_refusal.cause_of refusal

@@ -10,6 +10,7 @@ use Rattle.cnb_create.specs.Surroundings.{over_outside}
 use Rattle.cnb_lifecycle.specs.Telling.{tells}
 use Rattle.steps.specs.Outside.{seen}
 use Rattle.cnb_lifecycle.specs.declared.answer.Answer.TheVariants.{Printed}
+use Rattle.cnb_lifecycle.proofs.CauseLemmas.{known_children}
 use Rattle.cnb_lifecycle.proofs.EndLemmas.{arm, busy, choice_arm, known, lifted_caches, lifted_outside, lifted_world}
 use Rattle.cnb_lifecycle.proofs.KeepLemmas.{asked_for}
 use Rattle.cnb_lifecycle.proofs.top.run_asked.Goals as goal
@@ -53,6 +54,9 @@ returns-in-Show-clause-does g c = arm _ _ _ _ _ _ c.in-Show.is (lifted_world _ _
 
 pub returns-in-Drill-clause-does : goal.returns-in-Drill-clause-does
 returns-in-Drill-clause-does g c = arm _ _ _ _ _ _ c.in-Drill.is (known _ _ _ c.run_drill.ensures.text c.run_drill.ensures.memory)
+
+pub returns-in-Drill-clause-children : goal.returns-in-Drill-clause-children
+returns-in-Drill-clause-children g c = known_children _ _ _ c.run_drill.ensures.memory
 
 pub returns-in-Launch-clause-does : goal.returns-in-Launch-clause-does
 returns-in-Launch-clause-does g c = arm _ _ _ _ _ _ c.in-Launch.is (lifted_world _ _ _ _ _ _ c.run_launch.ensures.steps)
