@@ -1,23 +1,19 @@
 // The runs of a row.
-use crate::chain::Chain;
-use crate::comparison::Comparison;
-use crate::fault::{Fault, path_of};
-use crate::run::{Came, Outage};
-use crate::standing::Standing;
-use crate::want::Want;
+use crate::run::run;
 use cnb_world::{Sink, World};
+use scenarios::{Came, Chain, Comparison, Fault, Outage, Standing, Want, path_of};
 use std::alloc::Global;
 use std::thread::Threads;
 
 /// What differs in the run of a row from what it wants and, where every call is to fail in turn, in those runs.
-pub fn judge<R: Threads + Sync>(
+pub(crate) fn judge<R: Threads + Sync>(
     rt: &R,
     chain: &Chain,
     want: &Want,
     every_call: bool,
 ) -> Result<String, Fault> {
     let mut comparison = Comparison::new(chain, want)?;
-    let mut came = chain.run(rt, Outage::Nothing)?;
+    let mut came = run(rt, chain, Outage::Nothing)?;
     let whole = comparison.judge(&mut came)?;
     if every_call && comparison.text.is_empty() {
         fail_world(rt, &mut comparison, &whole)?;
@@ -35,7 +31,7 @@ fn fail_world<R: Threads + Sync>(
     whole: &Standing,
 ) -> Result<(), Fault> {
     for number in 0..u64::MAX {
-        let mut came = comparison.chain.run(rt, Outage::World(number))?;
+        let mut came = run(rt, comparison.chain, Outage::World(number))?;
         if !has_failed(comparison.alloc, &mut came)? {
             break;
         }
@@ -60,7 +56,7 @@ fn fail_spawners<R: Threads + Sync>(
         return Ok(());
     }
     for number in 0..came.asked(comparison.alloc)?.len() {
-        let mut came = comparison.chain.run(rt, Outage::Spawner(number as u64))?;
+        let mut came = run(rt, comparison.chain, Outage::Spawner(number as u64))?;
         comparison.judge_refused(&mut came, whole, &["error 5 "])?;
     }
     Ok(())
@@ -73,7 +69,7 @@ fn fail_sink<R: Threads + Sync>(
     whole: &Standing,
 ) -> Result<(), Fault> {
     for number in 0..u64::MAX {
-        let mut came = comparison.chain.run(rt, Outage::Sink(number))?;
+        let mut came = run(rt, comparison.chain, Outage::Sink(number))?;
         if came.out.write(b"").is_err() {
             break;
         }
@@ -90,7 +86,7 @@ fn fail_shelves<R: Threads + Sync>(
 ) -> Result<(), Fault> {
     for place in 0..comparison.chain.shelves().len() {
         for number in 0..u64::MAX {
-            let mut came = comparison.chain.run(rt, Outage::Shelf(place, number))?;
+            let mut came = run(rt, comparison.chain, Outage::Shelf(place, number))?;
             if is_unknown(&came, place) {
                 break;
             }

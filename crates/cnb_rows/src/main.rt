@@ -4,31 +4,13 @@
 //! the one that the program runs in; data/README.md says how a row is written.
 #![tactic(auto)]
 
-mod chain;
-mod compared_caches;
-mod compared_files;
-mod comparison;
-mod failed;
-mod fault;
-mod folder;
-mod items;
 mod judging;
 mod run;
-mod scenario;
-mod shelves;
-mod short;
-mod sink;
-mod spelling;
-mod standing;
-mod trees;
-mod want;
 
 use cnb_host::{HostWorld, words};
 use cnb_world::Path;
-use fault::{Fault, path_of};
-use folder::Scenarios;
 use judging::judge;
-use scenario::Scenario;
+use scenarios::{Fault, Scenario, Scenarios, path_of};
 use std::alloc::Global;
 use std::env;
 use std::process::ExitCode;

@@ -1,5 +1,5 @@
 use Rattle.std.proofs.Common.{◌+◌, ◌*◌}
-use Rattle.cnb_rows.proofs.spelling.+spell.Given as goal
+use Rattle.scenarios.proofs.spelling.+spell.Given as goal
 
 abbrev pub decreases-spell : goal.decreases-spell
 decreases-spell l = 2 * l.levels

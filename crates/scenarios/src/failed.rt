@@ -1,8 +1,8 @@
 // Runs in which one more call failed.
+use crate::came::Came;
 use crate::compared_caches::is_of_dropped;
 use crate::comparison::{Comparison, lines_text};
 use crate::fault::Fault;
-use crate::run::Came;
 use crate::standing::{Standing, is_in};
 
 impl Comparison<'_> {

@@ -4,32 +4,32 @@ use cnb_world::{Bytes, Probed, Reply, Text};
 use std::alloc::{AllocError, Global};
 
 /// The id and the version that a name as `a@2.0.0` has; version 1.0.0 may be left out.
-pub fn id_and_version(name: &str) -> (&str, &str) {
+pub(crate) fn id_and_version(name: &str) -> (&str, &str) {
     name.split_once('@').unwrap_or((name, "1.0.0"))
 }
 
 /// The path of a buildpack's descriptor.
-pub fn descriptor_path(alloc: Global, name: &str) -> Result<String, AllocError> {
+pub(crate) fn descriptor_path(alloc: Global, name: &str) -> Result<String, AllocError> {
     let (id, version) = id_and_version(name);
     let folder = id.replace(alloc, "/", "_")?;
     format!(in alloc; "/buildpacks/{folder}/{version}/buildpack.toml")
 }
 
 /// The descriptor of a component.
-pub fn descriptor_text(alloc: Global, name: &str) -> Result<String, AllocError> {
+pub(crate) fn descriptor_text(alloc: Global, name: &str) -> Result<String, AllocError> {
     let (id, version) = id_and_version(name);
     format!(in alloc; "api = \"0.10\"\n[buildpack]\nid = \"{id}\"\nversion = \"{version}\"\n")
 }
 
 /// The descriptor of a composite with this order.
-pub fn composite_text(alloc: Global, name: &str, order: &str) -> Result<String, AllocError> {
+pub(crate) fn composite_text(alloc: Global, name: &str, order: &str) -> Result<String, AllocError> {
     let mut text = descriptor_text(alloc, name)?;
     text.push_str(order_text(alloc, order)?.as_str())?;
     Ok(text)
 }
 
 /// The document of an order as `a@1.0.0 b? | c`: groups between bars, and their entries.
-pub fn order_text(alloc: Global, order: &str) -> Result<String, AllocError> {
+pub(crate) fn order_text(alloc: Global, order: &str) -> Result<String, AllocError> {
     let mut text = String::new(alloc);
     for group in order.split('|') {
         text.push_str("[[order]]\n")?;
@@ -51,14 +51,19 @@ fn push_entry(text: &mut String, entry: &str) -> Result<(), AllocError> {
 }
 
 /// The reply of a buildpack as `0 +p -q | +r`: its code or `none`, and its Build Plan.
-pub fn reply(alloc: Global, name: &str, text: &str) -> Result<Reply, Fault> {
+pub(crate) fn reply(alloc: Global, name: &str, text: &str) -> Result<Reply, Fault> {
     let (code, plan) = text.split_once(' ').unwrap_or((text, ""));
     let plan = plan_text(alloc, plan)?;
     reply_with(alloc, name, code, plan.as_str())
 }
 
 /// The reply of a buildpack with this code and this text as its Build Plan.
-pub fn reply_with(alloc: Global, name: &str, code: &str, plan: &str) -> Result<Reply, Fault> {
+pub(crate) fn reply_with(
+    alloc: Global,
+    name: &str,
+    code: &str,
+    plan: &str,
+) -> Result<Reply, Fault> {
     let (id, version) = id_and_version(name);
     Ok(Reply {
         id: Text::of(alloc, id)?,

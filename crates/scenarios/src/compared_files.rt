@@ -8,7 +8,7 @@ use std::alloc::Global;
 
 impl Comparison<'_> {
     /// Compares all that stands.
-    pub fn compare_standing(&mut self, after: &Standing) -> Result<(), Fault> {
+    pub(crate) fn compare_standing(&mut self, after: &Standing) -> Result<(), Fault> {
         self.compare_documents(after)?;
         self.compare_files(after)?;
         self.compare_laid(after)?;

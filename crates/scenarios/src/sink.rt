@@ -14,13 +14,13 @@ pub struct PieceSink {
 }
 
 impl PieceSink {
-    pub fn new(alloc: Global, failing: List<u64>) -> Result<PieceSink, Memory> {
+    pub(crate) fn new(alloc: Global, failing: List<u64>) -> Result<PieceSink, Memory> {
         let whole = MemSink::new(alloc, failing)?;
         Ok(PieceSink { whole })
     }
 
     /// What was taken.
-    pub fn as_slice(&self) -> &[u8] {
+    pub(crate) fn as_slice(&self) -> &[u8] {
         self.whole.as_slice()
     }
 }

@@ -7,7 +7,7 @@ use std::alloc::{AllocError, Global};
 const MAX_LEVELS: u32 = 16;
 
 /// The spelling of what stands at a path.
-pub fn spelling(alloc: Global, world: &mut MemWorld, path: &Path) -> Result<Vec<u8>, Fault> {
+pub(crate) fn spelling(alloc: Global, world: &mut MemWorld, path: &Path) -> Result<Vec<u8>, Fault> {
     let mut out = Vec::new(alloc);
     out.extend_from_slice(b"CNBT\x01")?;
     spell(alloc, world, path, MAX_LEVELS, &mut out)?;

@@ -38,7 +38,7 @@ impl Chain<'_> {
     }
 
     /// The calls that fail, of the nearest that has some.
-    pub fn failing(&self) -> Option<&Failing> {
+    pub(crate) fn failing(&self) -> Option<&Failing> {
         for scenario in &self.scenarios {
             if let Some(failing) = &scenario.failing {
                 return Some(failing);
@@ -79,7 +79,7 @@ impl Chain<'_> {
     }
 
     /// What stands before the run, of all, the nearest last.
-    pub fn items(&self) -> Result<List<Placed>, Fault> {
+    pub(crate) fn items(&self) -> Result<List<Placed>, Fault> {
         let mut items = List::new(self.alloc);
         for scenario in self.scenarios.iter().rev() {
             push_documents(self.alloc, &mut items, scenario)?;
@@ -91,7 +91,7 @@ impl Chain<'_> {
     }
 
     /// What the children of programs do, the nearest first.
-    pub fn plays(&self) -> Result<List<Play>, Fault> {
+    pub(crate) fn plays(&self) -> Result<List<Play>, Fault> {
         let mut plays = List::new(self.alloc);
         for scenario in &self.scenarios {
             for row in &scenario.plays {
@@ -102,7 +102,7 @@ impl Chain<'_> {
     }
 
     /// What the detect children say, the nearest first.
-    pub fn replies(&self) -> Result<List<Reply>, Fault> {
+    pub(crate) fn replies(&self) -> Result<List<Reply>, Fault> {
         let mut replies = List::new(self.alloc);
         for scenario in &self.scenarios {
             for (name, plan) in &scenario.plans {

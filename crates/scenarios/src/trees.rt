@@ -36,7 +36,7 @@ impl Tree {
     }
 
     /// Adds what the tree has, below a path.
-    pub fn push_at(
+    pub(crate) fn push_at(
         &self,
         alloc: Global,
         items: &mut List<Placed>,
@@ -54,7 +54,7 @@ impl Tree {
     }
 
     /// The path of the tree in the store.
-    pub fn stored_path(&self, alloc: Global) -> Result<String, AllocError> {
+    pub(crate) fn stored_path(&self, alloc: Global) -> Result<String, AllocError> {
         let digits = &self.digits;
         format!(in alloc; "/store/trees/{digits}")
     }
@@ -67,7 +67,7 @@ pub struct Trees {
 }
 
 impl Trees {
-    pub fn of(alloc: Global, rows: Vec<TreeRow>) -> Result<Trees, Fault> {
+    pub(crate) fn of(alloc: Global, rows: Vec<TreeRow>) -> Result<Trees, Fault> {
         let mut all = Vec::new(alloc);
         for row in rows {
             all.push(Tree::of(alloc, row)?)?;
@@ -76,7 +76,7 @@ impl Trees {
     }
 
     /// The tree of a name.
-    pub fn named(&self, alloc: Global, name: &str) -> Result<&Tree, Fault> {
+    pub(crate) fn named(&self, alloc: Global, name: &str) -> Result<&Tree, Fault> {
         for tree in &self.all {
             if tree.name.as_str() == name {
                 return Ok(tree);
@@ -86,7 +86,7 @@ impl Trees {
     }
 
     /// A text with the digits of the tree's digest in place of each `{NAME}`.
-    pub fn filled(&self, alloc: Global, text: &str) -> Result<String, AllocError> {
+    pub(crate) fn filled(&self, alloc: Global, text: &str) -> Result<String, AllocError> {
         let mut filled = String::from_str(alloc, text)?;
         for tree in &self.all {
             let word = tree.word(alloc)?;

@@ -1,7 +1,7 @@
 // The caches after a run beside what is wanted.
+use crate::came::Came;
 use crate::comparison::Comparison;
 use crate::fault::Fault;
-use crate::run::Came;
 use crate::shelves::{Holding, in_order};
 use crate::standing::reads_as;
 use crate::want::WantedShelf;
@@ -9,7 +9,7 @@ use crate::want::WantedShelf;
 impl Comparison<'_> {
     /// Compares the caches that stand, which come before those that were dropped. Where the row says nothing of them,
     /// those that it was given are to be as before.
-    pub fn compare_caches(&mut self, came: &Came) -> Result<(), Fault> {
+    pub(crate) fn compare_caches(&mut self, came: &Came) -> Result<(), Fault> {
         let want = self.want;
         let given = self.chain.shelves();
         match &want.shelves {
@@ -64,7 +64,7 @@ impl Comparison<'_> {
 }
 
 /// Whether a line says that a cache was dropped.
-pub fn is_of_dropped(line: &str) -> bool {
+pub(crate) fn is_of_dropped(line: &str) -> bool {
     line.starts_with("cache ") && line.ends_with(" dropped")
 }
 

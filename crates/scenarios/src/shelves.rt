@@ -1,7 +1,7 @@
 // Caches in memory.
 use crate::chain::Chain;
 use crate::fault::Fault;
-use crate::run::{Outage, numbers};
+use crate::outage::{Outage, numbers};
 use crate::scenario::ShelfRow;
 use crate::trees::{Tree, Trees};
 use cnb_world::{Bytes, Held, List, MemShelf, Shelf};
@@ -91,7 +91,7 @@ fn push_name(names: &mut String, tree: &Tree, found: Option<Bytes>) -> Result<()
 }
 
 /// The names of trees as a `Holding` has them, in the order of the trees.
-pub fn in_order(alloc: Global, trees: &Trees, wanted: &str) -> Result<String, Fault> {
+pub(crate) fn in_order(alloc: Global, trees: &Trees, wanted: &str) -> Result<String, Fault> {
     for word in wanted.split_whitespace() {
         trees.named(alloc, word.trim_end_matches('?'))?;
     }

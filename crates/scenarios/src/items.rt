@@ -7,7 +7,7 @@ use std::alloc::{AllocError, Global};
 use std::collections::BTreeMap;
 
 /// Adds a file with this text.
-pub fn push_text(
+pub(crate) fn push_text(
     alloc: Global,
     items: &mut List<Placed>,
     path: &str,
@@ -17,7 +17,7 @@ pub fn push_text(
 }
 
 /// Adds a file with these bytes.
-pub fn push_bytes(
+pub(crate) fn push_bytes(
     alloc: Global,
     items: &mut List<Placed>,
     path: &str,
@@ -29,7 +29,11 @@ pub fn push_bytes(
 }
 
 /// Adds what stands at each path.
-pub fn push_files(alloc: Global, items: &mut List<Placed>, rows: &[FileRow]) -> Result<(), Fault> {
+pub(crate) fn push_files(
+    alloc: Global,
+    items: &mut List<Placed>,
+    rows: &[FileRow],
+) -> Result<(), Fault> {
     for row in rows {
         let path = path_of(alloc, &row.path)?;
         let item = item_of(alloc, row)?;
@@ -39,7 +43,7 @@ pub fn push_files(alloc: Global, items: &mut List<Placed>, rows: &[FileRow]) -> 
 }
 
 /// Adds a folder at a place, and in it what stands at each path from its root.
-pub fn push_below(
+pub(crate) fn push_below(
     alloc: Global,
     items: &mut List<Placed>,
     place: &str,
@@ -62,7 +66,7 @@ fn below(alloc: Global, place: &str, path: &str) -> Result<String, AllocError> {
 }
 
 /// Adds the trees that are named, each at its path.
-pub fn push_trees(
+pub(crate) fn push_trees(
     alloc: Global,
     items: &mut List<Placed>,
     trees: &Trees,
@@ -75,7 +79,7 @@ pub fn push_trees(
 }
 
 /// Adds the files of the trees that are named, in the store.
-pub fn push_stored(
+pub(crate) fn push_stored(
     alloc: Global,
     items: &mut List<Placed>,
     trees: &Trees,
@@ -118,7 +122,7 @@ fn contents(alloc: Global, row: &FileRow) -> Result<Bytes, Fault> {
 }
 
 /// What a child of a program does.
-pub fn play(alloc: Global, trees: &Trees, row: &PlayRow) -> Result<Play, Fault> {
+pub(crate) fn play(alloc: Global, trees: &Trees, row: &PlayRow) -> Result<Play, Fault> {
     let mut leaves = List::new(alloc);
     push_trees(alloc, &mut leaves, trees, &row.lays)?;
     push_files(alloc, &mut leaves, &row.leaves)?;

@@ -19,7 +19,7 @@ pub struct Standing {
 }
 
 impl Standing {
-    pub fn of(alloc: Global, world: &mut MemWorld) -> Result<Standing, Fault> {
+    pub(crate) fn of(alloc: Global, world: &mut MemWorld) -> Result<Standing, Fault> {
         let mut standing = Standing {
             found: BTreeMap::new(alloc),
         };
@@ -58,7 +58,7 @@ impl Standing {
     }
 
     /// The word for the kind of what stands at a path.
-    pub fn kind(&self, path: &str) -> &'static str {
+    pub(crate) fn kind(&self, path: &str) -> &'static str {
         match self.found.get(path) {
             Some(found) => found.kind,
             None => "absent",
@@ -66,7 +66,7 @@ impl Standing {
     }
 
     /// The bytes of the file at a path.
-    pub fn file(&self, path: &str) -> Option<&[u8]> {
+    pub(crate) fn file(&self, path: &str) -> Option<&[u8]> {
         match self.found.get(path) {
             Some(found) if is_file(found.kind) => Some(found.bytes.as_slice()),
             _ => None,
@@ -74,7 +74,7 @@ impl Standing {
     }
 
     /// The text of the file at a path, with a mark in place of what is no UTF-8, or `no file`.
-    pub fn text(&self, alloc: Global, path: &str) -> Result<String, AllocError> {
+    pub(crate) fn text(&self, alloc: Global, path: &str) -> Result<String, AllocError> {
         match self.file(path) {
             Some(bytes) => String::from_utf8_lossy(alloc, bytes),
             None => String::from_str(alloc, "no file"),
@@ -82,7 +82,7 @@ impl Standing {
     }
 
     /// Whether the same stands at a path in both. What is absent and a folder count as the same.
-    pub fn is_same_at(&self, other: &Standing, path: &str) -> bool {
+    pub(crate) fn is_same_at(&self, other: &Standing, path: &str) -> bool {
         if is_open(self.kind(path)) || is_open(other.kind(path)) {
             return is_open(self.kind(path)) && is_open(other.kind(path));
         }
@@ -90,7 +90,11 @@ impl Standing {
     }
 
     /// The paths where something other than a folder stands in either, and not the same.
-    pub fn changed(&self, alloc: Global, after: &Standing) -> Result<Vec<String>, AllocError> {
+    pub(crate) fn changed(
+        &self,
+        alloc: Global,
+        after: &Standing,
+    ) -> Result<Vec<String>, AllocError> {
         let mut changed = Vec::new(alloc);
         for (path, _) in &self.found {
             if !self.is_same_at(after, path) {
@@ -107,7 +111,7 @@ impl Standing {
 }
 
 /// Whether a path is a folder's or lies below it.
-pub fn is_in(folder: &str, path: &str) -> bool {
+pub(crate) fn is_in(folder: &str, path: &str) -> bool {
     match path.strip_prefix(folder) {
         Some(rest) => rest.is_empty() || rest.starts_with('/') || folder == "/",
         None => false,
@@ -157,7 +161,7 @@ fn bytes_at(
 }
 
 /// Whether a document reads as a table.
-pub fn reads_as(alloc: Global, text: &str, table: &Table) -> bool {
+pub(crate) fn reads_as(alloc: Global, text: &str, table: &Table) -> bool {
     match toml::table_from_str(alloc, text) {
         Ok(found) => found == *table,
         Err(_) => false,

@@ -1,7 +1,7 @@
 // What came of a run beside what is wanted.
+use crate::came::Came;
 use crate::chain::Chain;
 use crate::fault::Fault;
-use crate::run::Came;
 use crate::short::id_and_version;
 use crate::standing::Standing;
 use crate::want::Want;
@@ -33,12 +33,17 @@ impl<'a> Comparison<'a> {
     }
 
     /// Adds what differs.
-    pub fn tell(&mut self, what: &str, wanted: &str, came: &str) -> Result<(), AllocError> {
+    pub(crate) fn tell(&mut self, what: &str, wanted: &str, came: &str) -> Result<(), AllocError> {
         write!(self.text, " {what}: wanted {wanted:?}, came {came:?};")
     }
 
     /// Adds what differs, where it does.
-    pub fn compare(&mut self, what: &str, wanted: &str, came: &str) -> Result<(), AllocError> {
+    pub(crate) fn compare(
+        &mut self,
+        what: &str,
+        wanted: &str,
+        came: &str,
+    ) -> Result<(), AllocError> {
         if wanted == came {
             return Ok(());
         }
@@ -67,7 +72,7 @@ impl<'a> Comparison<'a> {
     }
 
     /// The text that is wanted.
-    pub fn wanted_text(&self) -> Result<String, Fault> {
+    pub(crate) fn wanted_text(&self) -> Result<String, Fault> {
         let mut text = String::new(self.alloc);
         for line in &self.want.prints {
             writeln!(text, "{line}")?;
@@ -86,7 +91,7 @@ impl<'a> Comparison<'a> {
     }
 
     /// The buildpacks that are to be asked.
-    pub fn wanted_asked(&self) -> Result<String, Fault> {
+    pub(crate) fn wanted_asked(&self) -> Result<String, Fault> {
         let mut names = Vec::new(self.alloc);
         for name in self.want.asked.split_whitespace() {
             let (id, version) = id_and_version(name);
@@ -96,7 +101,7 @@ impl<'a> Comparison<'a> {
     }
 
     /// Names with a space before each; ascending where several spawners may be asked in any order.
-    pub fn asked_text(&self, names: &[String]) -> Result<String, Fault> {
+    pub(crate) fn asked_text(&self, names: &[String]) -> Result<String, Fault> {
         let mut sorted = Vec::new(self.alloc);
         for name in names {
             sorted.push(name.as_str())?;
@@ -128,7 +133,7 @@ impl<'a> Comparison<'a> {
 }
 
 /// Lines with a bar behind each.
-pub fn lines_text(alloc: Global, lines: &[String]) -> Result<String, AllocError> {
+pub(crate) fn lines_text(alloc: Global, lines: &[String]) -> Result<String, AllocError> {
     let mut text = String::new(alloc);
     for line in lines {
         write!(text, "{line}|")?;
