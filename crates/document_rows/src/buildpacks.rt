@@ -28,7 +28,7 @@ fn add_group(alloc: Global, text: &mut String, group: &[Entry]) -> Result<(), Al
 }
 
 /// Groups, as `[ a@1.2.3? b ][ c ]`.
-pub fn order_text(alloc: Global, order: &Order) -> Result<String, AllocError> {
+pub(crate) fn order_text(alloc: Global, order: &Order) -> Result<String, AllocError> {
     let mut text = String::new(alloc);
     for group in order.as_slice() {
         add_group(alloc, &mut text, group.as_slice())?;
@@ -37,7 +37,7 @@ pub fn order_text(alloc: Global, order: &Order) -> Result<String, AllocError> {
 }
 
 /// The groups of an order.
-pub fn told_order(alloc: Global, row: &Row) -> Result<String, RowFault> {
+pub(crate) fn told_order(alloc: Global, row: &Row) -> Result<String, RowFault> {
     let bytes = given_bytes(alloc, row)?;
     match read_order(alloc, &bytes) {
         Ok(order) => Ok(order_text(alloc, &order)?),
@@ -64,7 +64,7 @@ fn descriptor_text(alloc: Global, descriptor: &Descriptor) -> Result<String, Row
 }
 
 /// A descriptor, as `a@1.0.0 component, clear-env false`.
-pub fn told_buildpack(alloc: Global, row: &Row) -> Result<String, RowFault> {
+pub(crate) fn told_buildpack(alloc: Global, row: &Row) -> Result<String, RowFault> {
     let bytes = given_bytes(alloc, row)?;
     match read_buildpack(alloc, &bytes) {
         Ok(descriptor) => descriptor_text(alloc, &descriptor),
@@ -102,7 +102,7 @@ fn options_text(alloc: Global, options: &[PlanOption]) -> Result<String, RowFaul
 }
 
 /// The alternatives of a Build Plan: for each a line with the names that it provides, and then what it requires.
-pub fn told_build_plan(alloc: Global, row: &Row) -> Result<String, RowFault> {
+pub(crate) fn told_build_plan(alloc: Global, row: &Row) -> Result<String, RowFault> {
     let bytes = given_bytes(alloc, row)?;
     match read_build_plan(alloc, &bytes) {
         Ok(options) => options_text(alloc, options.as_slice()),

@@ -102,7 +102,7 @@ fn again(alloc: Global, call: &str, bytes: &[u8]) -> Result<String, DocFault> {
 }
 
 /// The text of the document that a row names.
-pub fn rewritten(alloc: Global, row: &Row) -> Result<String, RowFault> {
+pub(crate) fn rewritten(alloc: Global, row: &Row) -> Result<String, RowFault> {
     let bytes = given_bytes(alloc, row)?;
     told(alloc, again(alloc, row.call.as_str(), &bytes))
 }

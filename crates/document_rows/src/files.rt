@@ -86,7 +86,7 @@ fn names(alloc: Global, world: &mut MemWorld, path: &Path) -> Result<String, Rea
 
 /// What is read at the path `at`, as the call says: the text of a document, the groups of an order, whether a folder stands
 /// there, or its names, each with `;` behind it.
-pub fn told_at_path(alloc: Global, row: &Row) -> Result<String, RowFault> {
+pub(crate) fn told_at_path(alloc: Global, row: &Row) -> Result<String, RowFault> {
     let mut world = world(alloc, row)?;
     let path = path_of(alloc, row, "at")?;
     let answer = match row.call.as_str() {

@@ -5,7 +5,7 @@ use row_files::{Row, RowFault};
 use std::alloc::{AllocError, Global};
 
 /// A value, where memory did not run out.
-pub fn ample<T: Drop>(answer: Result<T, Memory>) -> Result<T, RowFault> {
+pub(crate) fn ample<T: Drop>(answer: Result<T, Memory>) -> Result<T, RowFault> {
     match answer {
         Ok(value) => Ok(value),
         Err(Memory) => Err(RowFault::Memory(AllocError)),
@@ -13,7 +13,7 @@ pub fn ample<T: Drop>(answer: Result<T, Memory>) -> Result<T, RowFault> {
 }
 
 /// What is told, or the fault's own text.
-pub fn told(alloc: Global, answer: Result<String, DocFault>) -> Result<String, RowFault> {
+pub(crate) fn told(alloc: Global, answer: Result<String, DocFault>) -> Result<String, RowFault> {
     match answer {
         Ok(text) => Ok(text),
         Err(fault) => Ok(format!(in alloc; "{fault}")?),
@@ -21,7 +21,7 @@ pub fn told(alloc: Global, answer: Result<String, DocFault>) -> Result<String, R
 }
 
 /// A text that is given: what stands under the name, then `part` as often as `times` says, then `end`.
-pub fn given_text(alloc: Global, row: &Row, name: &str) -> Result<String, RowFault> {
+pub(crate) fn given_text(alloc: Global, row: &Row, name: &str) -> Result<String, RowFault> {
     let mut text = String::from_str(alloc, row.text(alloc, name)?)?;
     if let Some(part) = row.given.get("part") {
         for _ in 0..row.number(alloc, "times")? {
@@ -35,7 +35,7 @@ pub fn given_text(alloc: Global, row: &Row, name: &str) -> Result<String, RowFau
 }
 
 /// Bytes that are given: those of `text`, or those that are written in `hex`.
-pub fn given_bytes(alloc: Global, row: &Row) -> Result<Vec<u8>, RowFault> {
+pub(crate) fn given_bytes(alloc: Global, row: &Row) -> Result<Vec<u8>, RowFault> {
     if row.given.get("hex").is_none() {
         return Ok(given_text(alloc, row, "text")?.into_bytes());
     }

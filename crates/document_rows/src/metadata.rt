@@ -6,7 +6,7 @@ use std::alloc::{AllocError, Global};
 use toml::Table;
 
 /// The text of a table as a document.
-pub fn text_of(alloc: Global, table: &Table) -> Result<String, AllocError> {
+pub(crate) fn text_of(alloc: Global, table: &Table) -> Result<String, AllocError> {
     toml::table_to_string(alloc, table).map_err(|_| AllocError)
 }
 
@@ -16,7 +16,7 @@ fn document_text(alloc: Global, bytes: &[u8]) -> Result<String, DocFault> {
 }
 
 /// What a document is read as, written again.
-pub fn told_document(alloc: Global, row: &Row) -> Result<String, RowFault> {
+pub(crate) fn told_document(alloc: Global, row: &Row) -> Result<String, RowFault> {
     let bytes = given_bytes(alloc, row)?;
     told(alloc, document_text(alloc, &bytes))
 }
@@ -29,7 +29,7 @@ fn metadata_text(alloc: Global, bytes: &[u8], path: &str) -> Result<String, DocF
 }
 
 /// What a document's table is kept as, as metadata at `path`, copied and written again.
-pub fn told_metadata(alloc: Global, row: &Row) -> Result<String, RowFault> {
+pub(crate) fn told_metadata(alloc: Global, row: &Row) -> Result<String, RowFault> {
     let bytes = given_bytes(alloc, row)?;
     let path = row.text(alloc, "path")?;
     told(alloc, metadata_text(alloc, &bytes, path))

@@ -20,7 +20,7 @@ fn add(kinds: &mut String, kind: &str, is_one: bool) -> Result<(), AllocError> {
 }
 
 /// The kinds of names that a text is, as `id;layer;`.
-pub fn kinds_of(alloc: Global, row: &Row) -> Result<String, RowFault> {
+pub(crate) fn kinds_of(alloc: Global, row: &Row) -> Result<String, RowFault> {
     let text = given_text(alloc, row, "text")?;
     let text = text.as_str();
     let mut kinds = String::new(alloc);
@@ -34,7 +34,7 @@ pub fn kinds_of(alloc: Global, row: &Row) -> Result<String, RowFault> {
 }
 
 /// The name of the folders of an id.
-pub fn folder_of(alloc: Global, row: &Row) -> Result<String, RowFault> {
+pub(crate) fn folder_of(alloc: Global, row: &Row) -> Result<String, RowFault> {
     match BpId::parse(alloc, row.text(alloc, "text")?) {
         Ok(id) => {
             let folder = ample(id.folder(alloc))?;

@@ -16,7 +16,7 @@ fn add(text: &mut String, name: &str, value: &str) -> Result<(), AllocError> {
 }
 
 /// Adds an option that may stand several times.
-pub fn add_paths(text: &mut String, name: &str, paths: &[Path]) -> Result<(), AllocError> {
+pub(crate) fn add_paths(text: &mut String, name: &str, paths: &[Path]) -> Result<(), AllocError> {
     for path in paths {
         add(text, name, path.as_str())?;
     }
@@ -30,7 +30,11 @@ fn add_previous(text: &mut String, previous: &Option<ImageName>) -> Result<(), A
     }
 }
 
-pub fn detect(alloc: Global, text: &mut String, words: &DetectWords) -> Result<(), AllocError> {
+pub(crate) fn detect(
+    alloc: Global,
+    text: &mut String,
+    words: &DetectWords,
+) -> Result<(), AllocError> {
     let workers = format!(in alloc; "{}", words.workers)?;
     text.push_str("detect")?;
     add(text, "order", words.order.as_str())?;
@@ -41,7 +45,7 @@ pub fn detect(alloc: Global, text: &mut String, words: &DetectWords) -> Result<(
     add(text, "workers", workers.as_str())
 }
 
-pub fn analyze(text: &mut String, words: &AnalyzeWords) -> Result<(), AllocError> {
+pub(crate) fn analyze(text: &mut String, words: &AnalyzeWords) -> Result<(), AllocError> {
     text.push_str("analyze")?;
     add(text, "store", words.store.as_str())?;
     add(text, "run", words.run.as_str())?;
@@ -49,14 +53,14 @@ pub fn analyze(text: &mut String, words: &AnalyzeWords) -> Result<(), AllocError
     add_previous(text, &words.previous)
 }
 
-pub fn restore(text: &mut String, words: &RestoreWords) -> Result<(), AllocError> {
+pub(crate) fn restore(text: &mut String, words: &RestoreWords) -> Result<(), AllocError> {
     text.push_str("restore")?;
     add(text, "store", words.store.as_str())?;
     add(text, "work", words.work.as_str())?;
     add(text, "layers", words.layers.as_str())
 }
 
-pub fn build(text: &mut String, words: &BuildWords) -> Result<(), AllocError> {
+pub(crate) fn build(text: &mut String, words: &BuildWords) -> Result<(), AllocError> {
     text.push_str("build")?;
     add(text, "buildpacks", words.buildpacks.as_str())?;
     add(text, "app", words.app.as_str())?;
@@ -65,7 +69,7 @@ pub fn build(text: &mut String, words: &BuildWords) -> Result<(), AllocError> {
     add(text, "layers", words.layers.as_str())
 }
 
-pub fn export(text: &mut String, words: &ExportWords) -> Result<(), AllocError> {
+pub(crate) fn export(text: &mut String, words: &ExportWords) -> Result<(), AllocError> {
     text.push_str("export")?;
     add(text, "store", words.store.as_str())?;
     add(text, "work", words.work.as_str())?;
@@ -75,7 +79,11 @@ pub fn export(text: &mut String, words: &ExportWords) -> Result<(), AllocError> 
     add(text, "image", words.image.as_str())
 }
 
-pub fn create(alloc: Global, text: &mut String, words: &CreateWords) -> Result<(), AllocError> {
+pub(crate) fn create(
+    alloc: Global,
+    text: &mut String,
+    words: &CreateWords,
+) -> Result<(), AllocError> {
     text.push_str("create ")?;
     detect(alloc, text, &words.detect)?;
     add(text, "layers", words.layers.as_str())?;
@@ -86,14 +94,14 @@ pub fn create(alloc: Global, text: &mut String, words: &CreateWords) -> Result<(
     add_previous(text, &words.previous)
 }
 
-pub fn rebase(text: &mut String, words: &RebaseWords) -> Result<(), AllocError> {
+pub(crate) fn rebase(text: &mut String, words: &RebaseWords) -> Result<(), AllocError> {
     text.push_str("rebase")?;
     add(text, "store", words.store.as_str())?;
     add(text, "image", words.image.as_str())?;
     add(text, "run", words.run.as_str())
 }
 
-pub fn base(text: &mut String, words: &BaseWords) -> Result<(), AllocError> {
+pub(crate) fn base(text: &mut String, words: &BaseWords) -> Result<(), AllocError> {
     text.push_str("base")?;
     add(text, "store", words.store.as_str())?;
     add(text, "run", words.run.as_str())?;
@@ -102,20 +110,24 @@ pub fn base(text: &mut String, words: &BaseWords) -> Result<(), AllocError> {
     add_paths(text, "tree", words.trees.as_slice())
 }
 
-pub fn unpack(text: &mut String, words: &UnpackWords) -> Result<(), AllocError> {
+pub(crate) fn unpack(text: &mut String, words: &UnpackWords) -> Result<(), AllocError> {
     text.push_str("unpack")?;
     add(text, "store", words.store.as_str())?;
     add(text, "image", words.image.as_str())?;
     add(text, "root", words.root.as_str())
 }
 
-pub fn show(text: &mut String, words: &ShowWords) -> Result<(), AllocError> {
+pub(crate) fn show(text: &mut String, words: &ShowWords) -> Result<(), AllocError> {
     text.push_str("show")?;
     add(text, "store", words.store.as_str())?;
     add(text, "image", words.image.as_str())
 }
 
-pub fn drill(alloc: Global, text: &mut String, words: &DrillWords) -> Result<(), AllocError> {
+pub(crate) fn drill(
+    alloc: Global,
+    text: &mut String,
+    words: &DrillWords,
+) -> Result<(), AllocError> {
     let number = format!(in alloc; "{}", words.number)?;
     text.push_str("drill")?;
     add(text, "number", number.as_str())
@@ -128,7 +140,7 @@ fn add_texts(text: &mut String, words: &List<Text>) -> Result<(), AllocError> {
     Ok(())
 }
 
-pub fn launch(text: &mut String, words: &LaunchWords) -> Result<(), AllocError> {
+pub(crate) fn launch(text: &mut String, words: &LaunchWords) -> Result<(), AllocError> {
     text.push_str("launch")?;
     add(text, "root", words.root.as_str())?;
     match &words.call {

@@ -59,14 +59,14 @@ fn asked(alloc: Global, words: &[String]) -> Result<String, AllocError> {
 }
 
 /// What the given words ask for: the command with each of its options, or the fault.
-pub fn told_words(alloc: Global, row: &Row) -> Result<String, RowFault> {
+pub(crate) fn told_words(alloc: Global, row: &Row) -> Result<String, RowFault> {
     let line = given_text(alloc, row, "words")?;
     let words = words_in(alloc, line.as_str())?;
     Ok(asked(alloc, words.as_slice())?)
 }
 
 /// The first word of what the given words ask for: the command, or `usage`.
-pub fn told_command(alloc: Global, row: &Row) -> Result<String, RowFault> {
+pub(crate) fn told_command(alloc: Global, row: &Row) -> Result<String, RowFault> {
     let text = told_words(alloc, row)?;
     match text.as_str().split_once(' ') {
         Some((command, _)) => Ok(String::from_str(alloc, command)?),
@@ -75,6 +75,6 @@ pub fn told_command(alloc: Global, row: &Row) -> Result<String, RowFault> {
 }
 
 /// What no word asks for.
-pub fn told_no_words(alloc: Global) -> Result<String, RowFault> {
+pub(crate) fn told_no_words(alloc: Global) -> Result<String, RowFault> {
     Ok(asked(alloc, &[])?)
 }

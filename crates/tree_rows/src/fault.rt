@@ -12,7 +12,7 @@ pub enum Fault {
 
 impl Fault {
     /// A fault of what was written: this text, and the word that it speaks of.
-    pub fn wrong(alloc: Global, text: &str, word: &str) -> Fault {
+    pub(crate) fn wrong(alloc: Global, text: &str, word: &str) -> Fault {
         Fault::Row(RowFault::wrong(alloc, text, word))
     }
 }
@@ -42,7 +42,7 @@ impl From<RowFault> for Fault {
 }
 
 /// The same fault, as programs of rows tell it.
-pub fn row_fault(fault: Fault) -> RowFault {
+pub(crate) fn row_fault(fault: Fault) -> RowFault {
     match fault {
         Fault::Memory => RowFault::Memory(AllocError),
         Fault::Row(fault) => fault,

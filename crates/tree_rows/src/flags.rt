@@ -27,7 +27,7 @@ fn is_listed(row: &Row, word: &str) -> bool {
 }
 
 /// What is restored of a layer that the previous image and the caches have with these flags.
-pub fn restored(alloc: Global, row: &Row) -> Result<String, Fault> {
+pub(crate) fn restored(alloc: Global, row: &Row) -> Result<String, Fault> {
     let image = flags_of(alloc, row.text(alloc, "image")?)?;
     let cache = flags_of(alloc, row.text(alloc, "cache")?)?;
     let answer = restore_row(image, cache, is_listed(row, "same"));
@@ -35,7 +35,7 @@ pub fn restored(alloc: Global, row: &Row) -> Result<String, Fault> {
 }
 
 /// What export does with a layer that has these flags.
-pub fn exported(alloc: Global, row: &Row) -> Result<String, Fault> {
+pub(crate) fn exported(alloc: Global, row: &Row) -> Result<String, Fault> {
     let text = row.text(alloc, "flags")?;
     let Some(flags) = flags_of(alloc, text)? else {
         return Err(Fault::wrong(alloc, "no flags:", text));

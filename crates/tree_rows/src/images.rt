@@ -189,7 +189,7 @@ fn called(alloc: Global, world: &mut MemWorld, line: &str) -> Result<String, Fau
 }
 
 /// What calls answer, one after another in one world.
-pub fn called_in_turn(alloc: Global, row: &Row) -> Result<String, Fault> {
+pub(crate) fn called_in_turn(alloc: Global, row: &Row) -> Result<String, Fault> {
     let mut world = world_of(alloc, row)?;
     let mut words = String::new(alloc);
     for line in row.text(alloc, "calls")?.lines() {

@@ -7,7 +7,7 @@ use row_files::Row;
 use std::alloc::Global;
 
 /// What is given under a name, and no text where nothing is.
-pub fn text_or_none<'a>(row: &'a Row, name: &str) -> &'a str {
+pub(crate) fn text_or_none<'a>(row: &'a Row, name: &str) -> &'a str {
     match row.given.get(name) {
         Some(text) => text.as_str(),
         None => "",
@@ -15,13 +15,13 @@ pub fn text_or_none<'a>(row: &'a Row, name: &str) -> &'a str {
 }
 
 /// The number that a word is.
-pub fn number_of(alloc: Global, word: &str) -> Result<u64, Fault> {
+pub(crate) fn number_of(alloc: Global, word: &str) -> Result<u64, Fault> {
     word.parse()
         .map_err(|_| Fault::wrong(alloc, "no number:", word))
 }
 
 /// The numbers of the calls that fail.
-pub fn numbers_of(alloc: Global, text: &str) -> Result<List<u64>, Fault> {
+pub(crate) fn numbers_of(alloc: Global, text: &str) -> Result<List<u64>, Fault> {
     let mut numbers = List::new(alloc);
     for word in text.split_whitespace() {
         numbers.push(number_of(alloc, word)?)?;
@@ -31,7 +31,7 @@ pub fn numbers_of(alloc: Global, text: &str) -> Result<List<u64>, Fault> {
 
 /// The bytes that words spell: one that begins with `'` is its text, `5*00` is `00` five times, and others are
 /// hexadecimal digits.
-pub fn bytes_of(alloc: Global, text: &str) -> Result<Bytes, Fault> {
+pub(crate) fn bytes_of(alloc: Global, text: &str) -> Result<Bytes, Fault> {
     let mut bytes = Bytes::from_vec(Vec::new(alloc));
     for word in text.split_whitespace() {
         match word.split_once('*') {
@@ -61,7 +61,7 @@ fn word_bytes(alloc: Global, word: &str) -> Result<Bytes, Fault> {
 }
 
 /// The path that a text is. Those of rows are short.
-pub fn path_of(alloc: Global, text: &str) -> Result<Path, Fault>
+pub(crate) fn path_of(alloc: Global, text: &str) -> Result<Path, Fault>
     ensures { IfOk result (λ path. length path ≤ 4096) }
 {
     match Path::parse_short(alloc, text) {
@@ -71,7 +71,7 @@ pub fn path_of(alloc: Global, text: &str) -> Result<Path, Fault>
 }
 
 /// What a line says: `folder a`, `file a [exec] TEXT`, `link a -> TARGET` or `odd a`; first its path.
-pub fn item_of<'a>(alloc: Global, line: &'a str) -> Result<(&'a str, Item), Fault> {
+pub(crate) fn item_of<'a>(alloc: Global, line: &'a str) -> Result<(&'a str, Item), Fault> {
     let (kind, rest) = line.split_once(' ').unwrap_or((line, ""));
     let (path, rest) = rest.split_once(' ').unwrap_or((rest, ""));
     match kind {
@@ -103,7 +103,7 @@ fn link(alloc: Global, rest: &str) -> Result<Item, Fault> {
 }
 
 /// Adds the items of lines, with this text in front of their paths.
-pub fn push_items(
+pub(crate) fn push_items(
     alloc: Global,
     items: &mut List<Placed>,
     front: &str,

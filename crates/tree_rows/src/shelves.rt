@@ -216,7 +216,7 @@ fn all_words(alloc: Global, row: &Row, caches: &mut Caches) -> Result<String, Fa
 
 /// What calls answer, one after another over the caches of a row, which of these stand then, and how often each was
 /// called and ended.
-pub fn called_in_turn(alloc: Global, row: &Row) -> Result<String, Fault> {
+pub(crate) fn called_in_turn(alloc: Global, row: &Row) -> Result<String, Fault> {
     let mut all = Vec::new(alloc);
     let mut shelves: Shelves = Vec::new(alloc);
     let mut places = List::new(alloc);

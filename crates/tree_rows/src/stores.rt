@@ -98,7 +98,7 @@ fn called(alloc: Global, world: &mut MemWorld, tree: &Tree, line: &str) -> Resul
 }
 
 /// What calls answer, one after another in one world.
-pub fn called_in_turn(alloc: Global, row: &Row) -> Result<String, Fault> {
+pub(crate) fn called_in_turn(alloc: Global, row: &Row) -> Result<String, Fault> {
     let tree = tree_of(alloc, text_or_none(row, "tree"))?;
     let mut world = world_of(alloc, row)?;
     let mut words = String::new(alloc);

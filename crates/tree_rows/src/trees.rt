@@ -57,7 +57,7 @@ fn fed_by(alloc: Global, bytes: &[u8], size: usize) -> Result<Tree, DecodeFault>
 }
 
 /// What bytes spell: decoded at once, fed whole, and fed in pieces of one byte.
-pub fn decoded(alloc: Global, row: &Row) -> Result<String, Fault> {
+pub(crate) fn decoded(alloc: Global, row: &Row) -> Result<String, Fault> {
     let bytes = bytes_of(alloc, row.text(alloc, "bytes")?)?;
     let (bytes, shown) = (bytes.as_slice(), text_or_none(row, "shown"));
     let once = answer_words(alloc, shown, bytes, decode(alloc, bytes))?;
@@ -71,7 +71,7 @@ pub fn decoded(alloc: Global, row: &Row) -> Result<String, Fault> {
 }
 
 /// What feeding each piece answers, and then the end.
-pub fn fed(alloc: Global, row: &Row) -> Result<String, Fault> {
+pub(crate) fn fed(alloc: Global, row: &Row) -> Result<String, Fault> {
     let mut decoder = Decoder::new(alloc)?;
     let mut all = bytes_of(alloc, "")?;
     let mut words = String::new(alloc);
@@ -121,7 +121,7 @@ fn folder_around(alloc: Global, node: Node) -> Result<Node, Memory> {
 }
 
 /// The tree of a folder with these entries, in so many folders.
-pub fn made(alloc: Global, row: &Row) -> Result<String, Fault> {
+pub(crate) fn made(alloc: Global, row: &Row) -> Result<String, Fault> {
     let mut node = folder_of(alloc, row.text(alloc, "entries")?)?;
     for _ in 0..row.number(alloc, "folders")? {
         node = folder_around(alloc, node)?;
@@ -134,13 +134,13 @@ pub fn made(alloc: Global, row: &Row) -> Result<String, Fault> {
 }
 
 /// Whether bytes are fit to be a link's target.
-pub fn target(alloc: Global, row: &Row) -> Result<String, Fault> {
+pub(crate) fn target(alloc: Global, row: &Row) -> Result<String, Fault> {
     let bytes = bytes_of(alloc, row.text(alloc, "bytes")?)?;
     Ok(String::from_str(alloc, yes_or_no(is_target(bytes.as_slice())))?)
 }
 
 /// What bytes are that were kept under the digest of others.
-pub fn judged(alloc: Global, row: &Row) -> Result<String, Fault> {
+pub(crate) fn judged(alloc: Global, row: &Row) -> Result<String, Fault> {
     let bytes = bytes_of(alloc, row.text(alloc, "bytes")?)?;
     let kept = bytes_of(alloc, row.text(alloc, "kept")?)?;
     let judged = judge(alloc, &Digest::of(kept.as_slice()), bytes.as_slice())?;
@@ -151,7 +151,7 @@ pub fn judged(alloc: Global, row: &Row) -> Result<String, Fault> {
 }
 
 /// The digest of bytes, and whether it is that of others.
-pub fn digest(alloc: Global, row: &Row) -> Result<String, Fault> {
+pub(crate) fn digest(alloc: Global, row: &Row) -> Result<String, Fault> {
     let bytes = bytes_of(alloc, row.text(alloc, "bytes")?)?;
     let other = bytes_of(alloc, text_or_none(row, "other"))?;
     let (digest, other) = (Digest::of(bytes.as_slice()), Digest::of(other.as_slice()));
@@ -161,7 +161,7 @@ pub fn digest(alloc: Global, row: &Row) -> Result<String, Fault> {
 }
 
 /// The digest that a text is.
-pub fn digest_read(alloc: Global, row: &Row) -> Result<String, Fault> {
+pub(crate) fn digest_read(alloc: Global, row: &Row) -> Result<String, Fault> {
     let Some(digest) = Digest::parse(row.text(alloc, "text")?) else {
         return Ok(String::from_str(alloc, "no digest")?);
     };

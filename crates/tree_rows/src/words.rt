@@ -6,12 +6,12 @@ use std::str;
 use tree_canon::{Digest, Named, Node, Reason, Tree};
 
 /// The word for a truth.
-pub fn yes_or_no(truth: bool) -> &'static str {
+pub(crate) fn yes_or_no(truth: bool) -> &'static str {
     if truth { "yes" } else { "no" }
 }
 
 /// The text that bytes are, and else their hexadecimal digits.
-pub fn text_of(alloc: Global, bytes: &[u8]) -> Result<String, Fault> {
+pub(crate) fn text_of(alloc: Global, bytes: &[u8]) -> Result<String, Fault> {
     match str::from_utf8(bytes) {
         Ok(text) => Ok(String::from_str(alloc, text)?),
         Err(_) => Ok(format!(in alloc; "bytes {}", hex::encode(alloc, bytes)?)?),
@@ -19,17 +19,17 @@ pub fn text_of(alloc: Global, bytes: &[u8]) -> Result<String, Fault> {
 }
 
 /// A refusal that speaks of a path.
-pub fn path_words(alloc: Global, refusal: &str, path: &Path) -> Result<String, Fault> {
+pub(crate) fn path_words(alloc: Global, refusal: &str, path: &Path) -> Result<String, Fault> {
     Ok(format!(in alloc; "{refusal} {}", path.as_str())?)
 }
 
 /// A refusal that speaks of a digest.
-pub fn digest_words(alloc: Global, refusal: &str, digest: &Digest) -> Result<String, Fault> {
+pub(crate) fn digest_words(alloc: Global, refusal: &str, digest: &Digest) -> Result<String, Fault> {
     Ok(format!(in alloc; "{refusal} {}", digest.text(alloc)?.as_str())?)
 }
 
 /// Bytes that are damaged: the digest that they were kept under, their own, and why they spell no tree.
-pub fn damage_words(
+pub(crate) fn damage_words(
     alloc: Global,
     asked: &Digest,
     found: &Digest,
@@ -44,7 +44,7 @@ pub fn damage_words(
 }
 
 /// A tree, an entry a line. Its root is `.`.
-pub fn tree_words(alloc: Global, tree: &Tree) -> Result<String, Fault> {
+pub(crate) fn tree_words(alloc: Global, tree: &Tree) -> Result<String, Fault> {
     let mut words = String::new(alloc);
     put_node(alloc, &mut words, ".", tree.node())?;
     Ok(words)

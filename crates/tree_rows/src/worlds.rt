@@ -25,7 +25,7 @@ fn push_document(
 }
 
 /// The world of a row: the items of `world`, the texts that are given under paths, and the calls that fail.
-pub fn world_of(alloc: Global, row: &Row) -> Result<MemWorld, Fault> {
+pub(crate) fn world_of(alloc: Global, row: &Row) -> Result<MemWorld, Fault> {
     let mut items = List::new(alloc);
     push_items(alloc, &mut items, "", text_or_none(row, "world"))?;
     for (name, text) in &row.given {
@@ -37,7 +37,7 @@ pub fn world_of(alloc: Global, row: &Row) -> Result<MemWorld, Fault> {
 }
 
 /// The tree of a folder with the items of these lines.
-pub fn tree_of(alloc: Global, lines: &str) -> Result<Tree, Fault> {
+pub(crate) fn tree_of(alloc: Global, lines: &str) -> Result<Tree, Fault> {
     let mut items = List::new(alloc);
     push_items(alloc, &mut items, "/", "folder t")?;
     push_items(alloc, &mut items, "/t/", lines)?;

@@ -7,7 +7,7 @@ use row_files::RowFault;
 use std::alloc::Global;
 
 /// The digest that a word stands for.
-pub fn digest_of(alloc: Global, word: &str) -> Result<[u8; 32], RowFault> {
+pub(crate) fn digest_of(alloc: Global, word: &str) -> Result<[u8; 32], RowFault> {
     match word.parse::<u8>() {
         Ok(byte) => Ok([byte; 32]),
         Err(_) => Err(RowFault::wrong(alloc, "no digest:", word)),
@@ -15,7 +15,11 @@ pub fn digest_of(alloc: Global, word: &str) -> Result<[u8; 32], RowFault> {
 }
 
 /// The rows document, or the bytes under a digest.
-pub fn recall<C: Shelf>(alloc: Global, cache: &mut C, line: Line) -> Result<String, LineFault> {
+pub(crate) fn recall<C: Shelf>(
+    alloc: Global,
+    cache: &mut C,
+    line: Line,
+) -> Result<String, LineFault> {
     if line.call == "cache_rows" {
         return Ok(shown(alloc, cache.rows()?.as_slice())?);
     }
@@ -31,7 +35,7 @@ pub fn recall<C: Shelf>(alloc: Global, cache: &mut C, line: Line) -> Result<Stri
 }
 
 /// Replaces the rows document, or puts bytes under a digest.
-pub fn keep<C: Shelf>(alloc: Global, cache: &mut C, line: Line) -> Result<(), LineFault> {
+pub(crate) fn keep<C: Shelf>(alloc: Global, cache: &mut C, line: Line) -> Result<(), LineFault> {
     if line.call == "cache_set_rows" {
         return Ok(cache.set_rows(line.given.as_bytes())?);
     }

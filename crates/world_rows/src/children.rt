@@ -6,7 +6,7 @@ use cnb_world::{ChildJob, DetectJob, Env, List, Path, Text};
 use std::alloc::{AllocError, Global};
 
 /// The job of `run PROGRAM|ARGUMENT|..`, in `~/app`.
-pub fn child_job(
+pub(crate) fn child_job(
     alloc: Global,
     folder: &str,
     env: &Env,
@@ -26,7 +26,7 @@ pub fn child_job(
 }
 
 /// The job of `detect ID PROGRAM`, at version 1.0.0: in `~/app`, with its plan at `~/work/ID`.
-pub fn detect_job(
+pub(crate) fn detect_job(
     alloc: Global,
     folder: &str,
     env: &Env,
@@ -59,7 +59,7 @@ fn path_in(alloc: Global, folder: &str, name: &str) -> Result<Path, LineFault> {
 }
 
 /// How a child ended: its code, whether that is a detect child's that passed, and what it wrote.
-pub fn end_text(
+pub(crate) fn end_text(
     alloc: Global,
     code: Option<i32>,
     passed: bool,

@@ -22,7 +22,7 @@ pub enum Failing {
 
 impl Failing {
     /// The call of a name.
-    pub fn named(name: &str) -> Failing {
+    pub(crate) fn named(name: &str) -> Failing {
         match name {
             "look" => Failing::Look,
             "open" => Failing::Open,

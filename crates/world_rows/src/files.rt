@@ -7,7 +7,11 @@ use row_files::RowFault;
 use std::alloc::{AllocError, Global};
 
 /// The answer of a call that changes nothing.
-pub fn look<W: World>(alloc: Global, world: &mut W, line: Line) -> Result<String, LineFault> {
+pub(crate) fn look<W: World>(
+    alloc: Global,
+    world: &mut W,
+    line: Line,
+) -> Result<String, LineFault> {
     let path = path_of(alloc, line.first)?;
     match line.call {
         "kind" => Ok(kind_text(alloc, world.kind(&path)?)?),
@@ -56,7 +60,7 @@ fn whole_text<W: World>(
 }
 
 /// Makes a call that changes files.
-pub fn change<W: World>(alloc: Global, world: &mut W, line: Line) -> Result<(), LineFault> {
+pub(crate) fn change<W: World>(alloc: Global, world: &mut W, line: Line) -> Result<(), LineFault> {
     let path = path_of(alloc, line.first)?;
     match line.call {
         "make_folder" => Ok(world.make_folder(&path)?),

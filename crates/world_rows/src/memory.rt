@@ -13,7 +13,7 @@ use std::alloc::{AllocError, Global};
 pub const FOLDER: &str = "/stage";
 
 /// Plays a row's script in memory, and tells the children that ran.
-pub fn in_memory(rt: &HostRuntime, row: &Row) -> Result<String, LineFault> {
+pub(crate) fn in_memory(rt: &HostRuntime, row: &Row) -> Result<String, LineFault> {
     let alloc = rt.alloc();
     let replies = replies(alloc, given(row, "replies"))?;
     if given(row, "spawner") == "sure" {

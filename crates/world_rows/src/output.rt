@@ -39,7 +39,7 @@ impl Print for Narrow {
 }
 
 /// Writes each given line to an output, and tells how many bytes of it were taken.
-pub fn written(rt: &HostRuntime, row: &Row) -> Result<String, LineFault> {
+pub(crate) fn written(rt: &HostRuntime, row: &Row) -> Result<String, LineFault> {
     let alloc = rt.alloc();
     let pieces = row.text(alloc, "pieces")?;
     match row.text(alloc, "output")? {

@@ -15,7 +15,7 @@ fn brief(alloc: Global, text: &str) -> Result<String, AllocError> {
 }
 
 /// For each of the given texts: the parent of the path that it is, and whether it is short.
-pub fn paths(alloc: Global, row: &Row) -> Result<String, RowFault> {
+pub(crate) fn paths(alloc: Global, row: &Row) -> Result<String, RowFault> {
     let mut told = String::new(alloc);
     for text in row.text(alloc, "texts")?.lines() {
         let text = written_out(alloc, text)?;
@@ -38,7 +38,7 @@ fn path_text(alloc: Global, text: &str) -> Result<String, LineFault> {
 }
 
 /// For each of the given names: the path of that name in the folder, or where it is no part of a path, what it joins to.
-pub fn joined(alloc: Global, row: &Row) -> Result<String, RowFault> {
+pub(crate) fn joined(alloc: Global, row: &Row) -> Result<String, RowFault> {
     let folder = path_of(alloc, row.text(alloc, "folder")?)?;
     let mut told = String::new(alloc);
     for name in row.text(alloc, "names")?.lines() {
@@ -61,7 +61,7 @@ fn joined_text(alloc: Global, folder: &Path, name: &str) -> Result<String, LineF
 }
 
 /// What stands beside each of the given paths while it is written.
-pub fn beside(alloc: Global, row: &Row) -> Result<String, RowFault> {
+pub(crate) fn beside(alloc: Global, row: &Row) -> Result<String, RowFault> {
     let mut told = String::new(alloc);
     for text in row.text(alloc, "texts")?.lines() {
         let text = written_out(alloc, text)?;

@@ -18,7 +18,7 @@ use ticket_pool::{PoolFault, Tickets, run_all};
 const MOST: u64 = 64;
 
 /// Plays a row's script on the system, and then runs detect children by so many workers.
-pub fn side_by_side<R: Threads + Sync>(
+pub(crate) fn side_by_side<R: Threads + Sync>(
     threads: &R,
     rt: &HostRuntime,
     row: &Row,

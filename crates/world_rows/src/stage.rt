@@ -20,7 +20,7 @@ pub struct Line<'a> {
 
 impl Line<'_> {
     /// The line of a text.
-    pub fn of(text: &str) -> Line<'_> {
+    pub(crate) fn of(text: &str) -> Line<'_> {
         let (call, given) = cut(text);
         let (first, rest) = cut(given);
         Line {
@@ -46,7 +46,7 @@ pub struct Stage<W: World + Drop, S: Spawner + Drop, C: Shelf> {
 
 impl<W: World + Drop, S: Spawner + Drop, C: Shelf> Stage<W, S, C> {
     /// Makes the calls of a script, and tells the answers, a line each.
-    pub fn play(&mut self, script: &str) -> Result<String, RowFault> {
+    pub(crate) fn play(&mut self, script: &str) -> Result<String, RowFault> {
         let alloc = self.rt.alloc();
         let script = script.replace(alloc, "~", self.folder.as_str())?;
         let mut told = String::new(alloc);

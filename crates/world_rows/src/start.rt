@@ -72,7 +72,7 @@ fn bytes_of(alloc: Global, text: &str) -> Result<Vec<u8>, AllocError> {
 }
 
 /// The words that a process with the given lines reads.
-pub fn read_words(alloc: Global, row: &Row) -> Result<String, LineFault> {
+pub(crate) fn read_words(alloc: Global, row: &Row) -> Result<String, LineFault> {
     let mut told = String::new(alloc);
     match words(&process_of(alloc, row)?) {
         Ok(words) => {
@@ -88,7 +88,7 @@ pub fn read_words(alloc: Global, row: &Row) -> Result<String, LineFault> {
 }
 
 /// The environment that a process with the given lines reads.
-pub fn read_environment(alloc: Global, row: &Row) -> Result<String, LineFault> {
+pub(crate) fn read_environment(alloc: Global, row: &Row) -> Result<String, LineFault> {
     let env = environment(&process_of(alloc, row)?)?;
     told(alloc, &env, given(row, "asked"))
 }

@@ -12,12 +12,12 @@ use std::{env, fs};
 pub type SystemStage<C> = Stage<HostWorld<HostRuntime>, HostSpawner<HostRuntime>, C>;
 
 /// Plays a row's script in a folder of the system.
-pub fn on_system(rt: &HostRuntime, row: &Row) -> Result<String, RowFault> {
+pub(crate) fn on_system(rt: &HostRuntime, row: &Row) -> Result<String, RowFault> {
     play(rt, row, system_cache(rt)?)
 }
 
 /// Does the same with a cache for whose files the call fails that is given as `failing`.
-pub fn on_faulty_system(rt: &HostRuntime, row: &Row) -> Result<String, RowFault> {
+pub(crate) fn on_faulty_system(rt: &HostRuntime, row: &Row) -> Result<String, RowFault> {
     let failing = Failing::named(row.text(rt.alloc(), "failing")?);
     let files = FaultyFiles { rt: *rt, failing };
     play(rt, row, FolderShelf::new(files, cache_place(rt)?))
@@ -32,7 +32,7 @@ fn play<C: Shelf>(rt: &HostRuntime, row: &Row, cache: C) -> Result<String, RowFa
 }
 
 /// A stage on the system with this cache, in a folder that is made for it.
-pub fn system_stage<C: Shelf>(
+pub(crate) fn system_stage<C: Shelf>(
     rt: &HostRuntime,
     row: &Row,
     cache: C,
@@ -51,7 +51,7 @@ pub fn system_stage<C: Shelf>(
 }
 
 /// The cache of a stage on the system.
-pub fn system_cache(rt: &HostRuntime) -> Result<FolderShelf<HostRuntime>, RowFault> {
+pub(crate) fn system_cache(rt: &HostRuntime) -> Result<FolderShelf<HostRuntime>, RowFault> {
     Ok(FolderShelf::new(*rt, cache_place(rt)?))
 }
 

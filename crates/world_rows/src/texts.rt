@@ -8,7 +8,7 @@ use std::alloc::{AllocError, Global};
 const MOST_SHOWN: usize = 4000;
 
 /// The text that is given under a name, or none.
-pub fn given<'a>(row: &'a Row, name: &str) -> &'a str {
+pub(crate) fn given<'a>(row: &'a Row, name: &str) -> &'a str {
     match row.given.get(name) {
         Some(text) => text.as_str(),
         None => "",
@@ -16,23 +16,23 @@ pub fn given<'a>(row: &'a Row, name: &str) -> &'a str {
 }
 
 /// What stands before the first blank, and what behind it.
-pub fn cut(text: &str) -> (&str, &str) {
+pub(crate) fn cut(text: &str) -> (&str, &str) {
     text.split_once(' ').unwrap_or((text, ""))
 }
 
 /// The path that a text is.
-pub fn path_of(alloc: Global, text: &str) -> Result<Path, RowFault> {
+pub(crate) fn path_of(alloc: Global, text: &str) -> Result<Path, RowFault> {
     Path::parse(alloc, text).map_err(|_| RowFault::wrong(alloc, "no path:", text))
 }
 
 /// The number that a text is.
-pub fn number_of(alloc: Global, text: &str) -> Result<u64, RowFault> {
+pub(crate) fn number_of(alloc: Global, text: &str) -> Result<u64, RowFault> {
     text.parse()
         .map_err(|_| RowFault::wrong(alloc, "no number:", text))
 }
 
 /// The numbers that are given under a name, with blanks between them.
-pub fn numbers(alloc: Global, row: &Row, name: &str) -> Result<List<u64>, RowFault> {
+pub(crate) fn numbers(alloc: Global, row: &Row, name: &str) -> Result<List<u64>, RowFault> {
     let mut numbers = Vec::new(alloc);
     for word in given(row, name).split_whitespace() {
         numbers.push(number_of(alloc, word)?)?;
@@ -41,7 +41,7 @@ pub fn numbers(alloc: Global, row: &Row, name: &str) -> Result<List<u64>, RowFau
 }
 
 /// The text with `{a*3}` written out as `aaa`, once.
-pub fn written_out(alloc: Global, text: &str) -> Result<String, RowFault> {
+pub(crate) fn written_out(alloc: Global, text: &str) -> Result<String, RowFault> {
     let mut whole = String::new(alloc);
     let (front, rest) = text.split_once('{').unwrap_or((text, ""));
     let (repeated, back) = rest.split_once('}').unwrap_or(("", rest));
@@ -55,7 +55,7 @@ pub fn written_out(alloc: Global, text: &str) -> Result<String, RowFault> {
 }
 
 /// Bytes as a line shows them: a line's end is written `\n`, and of many bytes only the number is told.
-pub fn shown(alloc: Global, bytes: &[u8]) -> Result<String, AllocError> {
+pub(crate) fn shown(alloc: Global, bytes: &[u8]) -> Result<String, AllocError> {
     if bytes.len() > MOST_SHOWN {
         return format!(in alloc; "{} bytes", bytes.len());
     }
@@ -64,12 +64,15 @@ pub fn shown(alloc: Global, bytes: &[u8]) -> Result<String, AllocError> {
 }
 
 /// The text that a line of a script means: `\n` is a line's end.
-pub fn meant(alloc: Global, text: &str) -> Result<String, AllocError> {
+pub(crate) fn meant(alloc: Global, text: &str) -> Result<String, AllocError> {
     text.replace(alloc, "\\n", "\n")
 }
 
 /// Adds the line of an answer.
-pub fn add_line(told: &mut String, answer: Result<String, LineFault>) -> Result<(), RowFault> {
+pub(crate) fn add_line(
+    told: &mut String,
+    answer: Result<String, LineFault>,
+) -> Result<(), RowFault> {
     match answer {
         Ok(text) => told.push_str(text.as_str())?,
         Err(LineFault::Failed) => told.push_str("failed")?,

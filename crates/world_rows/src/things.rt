@@ -23,7 +23,7 @@ fn item(alloc: Global, path: &str, item: Item) -> Result<Placed, LineFault> {
 }
 
 /// The script's folder, the pipes, and a file for each line `PATH TEXT` of what is placed.
-pub fn placed(alloc: Global, row: &Row) -> Result<List<Placed>, LineFault> {
+pub(crate) fn placed(alloc: Global, row: &Row) -> Result<List<Placed>, LineFault> {
     let mut items = Vec::new(alloc);
     items.push(item(alloc, FOLDER, Item::Folder)?)?;
     for pipe in given(row, "pipes").split_whitespace() {
@@ -38,7 +38,7 @@ pub fn placed(alloc: Global, row: &Row) -> Result<List<Placed>, LineFault> {
 }
 
 /// A play for each line `PROGRAM CODE SIDE CHANGES`.
-pub fn plays(alloc: Global, row: &Row) -> Result<List<Play>, LineFault> {
+pub(crate) fn plays(alloc: Global, row: &Row) -> Result<List<Play>, LineFault> {
     let mut plays = Vec::new(alloc);
     for line in given(row, "plays").lines() {
         plays.push(play(alloc, line)?)?;
@@ -74,7 +74,7 @@ fn play(alloc: Global, line: &str) -> Result<Play, LineFault> {
 }
 
 /// A reply at version 1.0.0 for each line `ID CODE PLAN`.
-pub fn replies(alloc: Global, lines: &str) -> Result<List<Reply>, LineFault> {
+pub(crate) fn replies(alloc: Global, lines: &str) -> Result<List<Reply>, LineFault> {
     let mut replies = Vec::new(alloc);
     for line in lines.lines() {
         replies.push(reply(alloc, line)?)?;
@@ -97,7 +97,7 @@ fn reply(alloc: Global, line: &str) -> Result<Reply, LineFault> {
 }
 
 /// Bytes for each line `DIGEST TEXT`.
-pub fn held(alloc: Global, lines: &str) -> Result<List<Held>, LineFault> {
+pub(crate) fn held(alloc: Global, lines: &str) -> Result<List<Held>, LineFault> {
     let mut held = Vec::new(alloc);
     for line in lines.lines() {
         let (digest, text) = cut(line);

@@ -6,7 +6,7 @@ use row_files::Row;
 use std::alloc::{AllocError, Global};
 
 /// The environment after each line `NAME=VALUE` was set, and then the value of each name that is asked for.
-pub fn variables(alloc: Global, row: &Row) -> Result<String, LineFault> {
+pub(crate) fn variables(alloc: Global, row: &Row) -> Result<String, LineFault> {
     let mut env = Env::new(alloc);
     for variable in given_variables(alloc, row)?.into_vec() {
         let Variable { name, value } = variable;
@@ -16,7 +16,7 @@ pub fn variables(alloc: Global, row: &Row) -> Result<String, LineFault> {
 }
 
 /// The environment of the given lines `NAME=VALUE`, where their names ascend.
-pub fn ascending(alloc: Global, row: &Row) -> Result<String, LineFault> {
+pub(crate) fn ascending(alloc: Global, row: &Row) -> Result<String, LineFault> {
     match Env::from_ascending(alloc, given_variables(alloc, row)?) {
         Some(env) => told(alloc, &env, given(row, "asked")),
         None => Err(LineFault::Failed),
@@ -35,7 +35,7 @@ fn given_variables(alloc: Global, row: &Row) -> Result<List<Variable>, LineFault
 }
 
 /// The variables of an environment, a line each, and the values of the names that are asked for.
-pub fn told(alloc: Global, env: &Env, asked: &str) -> Result<String, LineFault> {
+pub(crate) fn told(alloc: Global, env: &Env, asked: &str) -> Result<String, LineFault> {
     let mut told = String::new(alloc);
     for place in 0..env.len() {
         told.push_str(variable_line(alloc, env.name(place), env.value(place))?.as_str())?;
