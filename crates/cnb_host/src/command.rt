@@ -6,10 +6,11 @@ ghost use Rattle.cnb_world.specs.Env.{value_of};
 
 use cnb_world::{ChildJob, DetectJob, Env, Path, Text};
 use std::alloc::{AllocError, Global};
-use std::process::{Command, Stdio};
+use std::process::Command;
 
 /// The command of a job: its program with the platform folder and the plan file as arguments, in its folder, with
-/// exactly its environment (buildpack.md, "Detection"). It has no standard input and inherits the two outputs.
+/// exactly its environment (buildpack.md, "Detection"). Its standard input is for the caller to give, and it inherits the
+/// two outputs.
 pub fn detect_command(alloc: Global, job: &DetectJob) -> Result<Command, AllocError>
     ensures program { IfOk result (λ command. command_program command ≡ job.now.program) }
     ensures args { IfOk result (λ command. command_args command ≡ job.now.platform ∷ job.now.plan ∷ []) }
@@ -20,7 +21,6 @@ pub fn detect_command(alloc: Global, job: &DetectJob) -> Result<Command, AllocEr
     let mut command = Command::new(alloc, job.program.as_str())?;
     command.arg(job.platform.as_str())?;
     command.arg(job.plan.as_str())?;
-    command.stdin(Stdio::null());
     set_surroundings(&mut command, &job.dir, &job.env)?;
     Ok(command)
 }

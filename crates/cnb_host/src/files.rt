@@ -64,6 +64,25 @@ where
     read_at_most(alloc, &file, at, len.saturating_sub(at).min(max))
 }
 
+/// The bytes of the regular file at a path, at most `max` of them. A file that has none is not opened.
+pub fn read_unless_empty<R: Files>(
+    rt: &R,
+    alloc: Global,
+    path: &str,
+    max: u64,
+) -> Result<Bytes, HostFault>
+where
+    R::File: FileExt,
+    ensures bound { IfOk result (λ bytes. length bytes ≤ max) }
+{
+    let found = fs::symlink_metadata(rt, path)?;
+    if found.is_file() && found.len() == 0 {
+        return Ok(Bytes::from_vec(Vec::new(alloc)));
+    }
+    let (file, len) = open_to_read(rt, path, &found)?;
+    read_at_most(alloc, &file, 0, len.min(max))
+}
+
 /// The bytes of the regular file at a path, at most `max` of them, where anything stands there.
 pub fn read_if_there<R: Files>(
     rt: &R,
@@ -169,14 +188,21 @@ pub fn fresh_file<R: Files>(rt: &R, path: &str) -> Result<(), HostFault> {
     if make_new(rt, path, PLAIN)?.is_some() {
         return Ok(());
     }
-    match kind_at(rt, path)? {
-        Kind::Absent => {}
-        Kind::File { .. } | Kind::Link | Kind::Odd => fs::remove_file(rt, path)?,
-        Kind::Folder => return Err(HostFault::Failed),
-    }
+    unlink_at(rt, path)?;
     match make_new(rt, path, PLAIN)? {
         Some(_) => Ok(()),
         None => Err(HostFault::Failed),
+    }
+}
+
+// Takes away what stands at a path, which the system refuses where that is a folder.
+fn unlink_at(rt: &impl Files, path: &str) -> Result<(), HostFault> {
+    match fs::remove_file(rt, path) {
+        Ok(()) => Ok(()),
+        Err(error) => match error.kind() {
+            ErrorKind::NotFound => Ok(()),
+            _ => Err(HostFault::from(error)),
+        },
     }
 }
 

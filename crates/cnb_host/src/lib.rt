@@ -10,6 +10,7 @@ mod fault;
 mod files;
 mod kept;
 mod names;
+mod plans;
 mod process;
 mod shelf;
 mod side;

@@ -5,23 +5,25 @@ ghost use Rattle.cnb_world.specs.Calls.{CountsDetect};
 
 use crate::command::detect_command;
 use crate::fault::HostFault;
-use crate::files::{fresh_file, make_folders, read_part};
-use cnb_world::{Bytes, DetectFault, DetectJob, Probed, Spawner, parent_text};
+use crate::plans::{PlanFolder, read_plan};
+use cnb_world::{Bytes, DetectFault, DetectJob, Probed, Spawner};
+use std::fs::OpenOptions;
 use std::marker::Model;
 use std::os::unix::fs::FileExt;
-use std::process::Processes;
+use std::process::{Processes, Stdio};
 use std::rt::Files;
-
-/// The most that is read of a plan file: one byte more than a document may have.
-const PLAN_MAX: u64 = 1048577;
 
 /// A spawner that runs each detect child as a program, waits for it, and keeps the list of those that ended. Contracts see
 /// it as that list and the count of the children that gave no answer.
+///
+/// The empty file that children have as standard input is opened for the first of them, and stays open.
 #[derive(Drop)]
 pub struct HostSpawner<R: Files + Processes + AllocGlobal + Drop> {
     rt: R,
     runs: Vec<Row>,
     faults: u64,
+    folder: PlanFolder,
+    input: Option<Stdio>,
 }
 
 // A child that ended.
@@ -57,13 +59,15 @@ impl<R: Files + Processes + AllocGlobal + Drop> HostSpawner<R> {
             rt,
             runs,
             faults: 0,
+            folder: PlanFolder::none(),
+            input: None,
         }
     }
 
     // Takes the memory for the child's row before the child starts.
     fn run_job(&mut self, job: &DetectJob) -> Result<Probed, HostFault>
     where
-        R::File: FileExt,
+        R::File: FileExt + Into<Stdio>,
         ensures ok { IfOk result (λ probed. self.new.runs ≡ self.old.runs ++ record { job = job.now; probed = probed } ∷ []) }
         ensures bound { IfOk result (λ probed. length probed.plan ≤ 1048577) }
         ensures err { OnErr result (self.new.runs ≡ self.old.runs) }
@@ -72,8 +76,9 @@ impl<R: Files + Processes + AllocGlobal + Drop> HostSpawner<R> {
         let alloc = self.rt.alloc();
         let kept = job.copy(alloc)?;
         self.runs.reserve(1)?;
-        let code = run_child(&self.rt, job)?;
-        let plan = read_part(&self.rt, alloc, job.plan.as_str(), 0, PLAN_MAX)?;
+        self.folder.make_plan(&self.rt, alloc, &job.plan)?;
+        let code = self.run_child(job)?;
+        let plan = read_plan(&self.rt, alloc, &job.plan)?;
         let row = Row {
             job: kept,
             probed: Probed {
@@ -83,6 +88,22 @@ impl<R: Files + Processes + AllocGlobal + Drop> HostSpawner<R> {
         };
         self.runs.push(row)?;
         Ok(Probed { code, plan })
+    }
+
+    // Runs the child and waits for it. A child that a signal ended has no code.
+    fn run_child(&mut self, job: &DetectJob) -> Result<Option<i32>, HostFault>
+    where
+        R::File: Into<Stdio>,
+        ensures runs { self.new.runs ≡ self.old.runs }
+        ensures faults { self.new.faults ≡ self.old.faults }
+    {
+        let input = match self.input.take() {
+            Some(input) => input,
+            None => empty_input(&self.rt)?,
+        };
+        let code = end_code(&self.rt, &input, job);
+        self.input = Some(input);
+        code
     }
 
     fn counted(&mut self, outcome: Result<Probed, HostFault>) -> Result<Probed, DetectFault>
@@ -103,7 +124,7 @@ impl<R: Files + Processes + AllocGlobal + Drop> HostSpawner<R> {
 
 impl<R: Files + Processes + AllocGlobal + Drop> Spawner for HostSpawner<R>
 where
-    R::File: FileExt,
+    R::File: FileExt + Into<Stdio>,
 {
     ghost use Rattle.std.specs.Prelude.{None};
 
@@ -119,14 +140,23 @@ where
     }
 }
 
-// Makes the plan file, runs the child and waits for it. A child that a signal ended has no code.
-fn run_child<R: Files + Processes + AllocGlobal>(
+// What a child without standard input reads.
+fn empty_input<R: Files>(rt: &R) -> Result<Stdio, HostFault>
+where
+    R::File: Into<Stdio>,
+{
+    let mut options = OpenOptions::new();
+    options.read(true);
+    Ok(options.open(rt, "/dev/null")?.into())
+}
+
+fn end_code<R: Processes + AllocGlobal>(
     rt: &R,
+    input: &Stdio,
     job: &DetectJob,
 ) -> Result<Option<i32>, HostFault> {
-    let plan = job.plan.as_str();
-    make_folders(rt, parent_text(plan))?;
-    fresh_file(rt, plan)?;
-    let status = detect_command(rt.alloc(), job)?.status(rt)?;
-    Ok(status.code())
+    let command = detect_command(rt.alloc(), job)?;
+    let output = Stdio::inherit();
+    let mut child = rt.spawn(&command, input, &output, &output)?;
+    Ok(child.wait()?.code())
 }
