@@ -1,9 +1,10 @@
 -- Tables with a value for each descriptor of a catalog.
-use Rattle.std.proofs.Common.{◌≡◌, ℕ, ◌<◌, List, ◌∷◌, map, sym, ◌∙◌, ap, subst, length, arith}
+use Rattle.std.proofs.Common.{◌≡◌, ℕ, ◌<◌, List, [], ◌∷◌, ◌++◌, map, sym, ◌∙◌, ap, subst, length, get_or, arith}
 use Rattle.std.specs.Prelude.{Option, Some}
 use Rattle.std.specs.List.{slice_get}
 use Rattle.std.specs.Option.{option_map}
-use Rattle.std.proofs.lemmas.Option.{slice_get-map, slice_get_within}
+use Rattle.std.proofs.lemmas.List.{length-map, map-append}
+use Rattle.std.proofs.lemmas.Option.{slice_get-map, slice_get-get_or, slice_get_within}
 use Rattle.bp_docs.specs.declared.descriptor.Entry.{Entry}
 use Rattle.bp_docs.specs.declared.descriptor.Body.{Body}
 use Rattle.bp_docs.specs.declared.descriptor.Body.TheVariants.{Component, Composite}
@@ -16,16 +17,28 @@ use Rattle.order_expand.specs.Sizes.{size_of}
 some_injective : {X : Type 0} (x y : X) → Some x ≡ Some y → x ≡ y
 some_injective x y e = cc
 
--- what stands in a table at a descriptor's place
-pub in_table : {X : Type 0} (f : Descriptor → X) (table : List X) (catalog : List Descriptor) (place : ℕ) (descriptor : Descriptor) (x : X) →
-    table ≡ map f catalog → slice_get catalog place ≡ Some descriptor → slice_get table place ≡ Some x → x ≡ f descriptor
-in_table f table catalog place descriptor x t d e =
-    some_injective x (f descriptor) (sym e ∙ (ap (λ ys. slice_get ys place) t ∙ (slice_get-map f catalog place ∙ ap (option_map f) d)))
+-- what stands in a table at the place of what it stands for
+pub in_table : {X Y : Type 0} (f : Y → X) (table : List X) (rows : List Y) (place : ℕ) (row : Y) (x : X) →
+    table ≡ map f rows → slice_get rows place ≡ Some row → slice_get table place ≡ Some x → x ≡ f row
+in_table f table rows place row x t d e =
+    some_injective x (f row) (sym e ∙ (ap (λ ys. slice_get ys place) t ∙ (slice_get-map f rows place ∙ ap (option_map f) d)))
 
 -- a descriptor's place is in each table
 pub place_in_table : {X : Type 0} (table : List X) (catalog : List Descriptor) (place : ℕ) (descriptor : Descriptor) →
     length table ≡ length catalog → slice_get catalog place ≡ Some descriptor → place < length table
 place_in_table table catalog place descriptor e d = let h = slice_get_within catalog place descriptor d in omega arith
+
+-- what stands in a table beside an element
+pub beside : {X Y : Type 0} (f : Y → X) (table : List X) (rows : List Y) (place : ℕ) (row : Y) (x : X) →
+    table ≡ map f rows → place < length rows → row ≡ get_or rows place row → slice_get table place ≡ Some x → x ≡ f row
+beside f table rows place row x t h e s = in_table f table rows place row x t (slice_get-get_or rows place row h ∙ ap Some (sym e)) s
+
+pub place_beside : {X Y : Type 0} (f : Y → X) (table : List X) (rows : List Y) (place : ℕ) → table ≡ map f rows → place < length rows → place < length table
+place_beside f table rows place t h = let e = ap length t ∙ length-map rows f in omega arith
+
+-- one more of both
+pub table_push : {X Y : Type 0} (f : Y → X) (table : List X) (rows : List Y) (row : Y) → table ≡ map f rows → table ++ f row ∷ [] ≡ map f (rows ++ row ∷ [])
+table_push f table rows row t = ap (λ xs. xs ++ f row ∷ []) t ∙ sym (map-append f rows (row ∷ []))
 
 -- ---- an entry's groups by what it names
 

@@ -2,6 +2,7 @@ pub mod Added
 pub mod Catalog
 pub mod Check
 pub mod Examples
+pub mod Fingerprints
 pub mod Groups
 pub mod Places
 pub mod Chosen

@@ -3,9 +3,12 @@ ghost use Rattle.std.specs.Prelude.{◌≡◌, ◌++◌, ◌∷◌, [], OnErr, I
 ghost use Rattle.std.specs.Option.{option_map};
 ghost use Rattle.std.specs.List.{list_any, slice_get};
 ghost use Rattle.order_expand.specs.Catalog.{has_key, has_distinct_keys};
+ghost use Rattle.order_expand.specs.Fingerprints.{fingerprint, descriptor_fingerprint};
 ghost use Rattle.order_expand.specs.Groups.{may_mean, named};
 ghost use Rattle.order_expand.specs.Places.{place_of};
 
+use crate::fingerprints::fingerprint_of;
+use crate::table::at;
 use bp_docs::{Descriptor, Entry};
 use cnb_toml::Key;
 use std::alloc::{AllocFailed, Global};
@@ -13,22 +16,26 @@ use std::fmt;
 use std::marker::Model;
 use thiserror::Error;
 
-/// The descriptors of all buildpacks at hand, of which no two have the same key. Contracts see it as their list.
+/// The descriptors of all buildpacks at hand, of which no two have the same key, and the fingerprints of their ids.
+/// Contracts see it as the list of the descriptors.
 #[derive(Drop)]
 pub struct Catalog {
     descriptors: Vec<Descriptor>,
+    fingerprints: Vec<u32>,
 }
 
 impl Model for Catalog {
-    ghost use Rattle.std.specs.Prelude.{List, IsTrue};
+    ghost use Rattle.std.specs.Prelude.{◌≡◌, List, IsTrue, map};
     ghost use Rattle.order_expand.specs.Catalog.{has_distinct_keys};
+    ghost use Rattle.order_expand.specs.Fingerprints.{descriptor_fingerprint};
     ghost use Rattle.bp_docs.specs.declared.descriptor.Descriptor.{Descriptor};
 
     ghost Value = { List Descriptor };
 
     ghost view = { λ catalog. catalog.descriptors.items };
 
-    ghost invariant = { λ catalog. IsTrue (has_distinct_keys catalog.descriptors.items) };
+    ghost invariant = { λ catalog. IsTrue (has_distinct_keys catalog.descriptors.items)
+        × (catalog.fingerprints.items ≡ map descriptor_fingerprint catalog.descriptors.items) };
 }
 
 /// Why a descriptor is not added: one of its key is there.
@@ -70,6 +77,18 @@ fn may_mean(entry: &Entry, descriptor: &Descriptor) -> bool
     }
 }
 
+/// Whether an entry may mean a descriptor: their fingerprints tell most of those apart that it doesn't mean.
+fn is_meant(entry: &Entry, wanted: u32, descriptor: &Descriptor, print: u32) -> bool
+    requires wanted { wanted ≡ fingerprint entry.now.id }
+    requires print { print ≡ descriptor_fingerprint descriptor.now }
+    ensures { result ≡ may_mean entry.now descriptor.now }
+{
+    if print != wanted {
+        return false;
+    }
+    may_mean(entry, descriptor)
+}
+
 /// A descriptor that an entry names, and its place in the catalog.
 #[derive(Clone, Copy)]
 pub(crate) struct Named<'a> {
@@ -85,6 +104,7 @@ impl Catalog {
     {
         Catalog {
             descriptors: Vec::new(alloc),
+            fingerprints: Vec::new(alloc),
         }
     }
 
@@ -111,7 +131,12 @@ impl Catalog {
             let Descriptor { key, body: _ } = descriptor;
             return Err(CatalogFault::Twice(key));
         }
+        let print = fingerprint_of(&descriptor.key.id);
         self.descriptors.push(descriptor)?;
+        if self.fingerprints.push(print).is_err() {
+            let _ = self.descriptors.pop();
+            return Err(CatalogFault::Memory);
+        }
         Ok(())
     }
 
@@ -128,9 +153,11 @@ impl Catalog {
     fn place(&self, entry: &Entry) -> Option<usize>
         ensures { result ≡ place_of self.now entry.now }
     {
+        let wanted = fingerprint_of(&entry.id);
         let mut found = None;
         for (place, descriptor) in self.descriptors.iter().enumerate() {
-            if may_mean(entry, descriptor) {
+            let print = at(self.fingerprints.as_slice(), place);
+            if is_meant(entry, wanted, descriptor, print) {
                 if found.is_some() {
                     return None;
                 }

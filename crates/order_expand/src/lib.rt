@@ -5,6 +5,7 @@ mod begun;
 mod catalog;
 mod count;
 mod fault;
+mod fingerprints;
 mod member;
 mod met;
 mod nesting;

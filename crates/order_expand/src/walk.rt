@@ -3,11 +3,14 @@ ghost use Rattle.std.specs.Prelude.{◌≡◌, ◌++◌, ◌∷◌, [], if◌the
 ghost use Rattle.std.specs.List.{list_any};
 ghost use Rattle.order_expand.specs.Check.{checked};
 ghost use Rattle.order_expand.specs.Chosen.{member_of};
+ghost use Rattle.order_expand.specs.Fingerprints.{member_fingerprint};
 ghost use Rattle.order_expand.specs.Groups.{distinct, same_id, listed_groups};
 
 use crate::begun::{Begun, Chosen, Place, complete_next};
 use crate::catalog::Catalog;
+use crate::fingerprints::fingerprint_of;
 use crate::member::{Group, Member};
+use crate::table::at;
 use bp_docs::{Body, Order};
 use cnb_world::{List, Memory};
 use std::alloc::Global;
@@ -53,22 +56,51 @@ fn member(alloc: Global, chosen: &Chosen) -> Result<Member, Memory>
     })
 }
 
-fn has_id(members: &[Member], chosen: &Chosen) -> bool
-    ensures { result ≡ list_any (λ member. same_id member (member_of chosen.now)) members.now }
+/// Whether a member has a component's id: their fingerprints tell most ids apart.
+fn is_of_id(member: &Member, print: u32, chosen: &Chosen, wanted: u32) -> bool
+    requires print { print ≡ member_fingerprint member.now }
+    requires wanted { wanted ≡ member_fingerprint (member_of chosen.now) }
+    ensures { result ≡ same_id member.now (member_of chosen.now) }
 {
-    members
-        .iter()
-        .any(|member| member.key.id == chosen.descriptor.key.id)
+    if print != wanted {
+        return false;
+    }
+    member.key.id == chosen.descriptor.key.id
 }
 
-/// Adds a member behind the others, unless one of its id is there.
-fn add_unless_met(alloc: Global, members: &mut Group, chosen: &Chosen) -> Result<(), Memory>
-    ensures { OnOk result (members.new ≡ (if list_any (λ member. same_id member (member_of chosen.now)) members.old then members.old else members.old ++ member_of chosen.now ∷ [])) }
+/// Whether some member has a component's id.
+fn has_id(members: &[Member], prints: &[u32], chosen: &Chosen, wanted: u32) -> bool
+    requires prints { prints.now ≡ map member_fingerprint members.now }
+    requires wanted { wanted ≡ member_fingerprint (member_of chosen.now) }
+    ensures { result ≡ list_any (λ member. same_id member (member_of chosen.now)) members.now }
 {
-    if has_id(members.as_slice(), chosen) {
+    for (place, member) in members.iter().enumerate() {
+        if is_of_id(member, at(prints, place), chosen, wanted) {
+            return true;
+        }
+    }
+    false
+}
+
+/// Adds a member behind the others, and its fingerprint behind theirs, unless one of its id is there.
+fn add_unless_met(
+    alloc: Global,
+    members: &mut Group,
+    prints: &mut Vec<u32>,
+    chosen: &Chosen,
+) -> Result<(), Memory>
+    requires { prints.old.items ≡ map member_fingerprint members.old }
+    ensures members { OnOk result (members.new ≡ (if list_any (λ member. same_id member (member_of chosen.now))
+        members.old then members.old else members.old ++ member_of chosen.now ∷ [])) }
+    ensures prints { OnOk result (prints.new.items ≡ map member_fingerprint members.new) }
+{
+    let wanted = fingerprint_of(&chosen.descriptor.key.id);
+    if has_id(members.as_slice(), prints.as_slice(), chosen, wanted) {
         return Ok(());
     }
-    members.push(member(alloc, chosen)?)
+    members.push(member(alloc, chosen)?)?;
+    prints.push(wanted)?;
+    Ok(())
 }
 
 /// The members of a group, of those with one id the first.
@@ -76,8 +108,9 @@ fn members(alloc: Global, group: &[Chosen]) -> Result<Group, Memory>
     ensures { IfOk result (λ members. members ≡ distinct same_id (map member_of group.now)) }
 {
     let mut members = List::new(alloc);
+    let mut prints = Vec::new(alloc);
     for chosen in group {
-        add_unless_met(alloc, &mut members, chosen)?;
+        add_unless_met(alloc, &mut members, &mut prints, chosen)?;
     }
     Ok(members)
 }
