@@ -1,3 +1,5 @@
+pub mod Faults
+pub mod Kinds
 pub mod Side
 pub mod Spawned
 pub mod System

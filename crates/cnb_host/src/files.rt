@@ -3,7 +3,11 @@
 // A link in the last part of a path is never followed. What stands at a path is looked at before it is opened, so that
 // a pipe or a device is not opened at all, and the opened file is compared with what was looked at. Between the two
 // another process may still put a pipe there, which would be opened and waited for.
-ghost use Rattle.std.specs.Prelude.{◌≤◌, IfOk, IfSome, length};
+ghost use Rattle.std.specs.Prelude.{◌≡◌, ◌≤◌, ◌⊎◌, IfErr, IfOk, IfSome, IsErr, IsTrue, Ok, Some, None, false, length};
+ghost use Rattle.std.specs.Fs.{file_type, metadata_len, IsDir, IsFile, IsSymlink};
+ghost use Rattle.std.specs.IoError.{error_kind};
+ghost use Rattle.cnb_host.specs.Faults.{is_absence};
+ghost use Rattle.cnb_host.specs.Kinds.{may_run};
 
 use crate::fault::HostFault;
 use cnb_world::{Bytes, Kind, Text};
@@ -23,7 +27,16 @@ pub fn kind_at(rt: &impl Files, path: &str) -> Result<Kind, HostFault> {
 }
 
 fn look_at(rt: &impl Files, path: &str) -> Result<Option<Metadata>, HostFault> {
-    match fs::symlink_metadata(rt, path) {
+    found_of(fs::symlink_metadata(rt, path))
+}
+
+// What the system found: nothing where it knows of no such path, and that alone is no fault.
+fn found_of(looked: io::Result<Metadata>) -> Result<Option<Metadata>, HostFault>
+    ensures found { IfOk looked (λ found. result ≡ Ok (Some found)) }
+    ensures absent { IfErr looked (λ error. IsTrue (is_absence (error_kind error)) → result ≡ Ok None) }
+    ensures fault { IfErr looked (λ error. is_absence (error_kind error) ≡ false → IsErr result) }
+{
+    match looked {
         Ok(found) => Ok(Some(found)),
         Err(error) => match error.kind() {
             ErrorKind::NotFound | ErrorKind::NotADirectory => Ok(None),
@@ -32,7 +45,14 @@ fn look_at(rt: &impl Files, path: &str) -> Result<Option<Metadata>, HostFault> {
     }
 }
 
-fn kind_of(found: &Metadata) -> Kind {
+fn kind_of(found: &Metadata) -> Kind
+    ensures file { IsFile (file_type found.now)
+        → result ≡ Kind.File (may_run found.now) (metadata_len found.now) }
+    ensures folder { IsDir (file_type found.now) → result ≡ Kind.Folder }
+    ensures link { IsSymlink (file_type found.now) → result ≡ Kind.Link }
+    ensures odd { result ≡ Kind.Odd
+        ⊎ IsFile (file_type found.now) ⊎ IsDir (file_type found.now) ⊎ IsSymlink (file_type found.now) }
+{
     if found.is_file() {
         Kind::File {
             exec: found.mode() & 0o111 != 0,

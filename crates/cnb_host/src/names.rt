@@ -1,5 +1,5 @@
 // The names in a folder.
-ghost use Rattle.std.specs.Prelude.{◌≡◌, ◌<◌, ◌+◌, [], IfOk, IsTrue, length, slice_index_or};
+ghost use Rattle.std.specs.Prelude.{◌≡◌, ◌<◌, ◌+◌, [], IfOk, IsTrue, length, map, slice_index_or, string_bytes};
 ghost use Rattle.std.specs.List.{list_all};
 ghost use Rattle.std.specs.Ordering.{nat_cmp};
 ghost use Rattle.std.specs.declared.cmp.Ordering.TheVariants.{Less};
@@ -9,7 +9,7 @@ ghost use Rattle.cnb_world.specs.Path.{is_part, is_part_byte};
 
 use crate::fault::HostFault;
 use crate::files::kind_at;
-use cnb_world::{Kind, List, Text};
+use cnb_world::{Kind, List, Memory, Text};
 use std::alloc::Global;
 use std::fs;
 use std::rt::Files;
@@ -41,13 +41,21 @@ fn read_names<R: Files + AllocGlobal + Clone + Drop>(
 
 fn names_of(alloc: Global, names: Vec<String>) -> Result<List<Text>, HostFault>
     ensures names { IfOk result AreNames }
+    ensures all { IfOk result (λ texts. texts ≡ map string_bytes names.items) }
+{
+    let texts = texts_of(alloc, names)?;
+    if !are_names(texts.as_slice()) {
+        return Err(HostFault::Failed);
+    }
+    Ok(texts)
+}
+
+fn texts_of(alloc: Global, names: Vec<String>) -> Result<List<Text>, Memory>
+    ensures { IfOk result (λ texts. texts ≡ map string_bytes names.items) }
 {
     let mut texts = List::new(alloc);
     for name in names {
         texts.push(Text::from_string(name))?;
-    }
-    if !are_names(texts.as_slice()) {
-        return Err(HostFault::Failed);
     }
     Ok(texts)
 }

@@ -7,7 +7,7 @@
 // A program that can't be started must be told from one that ends with 126 or 127. So it is looked at before, here and by
 // the shell, which writes a byte before it runs anything. Not told apart is a program for the machine whose own loader is
 // missing.
-ghost use Rattle.std.specs.Prelude.{◌≡◌, ◌≤◌, ◌++◌, ◌∷◌, [], IfOk, OnOk, OnErr, Some, codes, length, map, true, vec_len};
+ghost use Rattle.std.specs.Prelude.{◌≡◌, ◌≤◌, ◌-◌, ◌++◌, ◌∷◌, [], IfOk, OnOk, OnErr, Some, codes, length, map, take, true, vec_len};
 ghost use Rattle.std.specs.List.{list_any};
 ghost use Rattle.std.specs.Process.{clears_env, command_args, command_dir, command_program};
 ghost use Rattle.cnb_host.specs.Side.{assignment, env_words, has_equals, program_words, side_words};
@@ -163,10 +163,11 @@ where
 // Bytes behind those that are kept, up to the most and the byte of the shell.
 fn keep(kept: &mut Vec<u8>, bytes: &[u8]) -> Result<(), AllocError>
     requires { vec_len kept.old ≤ 1048578 }
-    ensures ok { OnOk result (vec_len kept.new ≤ 1048578) }
+    ensures ok { OnOk result (kept.new.items ≡ kept.old.items ++ take (1048578 - vec_len kept.old) bytes.now) }
+    ensures bound { OnOk result (vec_len kept.new ≤ 1048578) }
 {
     let room = SIDE_MAX + 1 - kept.len();
-    let taken = bytes.len().min(room);
+    let taken = room.min(bytes.len());
     kept.extend_from_slice(&bytes[..taken])
 }
 
@@ -190,7 +191,8 @@ fn read_side(alloc: Global, mut side: PipeReader) -> Result<Vec<u8>, HostFault>
 // What is kept behind the byte that the shell writes before it runs the program.
 fn behind_mark(alloc: Global, kept: &[u8]) -> Result<Bytes, HostFault>
     requires { length kept.now ≤ 1048578 }
-    ensures { IfOk result (λ bytes. length bytes ≤ 1048577) }
+    ensures bytes { IfOk result (λ bytes. kept.now ≡ 46 ∷ bytes) }
+    ensures bound { IfOk result (λ bytes. length bytes ≤ 1048577) }
 {
     match kept {
         [b'.', side @ ..] => Ok(Bytes::of(alloc, side)?),
