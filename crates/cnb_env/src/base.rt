@@ -1,5 +1,5 @@
 // The environment that buildpacks' children begin with.
-ghost use Rattle.std.specs.Prelude.{◌≡◌, IfOk, OnOk};
+ghost use Rattle.std.specs.Prelude.{◌≡◌, IfOk, OnErr, OnOk};
 ghost use Rattle.cnb_world.specs.Env.{with_value};
 ghost use Rattle.cnb_env.specs.Base.{base_env};
 
@@ -23,7 +23,8 @@ pub fn base_env(alloc: Global, env: &Env) -> Result<Env, Memory>
 
 /// Sets a variable to a path.
 pub fn set_path(alloc: Global, env: &mut Env, name: &str, path: &Path) -> Result<(), Memory>
-    ensures { OnOk result (env.new ≡ with_value name.now path.now env.old) }
+    ensures set { OnOk result (env.new ≡ with_value name.now path.now env.old) }
+    ensures refused { OnErr result (env.new ≡ env.old) }
 {
     let name = Text::of(alloc, name)?;
     let value = Text::of(alloc, path.as_str())?;
