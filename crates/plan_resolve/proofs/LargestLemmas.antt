@@ -8,10 +8,7 @@ use Rattle.std.proofs.lemmas.List.Folds.{list_any-append}
 use Rattle.std.proofs.lemmas.Map.Views.{any-filter_same}
 use Rattle.plan_resolve.specs.declared.rows.TrialRow.{TrialRow}
 use Rattle.plan_resolve.specs.Trials.{has_name, has_need, is_in, is_provided, is_required, required_at, provided_at, holds, is_closed, places, subsets, largest}
-
--- each place of one set is in another
-abbrev pub Within : List ℕ → List ℕ → Type 0
-Within set sup = (i : ℕ) → is_in i set ≡ true → is_in i sup ≡ true
+use Rattle.plan_resolve.specs.Pruning.{Within}
 
 -- an element that passes; what passes there passes in the list
 pub any_elim : {X : Type 0} (p : X → Bool) (xs : List X) → list_any p xs ≡ true →

@@ -1,8 +1,8 @@
--- One round of taking away the buildpacks that do not hold.
-use Rattle.std.specs.Prelude.{ℕ, Bool, true, List, [], ◌∷◌, ◌&&◌, ◌||◌, not, nat_lt, reverse, slice_get, if◌then◌else◌, Option, Some, None}
+-- Taking away the buildpacks that do not hold.
+use Rattle.std.specs.Prelude.{ℕ, ◌≡◌, Bool, true, List, [], ◌∷◌, ◌&&◌, ◌||◌, not, nat_lt, reverse, slice_get}
 use Rattle.std.specs.List.{filter, list_any, list_all}
 use Rattle.plan_resolve.specs.declared.rows.TrialRow.{TrialRow}
-use Rattle.plan_resolve.specs.Trials.{has_name, has_need, provided_at, required_at, holds, is_optional_at}
+use Rattle.plan_resolve.specs.Trials.{has_name, has_need, provided_at, required_at, holds, is_closed, places, is_in, is_optional_at}
 
 -- each place is greater than those before it
 abbrev pub is_ascending : List ℕ → Bool
@@ -30,6 +30,12 @@ fails trial set place = not (is_optional_at (slice_get trial place)) && not (hol
 abbrev pub required_hold : List TrialRow → List ℕ → Bool
 required_hold trial set = list_all (λ place. holds trial set place || is_optional_at (slice_get trial place)) set
 
--- the places that hold, where the required ones do
-abbrev pub holding_of : List TrialRow → List ℕ → Option (List ℕ)
-holding_of trial set = if required_hold trial set then Some (filter (holds trial set) set) else None
+-- each place of one set is in another
+abbrev pub Within : List ℕ → List ℕ → Type 0
+Within set sup = (i : ℕ) → is_in i set ≡ true → is_in i sup ≡ true
+
+-- a set on the way to the largest: a part of the places with every closed set and every required place inside
+pub record IsOnTheWay (trial : List TrialRow) (set : List ℕ) : Type 0 where
+  pub part : set ≡ filter (λ i. is_in i set) (places trial)
+  pub most : (other : List ℕ) → is_closed trial other ≡ true → Within other (places trial) → Within other set
+  pub required : list_all (λ place. is_optional_at (slice_get trial place) || is_in place set) (places trial) ≡ true

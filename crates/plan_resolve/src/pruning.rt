@@ -1,9 +1,10 @@
 // Which buildpacks of a trial hold together: those that do not are taken away until nothing changes.
-ghost use Rattle.std.specs.Prelude.{◌≡◌, ◌<◌, ◌^◌, IsTrue, IfOk, IfSome, IfNone, length, reverse, slice_get, slice_index};
+ghost use Rattle.std.specs.Prelude.{◌≡◌, ◌<◌, ◌≤◌, ◌^◌, IsTrue, IfOk, IfSome, IfNone, None, length, reverse, slice_get, slice_index};
+ghost use Rattle.std.specs.Bool.{OnTrue, OnFalse};
 ghost use Rattle.std.specs.Option.{option_map};
 ghost use Rattle.std.specs.List.{list_all};
-ghost use Rattle.plan_resolve.specs.Trials.{has_name, has_need, provided_at, required_at, holds, is_optional_at, numbers_below, kept_of};
-ghost use Rattle.plan_resolve.specs.Pruning.{is_ascending, is_provided_by, is_required_by, row_holds, fails, required_hold, holding_of};
+ghost use Rattle.plan_resolve.specs.Trials.{has_name, has_need, provided_at, required_at, holds, is_optional_at, is_closed, numbers_below, kept_of};
+ghost use Rattle.plan_resolve.specs.Pruning.{is_ascending, is_provided_by, is_required_by, row_holds, fails, required_hold, IsOnTheWay};
 
 use crate::borrowed::BorrowedRow;
 use cnb_toml::Need;
@@ -104,20 +105,27 @@ fn is_optional(trial: &[BorrowedRow], place: u32) -> bool
     }
 }
 
-/// The places of a set that hold, or none where a required one does not.
-fn holding(alloc: Global, trial: &[BorrowedRow], set: &[u32]) -> Result<Option<Vec<u32>>, Memory>
-    requires { IsTrue (is_ascending set.now) }
-    ensures { IfOk result (λ held. option_map (λ places. places.items) held ≡ holding_of trial.now set.now) }
+/// Takes those places of a set away, from the last to the first, that do not hold among the ones that are left. False
+/// where a required one does not.
+fn sweep(trial: &[BorrowedRow], set: &mut Vec<u32>) -> bool
+    requires { IsOnTheWay trial.now set.old.items }
+    ensures way { OnTrue result (IsOnTheWay trial.now set.new.items) }
+    ensures fails { OnFalse result (kept_of trial.now ≡ None) }
+    ensures fewer { length set.new.items ≤ length set.old.items }
+    ensures closed { OnTrue result (length set.new.items ≡ length set.old.items → IsTrue (is_closed trial.now set.new.items)) }
 {
-    let mut held = Vec::new(alloc);
-    for (index, place) in set.iter().enumerate() {
-        if holds(trial, set, index) {
-            held.push(*place)?;
-        } else if !is_optional(trial, *place) {
-            return Ok(None);
+    let all = set.len();
+    let mut index = all;
+    while index > 0 {
+        index -= 1;
+        if !holds(trial, set.as_slice(), index) {
+            if !is_optional(trial, set[index]) {
+                return false;
+            }
+            let _place = set.remove(index);
         }
     }
-    Ok(Some(held))
+    true
 }
 
 /// Whether a required buildpack of a set does not hold.
@@ -165,12 +173,12 @@ pub fn kept_places(alloc: Global, trial: &[BorrowedRow]) -> Result<Option<Vec<u3
 {
     let mut set = numbers_below(alloc, trial.len() as u32)?;
     'rounds: loop {
-        let Some(held) = holding(alloc, trial, set.as_slice())? else {
+        let all = set.len();
+        if !sweep(trial, &mut set) {
             return Ok(None);
-        };
-        if held.len() == set.len() {
+        }
+        if set.len() == all {
             return Ok((!set.is_empty()).then_some(set));
         }
-        set = held;
     }
 }

@@ -1,5 +1,5 @@
 use Rattle.std.proofs.Common.{length}
-use Rattle.plan_resolve.proofs.PruningLemmas.{IsOnTheWay}
+use Rattle.plan_resolve.specs.Pruning.{IsOnTheWay}
 use Rattle.plan_resolve.proofs.pruning.kept_places.Given as goal
 
 abbrev pub invariant-rounds : goal.invariant-rounds

@@ -1,4 +1,4 @@
-use Rattle.std.proofs.Common.{◌≡◌, false, sym, ◌∙◌, arith, not}
+use Rattle.std.proofs.Common.{sym, ◌∙◌, arith}
 use Rattle.std.proofs.lemmas.Bool.{OnTrue_from}
 use Rattle.plan_resolve.proofs.PrefixLemmas.{not_true, covers_more, covers_cut, dead_by_last}
 use Rattle.plan_resolve.proofs.prefix.Prefix.push.Goals as goal
