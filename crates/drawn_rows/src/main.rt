@@ -4,11 +4,14 @@
 //! data/README.md says how a row is written.
 #![tactic(auto)]
 
+mod drawn_orders;
 mod drawn_trials;
 mod draws;
 mod fault;
+mod plain_groups;
 mod plain_trials;
 
+use drawn_orders::compare_walks;
 use drawn_trials::compare_trials;
 use fault::Fault;
 use row_files::{Row, RowFault, run};
@@ -16,7 +19,7 @@ use std::alloc::{AllocError, Global};
 use std::ops::Range;
 use std::process::ExitCode;
 
-const FILES: [&str; 1] = ["trials.toml"];
+const FILES: [&str; 2] = ["orders.toml", "trials.toml"];
 
 fn answer(rt: &HostRuntime, row: &Row) -> Result<String, RowFault> {
     match told(rt.alloc(), row) {
@@ -29,6 +32,7 @@ fn answer(rt: &HostRuntime, row: &Row) -> Result<String, RowFault> {
 fn told(alloc: Global, row: &Row) -> Result<String, Fault> {
     let seeds = seeds(alloc, row)?;
     match row.call.as_str() {
+        "walk" => compare_walks(alloc, seeds),
         "resolve" => compare_trials(alloc, seeds),
         call => Err(Fault::wrong(alloc, "no such call:", call)),
     }
