@@ -10,15 +10,6 @@ pub(crate) fn run<R: Threads + Sync>(rt: &R, chain: &Chain, outage: Outage) -> R
     for shelf in chain.mem_shelves(outage)? {
         shelves.push(Box::new(chain.alloc, shelf)?)?;
     }
-    run_over(rt, chain, outage, &mut shelves)
-}
-
-fn run_over<R: Threads + Sync>(
-    rt: &R,
-    chain: &Chain,
-    outage: Outage,
-    shelves: &mut Vec<Box<dyn Shelf>>,
-) -> Result<Came, Fault> {
     let mut world = chain.failing_world(outage)?;
     let mut spawners = chain.spawners(outage)?;
     let mut out = chain.sink(outage)?;
@@ -33,14 +24,14 @@ fn run_over<R: Threads + Sync>(
         &env,
         &mut world,
         &mut spawners,
-        shelves,
+        &mut shelves,
         &mut out,
     );
     Ok(Came {
         status: status.code(),
         out,
         spawners,
-        caches: holdings(chain.alloc, chain.trees, shelves)?,
+        caches: holdings(chain.alloc, chain.trees, &mut shelves)?,
         world,
     })
 }
