@@ -1,3 +1,6 @@
 pub mod PathLemmas
 pub mod ReadLemmas
+pub mod ReadableLaws
+pub mod RunPartLaws
+pub mod StandLaws
 pub mod WriteLemmas

@@ -1,6 +1,7 @@
 -- The images of a store, as steps that read and write them.
-use Rattle.std.specs.Prelude.{ℕ, ◌≡◌, List, IsTrue, Option, Some, None, Result, Ok, Err}
-use Rattle.cnb_world.specs.Tree.{Tree}
+use Rattle.std.specs.Prelude.{ℕ, ◌≡◌, List, IfSome, IsOk, IsTrue, Option, Some, None, Result, Ok, Err}
+use Rattle.cnb_world.specs.Tree.{Tree, bytes_of, item_at}
+use Rattle.cnb_toml.specs.declared.fault.DocFault.{DocFault}
 use Rattle.image_docs.specs.Image.{image_in, image_table_in, is_image_doc}
 use Rattle.image_docs.specs.RunImage.{is_run_doc, run_in, table_in}
 use Rattle.image_docs.specs.declared.image.ImageDoc.{ImageDoc}
@@ -46,3 +47,21 @@ writes_image store name image = writes cause_of (image_path store name) (ReadsAs
 
 unfoldable pub writes_run_image : List ℕ → List ℕ → RunDoc → Seen → Result (Unit {0}) ImageFault → Seen → Type 0
 writes_run_image store name image = writes cause_of (run_path store name) (ReadsAsRunImage image)
+
+-- an image that can be read is written whole, with bytes that read as it
+unfoldable pub writes_readable_image : List ℕ → List ℕ → ImageDoc → Seen → Result (Unit {0}) ImageFault → Seen → Type 0
+writes_readable_image store name image = writes cause_of (image_path store name) (λ bytes. image_in bytes ≡ Ok image)
+
+unfoldable pub writes_readable_run_image : List ℕ → List ℕ → RunDoc → Seen → Result (Unit {0}) ImageFault → Seen → Type 0
+writes_readable_run_image store name image = writes cause_of (run_path store name) (λ bytes. run_in bytes ≡ Ok image)
+
+-- where the files are told, the document at a path reads as one of this form
+abbrev pub Stands : {A : Type 0} → (List ℕ → Result A DocFault) → List ℕ → Option Tree → Type 0
+Stands form path files = IfSome files (λ tree. IsOk (form (bytes_of (item_at tree path))))
+
+-- an image, or a run image, of a name stands in the store, and can be read
+abbrev pub ImageStands : List ℕ → List ℕ → Option Tree → Type 0
+ImageStands store name = Stands image_in (image_path store name)
+
+abbrev pub RunImageStands : List ℕ → List ℕ → Option Tree → Type 0
+RunImageStands store name = Stands run_in (run_path store name)

@@ -1,8 +1,9 @@
 // The images of a store that are read.
-ghost use Rattle.std.specs.Prelude.{◌≡◌, ◌≤◌, ℕ, IfErr, IfOk, Some, length};
+ghost use Rattle.std.specs.Prelude.{◌≡◌, ◌≤◌, ℕ, IfErr, IfOk, IsTrue, Some, length};
 ghost use Rattle.steps.specs.Causes.{CountsFiles, IsAnswer, IsReadCause};
 ghost use Rattle.steps.specs.Outside.{seen};
-ghost use Rattle.image_docs.specs.Image.{image_table_in};
+ghost use Rattle.image_docs.specs.Image.{image_table_in, is_image_doc};
+ghost use Rattle.image_docs.specs.RunImage.{is_run_doc};
 ghost use Rattle.image_files.specs.Documents.{IsRead};
 ghost use Rattle.image_files.specs.Faults.{cause_of};
 ghost use Rattle.image_files.specs.Images.{named, reads_image, reads_run_image};
@@ -38,6 +39,7 @@ pub fn read_image<W: World>(
     requires { length store.now ≤ 4096 }
     ensures step { reads_image store.now name.now (seen W.World world.old) result (seen W.World world.new) }
     ensures read { IfOk result (IsRead image_table_in) }
+    ensures readable { IfOk result (λ image. IsTrue (is_image_doc image)) }
     ensures files { CountsFiles cause_of result (W.file_faults world.old) (W.file_faults world.new) }
     ensures children { W.child_faults world.new ≡ W.child_faults world.old }
 {
@@ -56,6 +58,7 @@ pub fn read_run_image<W: World>(
 ) -> Result<RunDoc, ImageFault>
     requires { length store.now ≤ 4096 }
     ensures step { reads_run_image store.now name.now (seen W.World world.old) result (seen W.World world.new) }
+    ensures readable { IfOk result (λ image. IsTrue (is_run_doc image)) }
     ensures files { CountsFiles cause_of result (W.file_faults world.old) (W.file_faults world.new) }
     ensures children { W.child_faults world.new ≡ W.child_faults world.old }
 {

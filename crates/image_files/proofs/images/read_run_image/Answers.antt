@@ -1,8 +1,11 @@
-use Rattle.std.proofs.Common.{Ok}
+use Rattle.std.proofs.Common.{Ok, subst}
+use Rattle.std.specs.Prelude.{IfSome}
 use Rattle.std.proofs.lemmas.Result.{err_from_is_err_and}
 use Rattle.image_docs.specs.RunImage.{table_in}
+use Rattle.image_files.specs.Documents.{IsRead}
 use Rattle.image_files.specs.Images.{named, reads_run_image}
 use Rattle.image_files.proofs.ReadLemmas.{file_failed, file_then, nothing_read}
+use Rattle.image_files.proofs.ReadableLaws.{run_image_readable}
 use Rattle.image_files.proofs.images.read_run_image.Goals as goal
 
 pub returns-in_err-path-clause-step : goal.returns-in_err-path-clause-step
@@ -27,3 +30,6 @@ pub returns-clause-step : goal.returns-clause-step
 unfolding reads_run_image
 returns-clause-step g c =
     file_then table_in (named c.args.name.now) g.W.World _ _ c.in_ok-found.found (Ok c.in_ok-image.image) _ _ c.in_ok-path.ensures c.in_ok-found.ensures.reads c.in_ok-found.ensures.tree c.in_ok-found.ensures.runs c.in_ok-found.ensures.misused c.in_ok-image.ensures.answer tt
+
+pub returns-clause-readable : goal.returns-clause-readable
+returns-clause-readable g c = run_image_readable c.in_ok-image.image (subst (λ found. IfSome found (IsRead table_in)) c.in_ok-image.ensures.same c.in_ok-found.ensures.read)
