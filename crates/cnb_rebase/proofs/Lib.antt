@@ -1,2 +1,4 @@
 pub mod BaseLemmas
 pub mod FileLemmas
+pub mod ReadableLemmas
+pub mod StandLaws

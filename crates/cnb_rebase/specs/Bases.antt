@@ -2,7 +2,7 @@
 use Rattle.std.specs.Prelude.{ℕ, List, [], ◌∷◌, ◌++◌, Result, Ok}
 use Rattle.cnb_words.specs.declared.base.BaseWords.{BaseWords}
 use Rattle.image_docs.specs.declared.run_image.RunDoc.{RunDoc}
-use Rattle.image_files.specs.Images.{writes_run_image}
+use Rattle.image_files.specs.Images.{writes_readable_run_image}
 use Rattle.steps.specs.Each.{for_each}
 use Rattle.steps.specs.Outside.{Seen}
 use Rattle.steps.specs.Steps.{◌>>=◌, gives, map_err, yields}
@@ -30,10 +30,10 @@ makes_base store os arch folders = do
   rows ← puts_folders store folders
   gives cause_of (Ok (record { os = os; arch = arch; rows = rows; env = [] }))
 
--- the command: the text is made, and the run image's document is written last
+-- the command: the text is made, and the run image's document is written last, with bytes that read as the run image
 unfoldable pub bases_command : BaseWords → Seen → Result (List ℕ) BaseFault → Seen → Type 0
 bases_command words = do
   image ← map_err Store (makes_base words.store words.os words.arch words.trees)
   text ← gives base_cause (Ok (base_text words.run image))
-  written ← map_err Image (writes_run_image words.store words.run image)
+  written ← map_err Image (writes_readable_run_image words.store words.run image)
   yields text

@@ -2,7 +2,7 @@
 use Rattle.std.specs.Prelude.{ℕ, List, Result, Ok}
 use Rattle.cnb_words.specs.declared.rebase.RebaseWords.{RebaseWords}
 use Rattle.image_docs.specs.declared.image.ImageDoc.{ImageDoc}
-use Rattle.image_files.specs.Images.{reads_image, reads_run_image, writes_image}
+use Rattle.image_files.specs.Images.{reads_image, reads_run_image, writes_readable_image}
 use Rattle.steps.specs.Outside.{Seen}
 use Rattle.steps.specs.Steps.{◌>>=◌, gives, map_err, yields}
 use Rattle.cnb_rebase.specs.declared.refusal.RebaseFault.{RebaseFault}
@@ -17,10 +17,10 @@ rebases store name run = do
   base ← map_err of_image_fault (reads_run_image store run)
   gives cause_of (rebased image run base)
 
--- the command: the text is made, and the image's document is written last
+-- the command: the text is made, and the image's document is written last, with bytes that read as the image
 unfoldable pub rebases_command : RebaseWords → Seen → Result (List ℕ) RebaseFault → Seen → Type 0
 rebases_command words = do
   image ← rebases words.store words.image words.run
   text ← gives cause_of (Ok (rebased_text words.image image))
-  written ← map_err of_image_fault (writes_image words.store words.image image)
+  written ← map_err of_image_fault (writes_readable_image words.store words.image image)
   yields text

@@ -1,6 +1,9 @@
 // The command `base`.
-ghost use Rattle.std.specs.Prelude.{◌≡◌, ◌≤◌, All, length};
+ghost use Rattle.std.specs.Prelude.{◌≡◌, ◌≤◌, All, IfOk, IsTrue, OnOk, length};
+ghost use Rattle.cnb_toml.specs.Names.{is_target_name};
 ghost use Rattle.cnb_words.specs.Base.{KeepsLimits};
+ghost use Rattle.image_docs.specs.RunImage.{is_run_doc};
+ghost use Rattle.image_files.specs.Images.{RunImageStands};
 ghost use Rattle.steps.specs.Causes.{CountsFiles};
 ghost use Rattle.steps.specs.Outside.{seen};
 ghost use Rattle.tree_store.specs.Answers.{cause_of};
@@ -71,6 +74,8 @@ pub fn base<W: World>(
     requires folders { All (λ folder. length folder ≤ 4096) folders.now }
     ensures steps { makes_base store.now os.now arch.now folders.now
         (seen W.World world.old) result (seen W.World world.new) }
+    ensures readable { IsTrue (is_target_name os.now) → IsTrue (is_target_name arch.now) → 1 ≤ length folders.now
+        → IfOk result (λ image. IsTrue (is_run_doc image)) }
     ensures files { CountsFiles cause_of result (W.file_faults world.old) (W.file_faults world.new) }
     ensures children { W.child_faults world.new ≡ W.child_faults world.old }
 {
@@ -94,6 +99,7 @@ pub fn base_command<W: World>(
 ) -> Result<Text, BaseFault>
     requires { KeepsLimits options.now }
     ensures steps { bases_command options.now (seen W.World world.old) result (seen W.World world.new) }
+    ensures stands { OnOk result (RunImageStands options.now.store options.now.run (W.tree world.new)) }
     ensures files { CountsFiles base_cause result (W.file_faults world.old) (W.file_faults world.new) }
     ensures children { W.child_faults world.new ≡ W.child_faults world.old }
 {

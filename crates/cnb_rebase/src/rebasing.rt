@@ -1,6 +1,8 @@
 // The command `rebase`.
-ghost use Rattle.std.specs.Prelude.{◌≡◌, ◌≤◌, length};
+ghost use Rattle.std.specs.Prelude.{◌≡◌, ◌≤◌, IfOk, IsTrue, OnOk, length};
 ghost use Rattle.cnb_words.specs.Rebase.{KeepsLimits};
+ghost use Rattle.image_docs.specs.Image.{is_image_doc};
+ghost use Rattle.image_files.specs.Images.{ImageStands};
 ghost use Rattle.steps.specs.Causes.{CountsFiles};
 ghost use Rattle.steps.specs.Outside.{seen};
 ghost use Rattle.cnb_rebase.specs.Rebases.{rebases, rebases_command};
@@ -26,6 +28,7 @@ pub fn rebase<W: World>(
 ) -> Result<ImageDoc, RebaseFault>
     requires { length store.now ≤ 4096 }
     ensures steps { rebases store.now image.now run.now (seen W.World world.old) result (seen W.World world.new) }
+    ensures readable { IfOk result (λ image. IsTrue (is_image_doc image)) }
     ensures files { CountsFiles cause_of result (W.file_faults world.old) (W.file_faults world.new) }
     ensures children { W.child_faults world.new ≡ W.child_faults world.old }
 {
@@ -43,6 +46,7 @@ pub fn rebase_command<W: World>(
 ) -> Result<Text, RebaseFault>
     requires { KeepsLimits options.now }
     ensures steps { rebases_command options.now (seen W.World world.old) result (seen W.World world.new) }
+    ensures stands { OnOk result (ImageStands options.now.store options.now.image (W.tree world.new)) }
     ensures files { CountsFiles cause_of result (W.file_faults world.old) (W.file_faults world.new) }
     ensures children { W.child_faults world.new ≡ W.child_faults world.old }
 {

@@ -4,6 +4,7 @@ use Rattle.steps.proofs.StepLemmas.{ended, given, no_memory, went}
 use Rattle.tree_store.specs.declared.fault.StoreFault.TheVariants.{Memory}
 use Rattle.cnb_rebase.specs.Bases.{makes_base}
 use Rattle.cnb_rebase.proofs.BaseLemmas.{run_doc}
+use Rattle.cnb_rebase.proofs.ReadableLemmas.{folders_filled, made_readable}
 use Rattle.cnb_rebase.proofs.making.base.Goals as goal
 
 pub returns-in_err-rows-clause-steps : goal.returns-in_err-rows-clause-steps
@@ -27,3 +28,6 @@ returns-in_err-arch-clause-steps g c =
 pub returns-clause-steps : goal.returns-clause-steps
 unfolding makes_base
 returns-clause-steps g c = went _ _ _ _ _ _ _ c.in_ok-rows.ensures.steps (given _ _ _ _ (run_doc _ _ _ _ _ _ c.in_ok-os.ensures c.in_ok-arch.ensures c.new-env.ensures))
+
+pub returns-clause-readable : goal.returns-clause-readable
+returns-clause-readable g c = λ is-os is-arch some. made_readable _ _ _ _ _ _ c.in_ok-os.ensures c.in_ok-arch.ensures c.new-env.ensures is-os is-arch (folders_filled _ _ _ _ _ some c.in_ok-rows.ensures.steps)

@@ -2,6 +2,7 @@ use Rattle.std.proofs.lemmas.Result.{err_from_is_err_and}
 use Rattle.steps.proofs.StepLemmas.{ended, given, given_fault, mapped, mapped_fault, went}
 use Rattle.cnb_rebase.specs.Rebases.{rebases}
 use Rattle.cnb_rebase.proofs.FileLemmas.{files_then}
+use Rattle.cnb_rebase.proofs.ReadableLemmas.{rebased_readable}
 use Rattle.cnb_rebase.proofs.rebasing.rebase.Goals as goal
 
 pub returns-in_err-old-clause-steps : goal.returns-in_err-old-clause-steps
@@ -31,3 +32,6 @@ pub returns-in_err-base-clause-files : goal.returns-in_err-base-clause-files
 returns-in_err-base-clause-files g c =
     let exit = err_from_is_err_and c.from_residual-in_err-base.result c.from_residual-in_err-base.ensures.1 in
     rw (exit.1, exit.2) (files_then _ _ _ _ c.in_ok-old.ensures.files c.in_err-base.ensures.files)
+
+pub returns-clause-readable : goal.returns-clause-readable
+returns-clause-readable g c = rebased_readable c.in_ok-old.old c.in_ok-new.new c.args.run.now c.in_ok-base.base c.in_ok-old.ensures.readable c.in_ok-base.ensures.readable c.in_ok-new.ensures.answer
