@@ -1,10 +1,10 @@
 -- How an image is laid out under a root (platform.md, "exporter": its layers; the overlay and the document of the launch are
 -- this project's own).
-use Rattle.std.specs.Prelude.{ℕ, ◌≡◌, Bool, true, false, List, codes, if◌then◌else◌, IsTrue, Result, Ok, Err}
+use Rattle.std.specs.Prelude.{ℕ, ◌≡◌, Bool, true, false, List, codes, if◌then◌else◌, Result, Ok, Err}
 use Rattle.cnb_world.specs.Tree.{Tree, item_at, kind_of}
 use Rattle.cnb_world.specs.declared.limits.LimitKind.TheVariants as limit
 use Rattle.cnb_env.specs.Files.{is_absent}
-use Rattle.image_docs.specs.LaunchDoc.{is_launch_doc, launch_doc_in}
+use Rattle.image_docs.specs.LaunchDoc.{launch_doc_in}
 use Rattle.image_docs.specs.declared.launch_doc.LaunchDoc.{LaunchDoc}
 use Rattle.image_docs.specs.declared.row.Row.{Row}
 use Rattle.image_files.specs.Images.{reads_image}
@@ -34,9 +34,9 @@ unfoldable pub makes : {S E : Type 0} → (E → Cause) → (List ℕ → Type 0
 makes cause_of Says old (Ok bytes) new = (new ≡ old) × Says bytes
 makes cause_of Says old (Err fault) new = (new ≡ old) × (cause_of fault ≡ OutOfMemory)
 
--- bytes that read as the document, where it is one that can be read
+-- bytes that read as the document
 abbrev pub ReadsAs : LaunchDoc → List ℕ → Type 0
-ReadsAs launch bytes = IsTrue (is_launch_doc launch) → launch_doc_in bytes ≡ Ok launch
+ReadsAs launch bytes = launch_doc_in bytes ≡ Ok launch
 
 -- a file of these bytes
 abbrev pub file_of : List ℕ → Node

@@ -5,6 +5,7 @@ ghost use Rattle.cnb_world.specs.Tree.{item_at, kind_of};
 ghost use Rattle.cnb_env.specs.Files.{is_absent};
 ghost use Rattle.doc_files.specs.Counts as reading;
 ghost use Rattle.doc_files.specs.Reading.{Reads};
+ghost use Rattle.image_docs.specs.LaunchDoc.{is_launch_doc};
 ghost use Rattle.image_docs.specs.Row.{is_row};
 ghost use Rattle.steps.specs.Causes.{ChildFailed, CountsFiles, IsAnswer, IsGivenCause};
 ghost use Rattle.steps.specs.Each.{for_each};
@@ -122,7 +123,8 @@ fn lay_launch<W: World>(
     root: &Path,
     launch: &LaunchDoc,
 ) -> Result<(), LaunchFault>
-    requires { length root.now ≤ 4096 }
+    requires root { length root.now ≤ 4096 }
+    requires readable { IsTrue (is_launch_doc launch.now) }
     ensures step { lays_launch root.now launch.now (seen W.World world.old) result (seen W.World world.new) }
     ensures files { CountsFiles cause_of result (W.file_faults world.old) (W.file_faults world.new) }
     ensures children { W.child_faults world.new ≡ W.child_faults world.old }

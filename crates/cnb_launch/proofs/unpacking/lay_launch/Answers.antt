@@ -22,17 +22,17 @@ pub returns-in_err-tree-clause-step : goal.returns-in_err-tree-clause-step
 unfolding lays_launch
 returns-in_err-tree-clause-step g c =
     let exit = err_from_is_err_and c.from_residual-in_err-tree.result c.from_residual-in_err-tree.ensures.1 in
-    rw (exit.1, exit.2) (went _ _ _ _ _ _ _ (made _ _ _ c.in_ok-bytes.ensures.reads_back) (ended _ _ _ _ _ (given_fault _ _ _ _ c.in_err-tree.ensures.answer c.in_err-tree.ensures.given)))
+    rw (exit.1, exit.2) (went _ _ _ _ _ _ _ (made _ _ _ (c.in_ok-bytes.ensures.reads_back c.requires.readable)) (ended _ _ _ _ _ (given_fault _ _ _ _ c.in_err-tree.ensures.answer c.in_err-tree.ensures.given)))
 
 pub returns-in_err-write_tree-clause-step : goal.returns-in_err-write_tree-clause-step
 unfolding lays_launch
 returns-in_err-write_tree-clause-step g c =
     let exit = err_from_is_err_and c.from_residual-in_err-write_tree.result c.from_residual-in_err-write_tree.ensures.1 in
-    rw (exit.1, exit.2) (went _ _ _ _ _ _ _ (made _ _ _ c.in_ok-bytes.ensures.reads_back) (went _ _ _ _ _ _ _ (given _ _ _ _ c.in_ok-tree.ensures.answer) (mapped_fault _ _ _ _ _ (laid_as _ _ _ _ _ _ (Err _) c.in_ok-place.ensures.path c.in_err-write_tree.ensures.steps))))
+    rw (exit.1, exit.2) (went _ _ _ _ _ _ _ (made _ _ _ (c.in_ok-bytes.ensures.reads_back c.requires.readable)) (went _ _ _ _ _ _ _ (given _ _ _ _ c.in_ok-tree.ensures.answer) (mapped_fault _ _ _ _ _ (laid_as _ _ _ _ _ _ (Err _) c.in_ok-place.ensures.path c.in_err-write_tree.ensures.steps))))
 
 pub returns-clause-step : goal.returns-clause-step
 unfolding lays_launch
-returns-clause-step g c = went _ _ _ _ _ _ _ (made _ _ _ c.in_ok-bytes.ensures.reads_back) (went _ _ _ _ _ _ _ (given _ _ _ _ c.in_ok-tree.ensures.answer) (mapped _ _ _ _ _ (laid_as _ _ _ _ _ _ (Ok _) c.in_ok-place.ensures.path c.in_ok-write_tree.ensures.steps)))
+returns-clause-step g c = went _ _ _ _ _ _ _ (made _ _ _ (c.in_ok-bytes.ensures.reads_back c.requires.readable)) (went _ _ _ _ _ _ _ (given _ _ _ _ c.in_ok-tree.ensures.answer) (mapped _ _ _ _ _ (laid_as _ _ _ _ _ _ (Ok _) c.in_ok-place.ensures.path c.in_ok-write_tree.ensures.steps)))
 
 pub returns-in_err-tree-clause-cause : goal.returns-in_err-tree-clause-cause
 returns-in_err-tree-clause-cause g c =

@@ -6,7 +6,7 @@ use Rattle.image_docs.specs.Row.{is_row}
 use Rattle.image_docs.specs.declared.row.Row.{Row}
 use Rattle.steps.proofs.StepLemmas.{allowed_by, ended, given, given_fault, mapped, mapped_fault, went}
 use Rattle.cnb_launch.specs.Unpacking.{unpacks}
-use Rattle.cnb_launch.proofs.ImageLemmas.{rows_can_be_laid}
+use Rattle.cnb_launch.proofs.ImageLemmas.{launch_can_be_read, rows_can_be_laid}
 use Rattle.cnb_launch.proofs.PlanLemmas.{given_files, read_files, read_step}
 use Rattle.cnb_launch.proofs.UnpackLemmas.{rows_as}
 use Rattle.cnb_launch.proofs.CauseLemmas.{given_unasked, image_unasked, read_unasked}
@@ -15,7 +15,10 @@ use Rattle.cnb_launch.proofs.unpacking.unpack.Goals as goal
 pub lay_rows-requires-clause-rows : goal.lay_rows-requires-clause-rows
 lay_rows-requires-clause-rows g c =
     let P : List Row → Type 0 = λ rows. IsTrue (list_all is_row rows) in
-    subst P (sym c.as_slice.ensures) (rows_can_be_laid c.in_ok-doc.doc c.in_ok-doc.ensures.read)
+    subst P (sym c.as_slice.ensures) (rows_can_be_laid c.in_ok-doc.doc c.in_ok-doc.ensures.readable)
+
+pub lay_launch-requires-clause-readable : goal.lay_launch-requires-clause-readable
+lay_launch-requires-clause-readable g c = launch_can_be_read c.in_ok-doc.doc c.in_ok-doc.ensures.readable
 
 pub returns-in_err-doc-clause-steps : goal.returns-in_err-doc-clause-steps
 unfolding unpacks
