@@ -1,6 +1,14 @@
 pub mod AscendingLemmas
+pub mod CommandLaws
+pub mod DistinctLaws
 pub mod ExportSteps
+pub mod FormLaws
+pub mod GatherLaws
+pub mod ImageLaws
+pub mod LeftLaws
 pub mod PathLemmas
+pub mod PlaceLaws
 pub mod ReadSteps
+pub mod StandLaws
 pub mod StemLemmas
 pub mod SettleLemmas

@@ -2,7 +2,7 @@
 use Rattle.std.specs.Prelude.{ℕ, List, Result, Ok}
 use Rattle.cnb_words.specs.declared.export.ExportWords.{ExportWords}
 use Rattle.image_docs.specs.declared.image.ImageDoc.{ImageDoc}
-use Rattle.image_files.specs.Images.{writes_image}
+use Rattle.image_files.specs.Images.{writes_image, writes_readable_image}
 use Rattle.shelf_set.specs.Caches.{WorldAndCaches, in_world}
 use Rattle.steps.specs.Outside.{Seen}
 use Rattle.steps.specs.Steps.{◌>>=◌, gives, map_err, yields}
@@ -18,11 +18,16 @@ use Rattle.cnb_export.specs.Report.{exported_text}
 abbrev pub saves_image : List ℕ → List ℕ → ImageDoc → Seen → Result (Unit {0}) ExportFault → Seen → Type 0
 saves_image store name image = map_err of_image_fault (writes_image store name image)
 
--- The group and what was analyzed are read, the image is exported, the text is made, and the image's document is written last.
+-- the same, with bytes that read as the image
+abbrev pub saves_readable_image : List ℕ → List ℕ → ImageDoc → Seen → Result (Unit {0}) ExportFault → Seen → Type 0
+saves_readable_image store name image = map_err of_image_fault (writes_readable_image store name image)
+
+-- The group and what was analyzed are read, the image is exported, the text is made, and the image's document is written last,
+-- with bytes that read as the image.
 unfoldable pub exports_command : ExportWords → WorldAndCaches → Result (List ℕ) ExportRefusal → WorldAndCaches → Type 0
 exports_command words = do
   given ← in_world (reads_given words)
   exported ← map_err Fault (exports given.frame given.group given.analyzed)
   text ← gives refusal_cause (Ok (exported_text words.image exported))
-  saved ← in_world (map_err Fault (saves_image words.store words.image exported.image))
+  saved ← in_world (map_err Fault (saves_readable_image words.store words.image exported.image))
   yields text

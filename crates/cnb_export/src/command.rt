@@ -1,6 +1,7 @@
 // The command `export`.
-ghost use Rattle.std.specs.Prelude.{◌≡◌, ◌≤◌, length, map};
+ghost use Rattle.std.specs.Prelude.{◌≡◌, ◌≤◌, OnOk, length, map};
 ghost use Rattle.cnb_words.specs.Export as words;
+ghost use Rattle.image_files.specs.Images.{ImageStands};
 ghost use Rattle.shelf_set.specs.Caches.{caches_of, world_and_caches};
 ghost use Rattle.shelf_set.specs.Dropping.{AreStanding};
 ghost use Rattle.shelf_set.specs.ShelfState.{state_of};
@@ -57,6 +58,7 @@ pub fn export_command<W: World>(
         result
         (world_and_caches (seen W.World world.new)
         (caches_of (map (λ s. state_of (held s) (rows s) (faults s)) shelves.new.items) places.new)) }
+    ensures stands { OnOk result (ImageStands options.now.store options.now.image (W.tree world.new)) }
     ensures again { AreStanding places.new (map (λ s. state_of (held s) (rows s) (faults s)) shelves.new.items) }
     ensures files { CountsFiles refusal_cause result (W.file_faults world.old) (W.file_faults world.new) }
     ensures children { CountsChildren refusal_cause result (W.child_faults world.old) (W.child_faults world.new) }

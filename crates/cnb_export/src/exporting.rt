@@ -1,5 +1,7 @@
 // The export of an image.
-ghost use Rattle.std.specs.Prelude.{◌≡◌, IfOk, map};
+ghost use Rattle.std.specs.Prelude.{◌≡◌, IfOk, IsTrue, map};
+ghost use Rattle.image_docs.specs.Image.{is_image_doc};
+ghost use Rattle.run_docs.specs.Group.{is_group_doc};
 ghost use Rattle.shelf_set.specs.Caches.{caches_of, world_and_caches};
 ghost use Rattle.shelf_set.specs.Caching.{digest_of_row, digest_of_tree};
 ghost use Rattle.shelf_set.specs.Dropping.{AreStanding};
@@ -55,6 +57,7 @@ fn gain<W: World>(
 ) -> Result<Gained, ExportFault>
     requires { KeepsLimits frame.now }
     ensures step { gains frame.now group.now analyzed.now (seen W.World world.old) result (seen W.World world.new) }
+    ensures readable { IsTrue (is_group_doc group.now) → IfOk result (λ gained. IsTrue (is_image_doc gained.image)) }
     ensures matched { IfOk result (λ gained. map digest_of_row gained.cached ≡ map digest_of_tree gained.trees) }
     ensures files { CountsFiles cause_of result (W.file_faults world.old) (W.file_faults world.new) }
     ensures children { CountsChildren cause_of result (W.child_faults world.old) (W.child_faults world.new) }
@@ -94,6 +97,7 @@ pub fn export<W: World>(
         result
         (world_and_caches (seen W.World world.new)
         (caches_of (map (λ s. state_of (held s) (rows s) (faults s)) shelves.new.items) places.new)) }
+    ensures readable { IsTrue (is_group_doc group.now) → IfOk result (λ exported. IsTrue (is_image_doc exported.image)) }
     ensures again { AreStanding places.new (map (λ s. state_of (held s) (rows s) (faults s)) shelves.new.items) }
     ensures files { CountsFiles cause_of result (W.file_faults world.old) (W.file_faults world.new) }
     ensures children { CountsChildren cause_of result (W.child_faults world.old) (W.child_faults world.new) }

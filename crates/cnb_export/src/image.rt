@@ -1,8 +1,13 @@
 // The image.
-ghost use Rattle.std.specs.Prelude.{◌≡◌, IfOk, map};
+ghost use Rattle.std.specs.Prelude.{◌≡◌, IfOk, IsTrue, OnOk, map};
+ghost use Rattle.std.specs.List.{list_all};
 ghost use Rattle.std.specs.Option.{option_copied};
+ghost use Rattle.cnb_world.specs.Path.{is_short_path};
+ghost use Rattle.image_docs.specs.Row.{is_row};
 ghost use Rattle.cnb_export.specs.Image.{image_of, key_of, launch_of, layer_of};
 ghost use Rattle.cnb_export.specs.Ascending.{label_key, last_of_each};
+ghost use Rattle.cnb_export.specs.Processes as processes;
+ghost use Rattle.cnb_export.specs.Rows.{layer_row};
 
 use crate::ascending::last_of_each;
 use crate::exported::{Digests, Gathered, ImageLayer};
@@ -121,7 +126,10 @@ pub(crate) fn make_image(
     gathered: &Gathered,
     digests: &Digests,
 ) -> Result<ImageDoc, Memory>
-    ensures { IfOk result (λ image. image ≡ image_of name.now run.now group.now gathered.now digests.now) }
+    ensures image { IfOk result (λ image. image ≡ image_of name.now run.now group.now gathered.now digests.now) }
+    ensures placed { OnOk result (IsTrue (list_all is_row (map layer_row gathered.now.layers))) }
+    ensures started { OnOk result (IsTrue (is_short_path
+        (processes.entrypoint_of (processes.default_of gathered.now.processes)))) }
 {
     let default = default_of(gathered.processes.as_slice());
     let base = base_of(alloc, name, run, digests.launcher)?;

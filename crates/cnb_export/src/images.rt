@@ -1,5 +1,6 @@
 // The run image, and the layers of the previous image.
-ghost use Rattle.std.specs.Prelude.{◌≤◌, length};
+ghost use Rattle.std.specs.Prelude.{◌≤◌, IfOk, IsTrue, length};
+ghost use Rattle.image_docs.specs.RunImage.{is_run_doc};
 ghost use Rattle.steps.specs.Causes.{CountsChildren, CountsFiles};
 ghost use Rattle.steps.specs.Outside.{seen};
 ghost use Rattle.cnb_export.specs.Images.{reads_layers, reads_previous, reads_run_image};
@@ -20,6 +21,7 @@ pub(crate) fn read_run_image<W: World>(
 ) -> Result<RunDoc, ExportFault>
     requires { length store.now ≤ 4096 }
     ensures step { reads_run_image store.now name.now (seen W.World world.old) result (seen W.World world.new) }
+    ensures readable { IfOk result (λ run. IsTrue (is_run_doc run)) }
     ensures files { CountsFiles cause_of result (W.file_faults world.old) (W.file_faults world.new) }
     ensures children { CountsChildren cause_of result (W.child_faults world.old) (W.child_faults world.new) }
 {

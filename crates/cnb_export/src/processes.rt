@@ -1,6 +1,7 @@
 // The processes of an image: which is the default, where it starts, and the links that stand for their types.
-ghost use Rattle.std.specs.Prelude.{◌≡◌, IfOk, Some};
+ghost use Rattle.std.specs.Prelude.{◌≡◌, IfOk, IsTrue, OnOk, Some};
 ghost use Rattle.std.specs.Option.{option_copied};
+ghost use Rattle.cnb_world.specs.Path.{is_short_path};
 ghost use Rattle.cnb_export.specs.Processes.{default_of, entrypoint_of, has_type, links_of};
 
 use crate::rows::constant;
@@ -34,9 +35,10 @@ fn is_type(default: Option<&ProcType>, kind: &ProcType) -> bool
     }
 }
 
-#[tactic(auto, using(cnb_env::proofs::TypeLemmas::type_is_part))]
+#[tactic(auto, using(cnb_env::proofs::TypeLemmas::type_is_part, crate::proofs::PlaceLaws::program_short))]
 fn process_path(alloc: Global, kind: &ProcType) -> Result<Path, Memory>
-    ensures { IfOk result (λ path. path ≡ entrypoint_of (Some kind.now)) }
+    ensures path { IfOk result (λ path. path ≡ entrypoint_of (Some kind.now)) }
+    ensures short { OnOk result (IsTrue (is_short_path (entrypoint_of (Some kind.now)))) }
 {
     let folder = constant(alloc, "/cnb/process")?;
     let name = kind.as_str();
@@ -45,7 +47,8 @@ fn process_path(alloc: Global, kind: &ProcType) -> Result<Path, Memory>
 
 /// The program that an image starts: the launcher, by the name of the default process where there is one.
 pub(crate) fn entrypoint(alloc: Global, default: Option<&ProcType>) -> Result<Path, Memory>
-    ensures { IfOk result (λ path. path ≡ entrypoint_of (option_copied default.entry)) }
+    ensures path { IfOk result (λ path. path ≡ entrypoint_of (option_copied default.entry)) }
+    ensures short { OnOk result (IsTrue (is_short_path (entrypoint_of (option_copied default.entry)))) }
 {
     match default {
         Some(kind) => process_path(alloc, kind),

@@ -1,6 +1,8 @@
 // The rows of an image.
 ghost use Rattle.std.specs.Prelude.{◌≡◌, ◌++◌, ◌∷◌, [], IfOk, IsTrue, OnOk, map};
-ghost use Rattle.cnb_world.specs.Path.{is_path};
+ghost use Rattle.std.specs.List.{list_all};
+ghost use Rattle.cnb_world.specs.Path.{is_path, is_short_path};
+ghost use Rattle.image_docs.specs.Row.{is_row};
 ghost use Rattle.cnb_export.specs.Rows.{app_row, launcher_row, layer_place, layer_row, process_rows, rows_of};
 
 use crate::exported::{Digests, Gathered, ImageLayer};
@@ -23,13 +25,16 @@ pub(crate) fn constant(alloc: Global, text: &str) -> Result<Path, Memory>
 }
 
 // Where a layer stands in the image.
+#[tactic(auto, using(crate::proofs::PlaceLaws::place_short))]
 fn layer_place(alloc: Global, row: &LayerRow) -> Result<Path, Memory>
-    ensures { IfOk result (λ place. place ≡ layer_place row.now) }
+    ensures place { IfOk result (λ place. place ≡ layer_place row.now) }
+    ensures short { OnOk result (IsTrue (is_short_path (layer_place row.now))) }
 {
     let folder = row.id.folder(alloc)?;
     let layers = constant(alloc, "/layers")?;
     let folder = layers.below(alloc, folder.as_str())?;
-    folder.below(alloc, row.layer.as_str())
+    let place = folder.below(alloc, row.layer.as_str())?;
+    Ok(place)
 }
 
 fn add_row(
@@ -50,8 +55,10 @@ fn add_row(
     })
 }
 
+#[tactic(auto, using(crate::proofs::PlaceLaws::placed_more))]
 fn add_layer_rows(alloc: Global, rows: &mut List<Row>, layers: &[ImageLayer]) -> Result<(), Memory>
-    ensures { OnOk result (rows.new ≡ rows.old ++ map layer_row layers.now) }
+    ensures rows { OnOk result (rows.new ≡ rows.old ++ map layer_row layers.now) }
+    ensures placed { OnOk result (IsTrue (list_all is_row (map layer_row layers.now))) }
 {
     for layer in layers {
         let place = layer_place(alloc, &layer.row)?;
@@ -94,7 +101,8 @@ pub(crate) fn image_rows(
     gathered: &Gathered,
     digests: &Digests,
 ) -> Result<List<Row>, Memory>
-    ensures { IfOk result (λ rows. rows ≡ rows_of run.now gathered.now.layers digests.now) }
+    ensures rows { IfOk result (λ rows. rows ≡ rows_of run.now gathered.now.layers digests.now) }
+    ensures placed { OnOk result (IsTrue (list_all is_row (map layer_row gathered.now.layers))) }
 {
     let mut rows = List::new(alloc);
     push_run_rows(alloc, &mut rows, run.rows.as_slice())?;

@@ -9,6 +9,8 @@ use Rattle.cnb_export.specs.declared.refusal.ExportRefusal.{ExportRefusal}
 use Rattle.cnb_export.specs.declared.refusal.ExportRefusal.TheVariants.{Fault}
 use Rattle.cnb_export.specs.Command.{exports_command}
 use Rattle.cnb_export.specs.Refusals.{cause_of}
+use Rattle.cnb_export.proofs.CommandLaws.{given_distinct, saved_readable}
+use Rattle.cnb_export.proofs.StandLaws.{exported_stands}
 use Rattle.cnb_export.proofs.command.export_command.Goals as goal
 
 pub returns-in_err-given-clause-steps : goal.returns-in_err-given-clause-steps
@@ -33,12 +35,12 @@ pub returns-in_err-save_image-clause-steps : goal.returns-in_err-save_image-clau
 unfolding exports_command
 returns-in_err-save_image-clause-steps g c =
     let exit = err_from_is_err_and c.from_residual-in_err-save_image.result c.from_residual-in_err-save_image.ensures.1 in
-    rw (exit.1, exit.2) (went _ _ _ _ _ _ _ (within _ _ _ _ _ c.in_ok-given.ensures.step) (went _ _ _ _ _ _ _ (mapped Fault _ _ _ _ c.in_ok-exported.ensures.steps) (went _ _ _ _ _ _ _ (given _ _ _ _ (ap Ok (sym c.in_ok-text.ensures))) (ended _ _ _ _ _ (within _ _ _ _ _ (mapped_fault Fault _ _ _ c.in_err-save_image.field-0.0 c.in_err-save_image.ensures.step))))))
+    rw (exit.1, exit.2) (went _ _ _ _ _ _ _ (within _ _ _ _ _ c.in_ok-given.ensures.step) (went _ _ _ _ _ _ _ (mapped Fault _ _ _ _ c.in_ok-exported.ensures.steps) (went _ _ _ _ _ _ _ (given _ _ _ _ (ap Ok (sym c.in_ok-text.ensures))) (ended _ _ _ _ _ (within _ _ _ _ _ (mapped_fault Fault _ _ _ c.in_err-save_image.field-0.0 (saved_readable _ _ _ _ _ _ (c.in_ok-exported.ensures.readable (given_distinct _ _ _ _ c.in_ok-given.ensures.step)) c.in_err-save_image.ensures.step)))))))
 
 pub returns-clause-steps : goal.returns-clause-steps
 unfolding exports_command
 returns-clause-steps g c =
-    went _ _ _ _ _ _ _ (within _ _ _ _ _ c.in_ok-given.ensures.step) (went _ _ _ _ _ _ _ (mapped Fault _ _ _ _ c.in_ok-exported.ensures.steps) (went _ _ _ _ _ _ _ (given _ _ _ _ (ap Ok (sym c.in_ok-text.ensures))) (went _ _ _ _ _ _ _ (within _ _ _ _ _ (mapped Fault _ _ _ _ c.in_ok-save_image.ensures.step)) (yielded ExportRefusal _ _))))
+    went _ _ _ _ _ _ _ (within _ _ _ _ _ c.in_ok-given.ensures.step) (went _ _ _ _ _ _ _ (mapped Fault _ _ _ _ c.in_ok-exported.ensures.steps) (went _ _ _ _ _ _ _ (given _ _ _ _ (ap Ok (sym c.in_ok-text.ensures))) (went _ _ _ _ _ _ _ (within _ _ _ _ _ (mapped Fault _ _ _ _ (saved_readable _ _ _ _ _ _ (c.in_ok-exported.ensures.readable (given_distinct _ _ _ _ c.in_ok-given.ensures.step)) c.in_ok-save_image.ensures.step))) (yielded ExportRefusal _ _))))
 
 pub returns-in_err-text-clause-files : goal.returns-in_err-text-clause-files
 returns-in_err-text-clause-files g c =
@@ -54,3 +56,6 @@ pub returns-in_err-save_image-clause-children : goal.returns-in_err-save_image-c
 returns-in_err-save_image-clause-children g c =
     let exit = err_from_is_err_and c.from_residual-in_err-save_image.result c.from_residual-in_err-save_image.ensures.1 in
     rw (exit.1, exit.2) (subst (λ n. ChildrenBy (cause_of c.in_err-save_image.field-0.0) n (g.W.World.child_faults c.save_image.new.world)) (c.in_ok-exported.ensures.children ∙ c.in_ok-given.ensures.children) c.in_err-save_image.ensures.children)
+
+pub returns-clause-stands : goal.returns-clause-stands
+returns-clause-stands g c = exported_stands _ _ _ _ (returns-clause-steps g c)
