@@ -24,7 +24,7 @@ use Rattle.cnb_detect.specs.Documents.{group_document, plan_document, writes_cho
 use Rattle.cnb_detect.specs.Preparation.{prepares}
 use Rattle.cnb_detect.specs.Refusals as detection
 use Rattle.cnb_detect.proofs.DetectLaws.{prepares_reads}
-use Rattle.cnb_export.specs.Command.{saves_image}
+use Rattle.cnb_export.specs.Command.{saves_readable_image}
 use Rattle.cnb_export.specs.Refusals as exporting
 use Rattle.cnb_restore.specs.Analyzes.{analyzes}
 use Rattle.cnb_restore.specs.Commands.{ReadsAsAnalyzed, analyzed_document}
@@ -32,7 +32,7 @@ use Rattle.cnb_restore.specs.Faults as restoring
 use Rattle.cnb_words.specs.declared.create.CreateWords.{CreateWords}
 use Rattle.image_docs.specs.declared.analyzed.Analyzed.{Analyzed}
 use Rattle.image_docs.specs.declared.image.ImageDoc.{ImageDoc}
-use Rattle.image_files.specs.Images.{writes_image}
+use Rattle.image_files.specs.Images.{writes_readable_image}
 use Rattle.image_files.specs.Paths.{document_name, image_path, images_folder}
 use Rattle.image_files.proofs.PathLemmas.{document_length}
 use Rattle.run_docs.specs.Group.{group_in}
@@ -203,15 +203,15 @@ long_document store name = by (bytes_eq (images_folder store) (47 ∷ []))
     by true = omega (arith, length-append (images_folder store) (document_name name), document_length name)
     by false = omega (arith, length-append (images_folder store ++ 47 ∷ []) (document_name name), document_length name)
 
-refused_write : (store name : List ℕ) (image : ImageDoc) → KeepsRefused (λ (s : Seen). s) (image_path store name) (writes_image store name image)
-unfolding writes_image writes
+refused_write : (store name : List ℕ) (image : ImageDoc) → KeepsRefused (λ (s : Seen). s) (image_path store name) (writes_readable_image store name image)
+unfolding writes_readable_image writes
 refused_write store name image old new fault h = keeps_same (image_path store name) old new h.1.runs (some_left_itself (image_path store name) _ old.files new.files (long_document store name) h.1.files)
 
 refused_told : {S E F A : Type 0} (view : S → Seen) (path : List ℕ) (of : E → F) (step : S → Result A E → S → Type 0) → KeepsRefused view path step → KeepsRefused view path (map_err of step)
 unfolding map_err
 refused_told view path of step p old new refusal (fault, is, h) = p old new fault h
 
-refused_save : (words : CreateWords) (image : ImageDoc) (text : List ℕ) → KeepsRefused {E = CreateRefusal} cached_world (image_document words) (in_world (map_err Export (saves_image words.store words.image image)) >>= (λ saved. yields text))
+refused_save : (words : CreateWords) (image : ImageDoc) (text : List ℕ) → KeepsRefused {E = CreateRefusal} cached_world (image_document words) (in_world (map_err Export (saves_readable_image words.store words.image image)) >>= (λ saved. yields text))
 unfolding ◌>>=◌ in_world yields
 refused_save words image text old new fault (inl h) =
     refused_told (λ (s : Seen). s) _ Export _ (refused_told (λ (s : Seen). s) _ exporting.of_image_fault _ (refused_write words.store words.image image)) old.world new.world fault h.0

@@ -5,4 +5,5 @@ pub mod ExportLaws
 pub mod KeepLemmas
 pub mod OutcomeLaws
 pub mod RestoreLaws
+pub mod StandLaws
 pub mod SurroundingLemmas

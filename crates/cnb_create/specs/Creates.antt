@@ -11,7 +11,7 @@ use Rattle.cnb_detect.specs.Documents.{writes_choice}
 use Rattle.cnb_detect.specs.declared.refusal.DetectRefusal.{DetectRefusal}
 use Rattle.cnb_env.specs.Files.{is_fit_platform, platform_files_in}
 use Rattle.cnb_env.specs.declared.files.EnvFile.{EnvFile}
-use Rattle.cnb_export.specs.Command.{saves_image}
+use Rattle.cnb_export.specs.Command.{saves_readable_image}
 use Rattle.cnb_export.specs.Exports.{exports}
 use Rattle.cnb_export.specs.Refusals as exporting
 use Rattle.cnb_export.specs.declared.exported.ExportFrame.{ExportFrame}
@@ -90,12 +90,12 @@ exports_image words analyzed group = do
   frame ← gives exporting.cause_of (Ok (export_frame words))
   exports frame group analyzed
 
--- the image is exported, the text is made, and the image's document is written last
+-- the image is exported, the text is made, and the image's document is written last, with bytes that read as the image
 unfoldable pub leaves_image : CreateWords → Phases → WorldAndCaches → Result (List ℕ) CreateRefusal → WorldAndCaches → Type 0
 leaves_image words phases = do
   exported ← map_err Export (exports_image words phases.analyzed phases.group)
   text ← gives cause_of (Ok (created_text words.image phases exported))
-  saved ← in_world (map_err Export (saves_image words.store words.image exported.image))
+  saved ← in_world (map_err Export (saves_readable_image words.store words.image exported.image))
   yields text
 
 abbrev pub phases_of : Analyzed → Choice → Restored → Phases

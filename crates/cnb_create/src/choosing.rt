@@ -2,6 +2,7 @@
 ghost use Rattle.std.specs.Prelude.{◌<◌, IfOk, IsTrue, length};
 ghost use Rattle.cnb_detect.specs.Choice.{as_choice};
 ghost use Rattle.cnb_words.specs.Detect.{KeepsLimits};
+ghost use Rattle.run_docs.specs.Group.{is_group_doc};
 ghost use Rattle.run_docs.specs.Plan.{is_plan_doc};
 ghost use Rattle.steps.specs.Causes.{CountsFiles};
 ghost use Rattle.steps.specs.Outside.{faults_of, outside, spawners_seen};
@@ -34,6 +35,7 @@ pub(crate) fn choose<W: World, S: Spawner + Send, R: Threads + Sync>(
         (outside W.World S.Spawner world.old spawners.old.items)
         (as_choice result)
         (outside W.World S.Spawner world.new spawners.new.items) }
+    ensures group { IfOk result (λ chosen. IsTrue (is_group_doc chosen.group)) }
     ensures plan { IfOk result (λ chosen. IsTrue (is_plan_doc chosen.plan)) }
     ensures files { CountsFiles cause_of result (W.file_faults world.old) (W.file_faults world.new) }
     ensures children { CountsEither cause_of result

@@ -1,6 +1,7 @@
 // The command `create`.
-ghost use Rattle.std.specs.Prelude.{◌<◌, ◌^◌, IsTrue, OnErr, length, map};
+ghost use Rattle.std.specs.Prelude.{◌<◌, ◌^◌, IsTrue, OnErr, OnOk, length, map};
 ghost use Rattle.cnb_words.specs.Create.{KeepsLimits};
+ghost use Rattle.image_files.specs.Images.{ImageStands};
 ghost use Rattle.shelf_set.specs.Caches.{caches_of};
 ghost use Rattle.shelf_set.specs.Dropping.{AreStanding};
 ghost use Rattle.steps.specs.Causes.{CountsFiles};
@@ -64,6 +65,8 @@ pub fn create_command<W: World, S: Spawner + Send, R: Threads + Sync>(
     // build children left it.
     ensures image { OnErr result (IsTrue (is_image_apart options.now) →
         Keeps (image_document options.now) (seen W.World world.old) (seen W.World world.new)) }
+    // Where it isn't, the image's document stands and can be read.
+    ensures stands { OnOk result (ImageStands options.now.store options.now.image (W.tree world.new)) }
     ensures again { AreStanding places.new
         (map (λ s. shelf_seen (⟦<dyn Shelf as Shelf>⟧ s.vtable) s.value) shelves.new.items) }
     ensures files { CountsFiles cause_of result (W.file_faults world.old) (W.file_faults world.new) }

@@ -1,9 +1,10 @@
 // The export of the image, and its document.
-ghost use Rattle.std.specs.Prelude.{◌≡◌, ℕ, List as Seq, IfOk, map};
-ghost use Rattle.cnb_export.specs.Command.{saves_image};
+ghost use Rattle.std.specs.Prelude.{◌≡◌, ℕ, List as Seq, IfOk, IsTrue, map};
 ghost use Rattle.cnb_export.specs.Frame as frames;
 ghost use Rattle.cnb_export.specs.Refusals as exporting;
 ghost use Rattle.cnb_words.specs.Create.{KeepsLimits};
+ghost use Rattle.image_docs.specs.Image.{is_image_doc};
+ghost use Rattle.run_docs.specs.Group.{is_group_doc};
 ghost use Rattle.shelf_set.specs.Caches.{caches_of, world_and_caches};
 ghost use Rattle.shelf_set.specs.Dropping.{AreStanding};
 ghost use Rattle.shelf_set.specs.ShelfState.{state_of};
@@ -53,6 +54,7 @@ fn export_image<W: World>(
         (caches_of (map (λ s. state_of (held s) (rows s) (faults s)) shelves.old.items) places.old)) result
         (world_and_caches (seen W.World world.new)
         (caches_of (map (λ s. state_of (held s) (rows s) (faults s)) shelves.new.items) places.new)) }
+    ensures readable { IsTrue (is_group_doc phases.now.group) → IfOk result (λ exported. IsTrue (is_image_doc exported.image)) }
     ensures again { AreStanding places.new (map (λ s. state_of (held s) (rows s) (faults s)) shelves.new.items) }
     ensures files { CountsFiles exporting.cause_of result (W.file_faults world.old) (W.file_faults world.new) }
     ensures children { CountsChildren exporting.cause_of result (W.child_faults world.old) (W.child_faults world.new) }
@@ -81,6 +83,7 @@ pub(crate) fn leave_image<W: World>(
 ) -> Result<Text, CreateRefusal>
     requires limits { KeepsLimits options.now }
     requires standing { AreStanding places.old (map (λ s. state_of (held s) (rows s) (faults s)) shelves.old.items) }
+    requires group { IsTrue (is_group_doc phases.now.group) }
     ensures steps { leaves_image options.now phases.now
         (world_and_caches (seen W.World world.old)
         (caches_of (map (λ s. state_of (held s) (rows s) (faults s)) shelves.old.items) places.old)) result

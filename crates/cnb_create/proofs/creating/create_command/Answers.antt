@@ -7,6 +7,7 @@ use Rattle.cnb_create.specs.Refusals.{cause_of}
 use Rattle.cnb_create.proofs.CountLemmas.{either_after, files_after}
 use Rattle.cnb_create.proofs.CreateLaws.{refused_keeps}
 use Rattle.cnb_create.proofs.OutcomeLaws.{comes_to_choice}
+use Rattle.cnb_create.proofs.StandLaws.{created_stands}
 use Rattle.cnb_create.proofs.SurroundingLemmas.{leaves_as, with_caches, with_outside, with_world}
 use Rattle.cnb_create.proofs.creating.create_command.Goals as goal
 
@@ -109,3 +110,6 @@ returns-clause-files g c = files_after cause_of _ _ _ _ (c.in_ok-build_group.ens
 pub returns-clause-children : goal.returns-clause-children
 returns-clause-children g c =
     either_after cause_of _ _ _ _ _ _ _ ((c.in_ok-build_group.ensures.children []).0 ∙ (c.in_ok-restored.ensures.children []).0 ∙ c.in_ok-chosen.ensures.children.0 ∙ (c.in_ok-analyzed.ensures.children []).0) c.in_ok-chosen.ensures.children.1 (c.leave_image.ensures.children _)
+
+pub returns-clause-stands : goal.returns-clause-stands
+returns-clause-stands g c = created_stands c.args.options.now c.args.env.now _ _ _ (returns-clause-steps g c)

@@ -2,6 +2,7 @@ use Rattle.std.proofs.Common.{ap, refl, sym, Ok}
 use Rattle.std.proofs.lemmas.Result.{err_from_is_err_and}
 use Rattle.steps.proofs.StepLemmas.{ended, given, mapped, mapped_fault, no_memory, went, yielded}
 use Rattle.shelf_set.proofs.CacheLemmas.{within}
+use Rattle.cnb_export.proofs.CommandLaws.{saved_readable}
 use Rattle.cnb_export.specs.Refusals as exporting
 use Rattle.cnb_create.specs.Creates.{leaves_image}
 use Rattle.cnb_create.specs.declared.refusal.CreateRefusal.{CreateRefusal}
@@ -25,12 +26,12 @@ pub returns-in_err-save_image-clause-steps : goal.returns-in_err-save_image-clau
 unfolding leaves_image
 returns-in_err-save_image-clause-steps g c =
     let exit = err_from_is_err_and c.from_residual-in_err-save_image.result c.from_residual-in_err-save_image.ensures.1 in
-    rw (exit.1, exit.2) (went _ _ _ _ _ _ _ (mapped Export _ _ _ _ c.in_ok-exported.ensures.steps) (went _ _ _ _ _ _ _ (given _ _ _ _ (ap Ok (sym c.in_ok-text.ensures))) (ended _ _ _ _ _ (within _ _ _ _ _ (mapped_fault Export _ _ _ _ c.in_err-save_image.ensures.step)))))
+    rw (exit.1, exit.2) (went _ _ _ _ _ _ _ (mapped Export _ _ _ _ c.in_ok-exported.ensures.steps) (went _ _ _ _ _ _ _ (given _ _ _ _ (ap Ok (sym c.in_ok-text.ensures))) (ended _ _ _ _ _ (within _ _ _ _ _ (mapped_fault Export _ _ _ _ (saved_readable _ _ _ _ _ _ (c.in_ok-exported.ensures.readable c.requires.group) c.in_err-save_image.ensures.step))))))
 
 pub returns-clause-steps : goal.returns-clause-steps
 unfolding leaves_image
 returns-clause-steps g c =
-    went _ _ _ _ _ _ _ (mapped Export _ _ _ _ c.in_ok-exported.ensures.steps) (went _ _ _ _ _ _ _ (given _ _ _ _ (ap Ok (sym c.in_ok-text.ensures))) (went _ _ _ _ _ _ _ (within _ _ _ _ _ (mapped Export _ _ _ _ c.in_ok-save_image.ensures.step)) (yielded CreateRefusal _ _)))
+    went _ _ _ _ _ _ _ (mapped Export _ _ _ _ c.in_ok-exported.ensures.steps) (went _ _ _ _ _ _ _ (given _ _ _ _ (ap Ok (sym c.in_ok-text.ensures))) (went _ _ _ _ _ _ _ (within _ _ _ _ _ (mapped Export _ _ _ _ (saved_readable _ _ _ _ _ _ (c.in_ok-exported.ensures.readable c.requires.group) c.in_ok-save_image.ensures.step))) (yielded CreateRefusal _ _)))
 
 pub returns-in_err-exported-clause-children : goal.returns-in_err-exported-clause-children
 returns-in_err-exported-clause-children g c =
