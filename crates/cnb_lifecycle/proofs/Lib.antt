@@ -6,4 +6,5 @@ pub mod SinkLemmas
 pub mod PhaseLemmas
 pub mod NumberLemmas
 pub mod TellingLemmas
+pub mod LeaveLemmas
 mod LineLemmas

@@ -2,6 +2,7 @@ pub mod Commands
 pub mod Ends
 pub mod Faults
 pub mod Keeping
+pub mod Leaving
 pub mod Printing
 pub mod Refusal
 pub mod Report

@@ -12,6 +12,7 @@ ghost use Rattle.cnb_lifecycle.specs.Commands.{after_words, asked_of, command_in
 ghost use Rattle.cnb_lifecycle.specs.Ends.{CauseOfChild, CauseOfFile, CountsChild, Ends};
 ghost use Rattle.cnb_lifecycle.specs.Faults.{cause_of, of_detect};
 ghost use Rattle.cnb_lifecycle.specs.Keeping.{KeepsCreated, OnRefusal};
+ghost use Rattle.cnb_lifecycle.specs.Leaving.{LeavesImage, OnDone};
 ghost use Rattle.cnb_lifecycle.specs.Printing.{CountsOutput};
 ghost use Rattle.cnb_create.specs.Outcome.{ComesToChoice};
 ghost use Rattle.cnb_create.specs.Surroundings.{over_outside, shelf_seen, surroundings};
@@ -223,6 +224,9 @@ pub fn lifecycle<W: World, S: Spawner + Send, O: Sink, R: Threads + Sync>(
     // build children left it.
     ensures image { On (options_in options_of_create (command_in (map string_bytes words.now) env.now)) (λ options.
         OnRefusal result (KeepsCreated options (seen W.World world.old) (seen W.World world.new))) }
+    // Where `export`, `create`, `rebase` or `base` is done, the document that it wrote stands and can be read.
+    ensures stands { On (asked_of (command_in (map string_bytes words.now) env.now)) (λ asked.
+        OnDone result (LeavesImage asked (W.tree world.new))) }
 
     // Each failure of the outside is counted, and told by the status.
     ensures files { CauseOfFile result (W.file_faults world.old) (W.file_faults world.new) }

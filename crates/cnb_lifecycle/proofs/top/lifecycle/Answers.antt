@@ -11,6 +11,7 @@ use Rattle.cnb_lifecycle.specs.declared.answer.Answer.TheVariants.{Printed}
 use Rattle.cnb_lifecycle.proofs.CauseLemmas.{cause_of_child, cause_of_file}
 use Rattle.cnb_lifecycle.proofs.EndLemmas.{ends, stood}
 use Rattle.cnb_lifecycle.proofs.KeepLemmas.{refused_each}
+use Rattle.cnb_lifecycle.proofs.LeaveLemmas.{leaves_image}
 use Rattle.cnb_lifecycle.proofs.top.lifecycle.Goals as goal
 
 pub returns-clause-refused : goal.returns-clause-refused
@@ -37,3 +38,6 @@ returns-clause-children g c = cause_of_child _ _ _ _ _ _ _ _ c.finish.ensures.fi
 
 pub returns-clause-image : goal.returns-clause-image
 returns-clause-image g c = refused_each _ _ _ _ _ _ c.finish.ensures.finishes c.run_words-end.ensures.image
+
+pub returns-clause-stands : goal.returns-clause-stands
+returns-clause-stands g c = leaves_image _ c.args.env.now _ _ _ _ _ _ (returns-clause-does g c)
