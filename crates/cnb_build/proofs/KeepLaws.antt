@@ -25,7 +25,8 @@ use Rattle.cnb_build.specs.declared.places.Places.{Places}
 use Rattle.cnb_build.specs.Builds.{builds, builds_one, closes, nothing_built, prepares, reads_left, runs_build, with_layers}
 use Rattle.cnb_build.specs.Descriptor.{clears_in, reads_descriptor}
 use Rattle.cnb_build.specs.Job.{build_job, passed_by}
-use Rattle.cnb_build.specs.Layers.{found_with, layers_among, names_if, reads_layer, reads_layers, reads_names}
+use Rattle.layer_paths.specs.Names.{layers_among}
+use Rattle.cnb_build.specs.Layers.{found_with, names_if, reads_layer, reads_layers, reads_names}
 use Rattle.cnb_build.specs.Outcome.{spares}
 use Rattle.cnb_build.specs.Places.{places_of}
 use Rattle.cnb_build.specs.Plan.{pending_after, plan_for}

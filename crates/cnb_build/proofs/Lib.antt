@@ -5,4 +5,3 @@ pub mod OutcomeLaws
 pub mod PlaceLemmas
 pub mod PlanLemmas
 pub mod PlanRead
-pub mod StemLemmas

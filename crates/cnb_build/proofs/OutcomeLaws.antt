@@ -34,7 +34,9 @@ use Rattle.cnb_build.specs.declared.places.Places.{Places}
 use Rattle.cnb_build.specs.Builds.{builds, builds_one, closes, nothing_built, prepares, reads_left, runs_build, with_layers}
 use Rattle.cnb_build.specs.Descriptor.{clears_in, reads_descriptor}
 use Rattle.cnb_build.specs.Job.{build_job, files_for}
-use Rattle.cnb_build.specs.Layers.{document_of, found_with, layers_among, names_if, reads_layer, reads_layers, reads_names}
+use Rattle.layer_paths.specs.Names.{layers_among}
+use Rattle.layer_paths.specs.Paths.{layer_document}
+use Rattle.cnb_build.specs.Layers.{found_with, names_if, reads_layer, reads_layers, reads_names}
 use Rattle.cnb_build.specs.Outcome.{AreRunsOf, IsRunOf, RanAll, RunsBuilds, built_at, clears_at, found_at, layer_at, layers_at, layers_behind, left_at, left_by, names_unless, pending_at, read_as}
 use Rattle.cnb_build.specs.Places.{places_of}
 use Rattle.cnb_build.specs.Plan.{pending_after, plan_for}
@@ -119,8 +121,8 @@ says_names folder =
 says_layer : (folder layer : List ℕ) (found : List (List ℕ)) → OnlySays (layer_at folder layer found) (reads_layer folder layer found)
 unfolding reads_layer
 says_layer folder layer found =
-    says_then (λ files. with_fault of_read_fault (contents_of (item_at files (document_of folder layer)))) (λ document files. found_with folder layer found document) _ (λ document. gives cause_of (found_with folder layer found document))
-    (says_files (λ files. true) (λ files. with_fault of_read_fault (contents_of (item_at files (document_of folder layer))))) (λ document. says_known (found_with folder layer found document))
+    says_then (λ files. with_fault of_read_fault (contents_of (item_at files (layer_document folder layer)))) (λ document files. found_with folder layer found document) _ (λ document. gives cause_of (found_with folder layer found document))
+    (says_files (λ files. true) (λ files. with_fault of_read_fault (contents_of (item_at files (layer_document folder layer))))) (λ document. says_known (found_with folder layer found document))
 
 says_each : (folder : List ℕ) (layers found : List (List ℕ)) → OnlySays (layers_behind folder layers found) (for_each (reads_layer folder) layers found)
 unfolding for_each

@@ -14,12 +14,6 @@ use Rattle.cnb_env.specs.Layers.{AreShort, IsShort}
 use Rattle.cnb_world.proofs.Lengths.{length_joined, part_within}
 use Rattle.cnb_env.proofs.PlanNameLemmas.{long_part, part_bytes}
 
--- the folder of a buildpack's layers
-pub layers_short : (layers folder : List ℕ) → length layers ≤ 4096 → IsTrue (is_part folder) → length (joined layers folder) ≤ 4352
-layers_short layers folder short part =
-    let few : length folder ≤ 255 = part_within folder part in
-    omega (arith, length_joined layers folder)
-
 -- a file of a folder isn't `/`
 pub no_root : (folder name : List ℕ) → 1 < length name → is_root (joined folder name) ≡ false
 no_root folder name long =
@@ -31,21 +25,6 @@ pub beside_plan : (folder name : List ℕ) → is_path folder ≡ true → lengt
 beside_plan folder name path short part =
     let few : length (beside name) ≤ 255 = part_within (beside name) part in
     path_beside_file folder name path part (omega (arith, length_joined folder (beside name)))
-
--- the document of a layer is a file of a folder
-pub document_is_part : (layer : List ℕ) → IsTrue (is_layer_name layer) → IsTrue (is_part layer) → IsTrue (is_part (layer ++ codes ".toml"))
-document_is_part layer named part =
-    let (most, free) = and_parts (nat_le (length layer) 200 && is_part layer) (not (is_reserved_layer layer)) named in
-    let (few, again) = and_parts (nat_le (length layer) 200) (is_part layer) most in
-    let short : length layer ≤ 200 = leb-true (length layer) 200 few in
-    let whole : length (layer ++ codes ".toml") ≡ length layer + 5 = length-append layer (codes ".toml") in
-    let bytes : list_all is_part_byte (layer ++ codes ".toml") ≡ true = rw (list_all-append is_part_byte layer (codes ".toml"), part_bytes layer part) refl in
-    long_part (layer ++ codes ".toml") (omega arith) (omega arith) bytes
-
-pub layer_short : (folder name : List ℕ) → length folder ≤ 4352 → IsTrue (is_part name) → length (joined folder name) ≤ 8192
-layer_short folder name short part =
-    let few : length name ≤ 255 = part_within name part in
-    omega (arith, length_joined folder name)
 
 -- layers that leave room, and buildpacks' sets of such
 pub no_layers_short : AreShort []

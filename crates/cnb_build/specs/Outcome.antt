@@ -27,7 +27,9 @@ use Rattle.cnb_build.specs.declared.places.Places.{Places}
 use Rattle.cnb_build.specs.Builds.{nothing_built, with_layers}
 use Rattle.cnb_build.specs.Descriptor.{clears_in}
 use Rattle.cnb_build.specs.Job.{build_job, files_for}
-use Rattle.cnb_build.specs.Layers.{document_of, found_with, layers_among}
+use Rattle.layer_paths.specs.Names.{layers_among}
+use Rattle.layer_paths.specs.Paths.{layer_document}
+use Rattle.cnb_build.specs.Layers.{found_with}
 use Rattle.cnb_build.specs.Places.{places_of}
 use Rattle.cnb_build.specs.Plan.{pending_after, plan_for}
 use Rattle.cnb_build.specs.Reading.{value_at}
@@ -54,7 +56,7 @@ names_unless folder false files = with_fault of_read_fault (names_at files folde
 -- a layer's document, behind those of others
 abbrev pub layer_at : List ℕ → List ℕ → List (List ℕ) → Tree → Result (List (List ℕ)) BuildFault
 layer_at folder layer found files =
-    with_fault of_read_fault (contents_of (item_at files (document_of folder layer))) >>= found_with folder layer found
+    with_fault of_read_fault (contents_of (item_at files (layer_document folder layer))) >>= found_with folder layer found
 
 abbrev pub layers_behind : List ℕ → List (List ℕ) → List (List ℕ) → Tree → Result (List (List ℕ)) BuildFault
 layers_behind folder [] found files = Ok found

@@ -2,15 +2,11 @@
 use Rattle.std.specs.Prelude.{ℕ, ◌≡◌, ◌≤◌, false, IsTrue, List, codes, length}
 use Rattle.cnb_world.specs.Path.{beside, is_path, joined}
 use Rattle.cnb_world.specs.Tree.{is_root}
-use Rattle.cnb_toml.specs.Names.{folder_of}
 use Rattle.cnb_toml.specs.declared.names.Key.{Key}
 use Rattle.cnb_env.specs.Buildpack.{buildpack_folder, plan_name_of}
+use Rattle.layer_paths.specs.Paths.{layers_folder}
 use Rattle.cnb_build.specs.declared.frame.BuildFrame.{BuildFrame}
 use Rattle.cnb_build.specs.declared.places.Places.{Places}
-
--- the folder of a buildpack's layers (buildpack.md, "Layers Directory")
-abbrev pub layers_folder : BuildFrame → Key → List ℕ
-layers_folder frame key = joined frame.layers (folder_of key.id)
 
 -- the file of its Buildpack Plan
 abbrev pub plan_path : BuildFrame → Key → List ℕ
@@ -20,11 +16,11 @@ abbrev pub places_of : BuildFrame → Key → Places
 places_of frame key = record {
   buildpack = buildpack_folder frame.buildpacks key;
   descriptor = joined (buildpack_folder frame.buildpacks key) (codes "buildpack.toml");
-  layers = layers_folder frame key;
+  layers = layers_folder frame.layers key.id;
   plan = plan_path frame key;
-  unmet = joined (layers_folder frame key) (codes "build.toml");
-  launch = joined (layers_folder frame key) (codes "launch.toml");
-  store = joined (layers_folder frame key) (codes "store.toml");
+  unmet = joined (layers_folder frame.layers key.id) (codes "build.toml");
+  launch = joined (layers_folder frame.layers key.id) (codes "launch.toml");
+  store = joined (layers_folder frame.layers key.id) (codes "store.toml");
 }
 
 -- the folders of a frame have at most 4,096 bytes

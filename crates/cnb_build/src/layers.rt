@@ -5,20 +5,21 @@ ghost use Rattle.cnb_env.specs.Contents.{contents_of};
 ghost use Rattle.cnb_env.specs.Files.{is_absent};
 ghost use Rattle.cnb_env.specs.Layers.{AreShort};
 ghost use Rattle.doc_files.specs.Reading.{names_at};
+ghost use Rattle.layer_paths.specs.Paths.{layer_document};
 ghost use Rattle.steps.specs.Causes.{CountsChildren, CountsFiles, IsAnswer, IsGivenCause};
 ghost use Rattle.steps.specs.Each.{for_each};
 ghost use Rattle.steps.specs.Outside.{seen};
-ghost use Rattle.cnb_build.specs.Layers.{document_of, found_with, reads_layer, reads_layers, reads_names, with_layer};
+ghost use Rattle.cnb_build.specs.Layers.{found_with, reads_layer, reads_layers, reads_names, with_layer};
 ghost use Rattle.cnb_build.specs.Reading.{reads_files};
 ghost use Rattle.cnb_build.specs.Refusals.{cause_of};
 
 use crate::fault::BuildFault;
-use crate::layer_names::layers_among;
 use crate::reading::value_at;
 use cnb_env::{LayerSet, contents};
 use cnb_toml::LayerName;
 use cnb_world::{Bytes, Kind, List, Memory, Path, Text, World};
 use doc_files::{blamed, list_names};
+use layer_paths::{contents_path, layer_document, layers_among};
 use run_docs::{LayerDoc, read_layer};
 use std::alloc::Global;
 
@@ -69,17 +70,7 @@ fn read_names<W: World>(
     Ok(names)
 }
 
-#[tactic(auto, using(crate::proofs::PlaceLemmas::document_is_part))]
-fn document_of(alloc: Global, folder: &Path, layer: &LayerName) -> Result<Path, Memory>
-    requires { length folder.now ≤ 4352 }
-    ensures { IfOk result (λ path. path ≡ document_of folder.now layer.now) }
-{
-    let mut name = String::from_str(alloc, layer.as_str())?;
-    name.push_str(".toml")?;
-    folder.below(alloc, name.as_str())
-}
-
-#[tactic(auto, using(crate::proofs::PlaceLemmas::layer_short, crate::proofs::PlaceLemmas::more_layers_short))]
+#[tactic(auto, using(crate::proofs::PlaceLemmas::more_layers_short))]
 fn with_layer(
     alloc: Global,
     folder: &Path,
@@ -93,7 +84,7 @@ fn with_layer(
     ensures short { IfOk result AreShort }
 {
     if doc.build {
-        found.push(folder.below(alloc, layer.as_str())?)?;
+        found.push(contents_path(alloc, folder, layer)?)?;
     }
     Ok(found)
 }
@@ -107,7 +98,7 @@ fn found_with(
     document: Option<Bytes>,
 ) -> Result<LayerSet, BuildFault>
     requires folder { length folder.now ≤ 4352 }
-    requires path { path.now ≡ document_of folder.now layer.now }
+    requires path { path.now ≡ layer_document folder.now layer.now }
     requires short { AreShort found }
     ensures answer { IsAnswer cause_of result (found_with folder.now layer.now found document) }
     ensures cause { IfErr result (λ fault. IsGivenCause (cause_of fault)) }
@@ -153,7 +144,7 @@ fn read_layer_at<W: World>(
     ensures children { CountsChildren cause_of result (W.child_faults world.old) (W.child_faults world.new) }
     ensures short { IfOk result AreShort }
 {
-    let path = document_of(alloc, folder, layer)?;
+    let path = layer_document(alloc, folder, layer)?;
     let document = regular_file(alloc, world, &path)?;
     let all = found_with(alloc, folder, layer, found, &path, document)?;
     Ok(all)

@@ -10,7 +10,6 @@ mod frame;
 mod given;
 mod group;
 mod job;
-mod layer_names;
 mod layers;
 mod leaving;
 mod one;

@@ -1,13 +1,14 @@
 // Where the files of a buildpack's build stand.
-ghost use Rattle.std.specs.Prelude.{◌≡◌, ◌≤◌, IfOk, IsTrue, false, length};
+ghost use Rattle.std.specs.Prelude.{◌≡◌, IfOk, IsTrue, false};
 ghost use Rattle.cnb_world.specs.Path.{beside, is_path};
 ghost use Rattle.cnb_world.specs.Tree.{is_root};
-ghost use Rattle.cnb_build.specs.Places.{HasRoom, KeepsLimits, layers_folder, places_of, plan_path};
+ghost use Rattle.cnb_build.specs.Places.{HasRoom, KeepsLimits, places_of, plan_path};
 
 use crate::frame::BuildFrame;
 use cnb_env::{buildpack_folder, plan_name};
 use cnb_toml::Key;
 use cnb_world::{Memory, Path};
+use layer_paths::layers_folder;
 use std::alloc::Global;
 
 /// The folder of a buildpack's version and its descriptor, the folder of its layers, its Buildpack Plan, and the
@@ -21,16 +22,6 @@ pub(crate) struct Places {
     pub(crate) unmet: Path,
     pub(crate) launch: Path,
     pub(crate) store: Path,
-}
-
-#[tactic(auto, using(crate::proofs::PlaceLemmas::layers_short))]
-fn layers_folder(alloc: Global, frame: &BuildFrame, key: &Key) -> Result<Path, Memory>
-    requires { KeepsLimits frame.now }
-    ensures folder { IfOk result (λ folder. folder ≡ layers_folder frame.now key.now) }
-    ensures short { IfOk result (λ folder. length folder ≤ 4352) }
-{
-    let name = key.id.folder(alloc)?;
-    frame.layers.below(alloc, name.as_str())
 }
 
 #[tactic(auto, using(crate::proofs::PlaceLemmas::beside_plan, crate::proofs::PlaceLemmas::no_root, cnb_world::proofs::Lengths::length_joined))]
@@ -52,7 +43,7 @@ pub(crate) fn places_of(alloc: Global, frame: &BuildFrame, key: &Key) -> Result<
     ensures room { IfOk result HasRoom }
 {
     let buildpack = buildpack_folder(alloc, &frame.buildpacks, key)?;
-    let layers = layers_folder(alloc, frame, key)?;
+    let layers = layers_folder(alloc, &frame.layers, &key.id)?;
     let plan = plan_path(alloc, frame, key)?;
     Ok(Places {
         descriptor: buildpack.below(alloc, "buildpack.toml")?,

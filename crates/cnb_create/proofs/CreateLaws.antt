@@ -15,7 +15,8 @@ use Rattle.cnb_world.proofs.Folders.{get-folder_made_longer, longer_beside, pare
 use Rattle.cnb_world.proofs.EffectLemmas.{same_path}
 use Rattle.cnb_build.specs.declared.frame.BuildFrame.{BuildFrame}
 use Rattle.cnb_build.specs.Outcome.{spares}
-use Rattle.cnb_build.specs.Places.{layers_folder, plan_path}
+use Rattle.cnb_build.specs.Places.{plan_path}
+use Rattle.layer_paths.specs.Paths.{layers_folder}
 use Rattle.cnb_build.specs.Refusals as building
 use Rattle.cnb_build.proofs.KeepLaws.{keeps_builds}
 use Rattle.cnb_detect.specs.Choice.{Choice}
@@ -94,7 +95,7 @@ all_spared : (path : List ℕ) (frame : BuildFrame) (group : List GroupRow) → 
 all_spared path frame [] plans layers = refl
 all_spared path frame (row ∷ group) plans layers =
     and_from (spares path frame row) (list_all (spares path frame) group)
-    (and_from _ _ (free_folder frame.layers path layers (layers_folder frame row.key) (inside_joined frame.layers _ (folder_not_root frame.layers path layers)))
+    (and_from _ _ (free_folder frame.layers path layers (layers_folder frame.layers row.key.id) (inside_joined frame.layers _ (folder_not_root frame.layers path layers)))
     (free_document (joined frame.work (codes "plans")) path plans (plan_path frame row.key) (inside_joined (joined frame.work (codes "plans")) _ (folder_not_root (joined frame.work (codes "plans")) path plans))))
     (all_spared path frame group plans layers)
 

@@ -23,7 +23,8 @@ use Rattle.cnb_export.specs.Exports.{exports, gains}
 use Rattle.cnb_export.specs.Gathering.{exports_found, exports_layer, exports_some, nothing_gathered}
 use Rattle.cnb_export.specs.Images.{reads_layers, reads_previous}
 use Rattle.cnb_export.specs.Layer.{finds_contents, finds_layer, finds_some, keeps_tree, looks_for_contents, reads_layer, some_of, takes_found, takes_if, takes_tree, there_by}
-use Rattle.cnb_export.specs.Names.{layers_among, lists_unless, reads_layer_names, reads_names}
+use Rattle.layer_paths.specs.Names.{layers_among}
+use Rattle.cnb_export.specs.Names.{lists_unless, reads_layer_names, reads_names}
 use Rattle.cnb_export.specs.Reading.{reads_as, reads_some}
 use Rattle.cnb_export.specs.Refusals.{cause_of, of_image_fault}
 use Rattle.cnb_export.specs.Settling.{checks_reused, decision_of, looks_for_stored, reuses, row_of, settles_by}

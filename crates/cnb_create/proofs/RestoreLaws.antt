@@ -14,7 +14,7 @@ use Rattle.cnb_world.specs.Path.{joined}
 use Rattle.cnb_restore.specs.Faults.{cause_of, of_laying_fault}
 use Rattle.cnb_restore.specs.Layers.{lays_contents, writes_layer, writes_store}
 use Rattle.cnb_restore.specs.Images.{kept_for, store_of}
-use Rattle.cnb_restore.specs.Paths.{layers_folder}
+use Rattle.layer_paths.specs.Paths.{layers_folder}
 use Rattle.cnb_restore.specs.Restored.{after_search, gathered_first, with_layer}
 use Rattle.cnb_restore.specs.Restores.{listed, prepares_folder, restores, restores_buildpack, restores_contents, restores_document, restores_each, restores_found, restores_group, restores_laid, restores_layer, restores_layers, restores_part, restores_rows}
 use Rattle.cnb_restore.specs.Rows.{layer_names}

@@ -19,7 +19,8 @@ use Rattle.steps.specs.Steps.{◌>>=◌, gives, yields}
 use Rattle.cnb_export.specs.Buildpack.{defaults_of, one_default, reads_launch, reads_store}
 use Rattle.cnb_export.specs.Gathering.{exports_found, exports_layer, exports_some, with_kept}
 use Rattle.cnb_export.specs.Layer.{finds_contents, finds_layer, finds_some, reads_layer, takes_found}
-use Rattle.cnb_export.specs.Names.{layers_among, reads_layer_names, stem_of}
+use Rattle.layer_paths.specs.Names.{layers_among, stem_of}
+use Rattle.cnb_export.specs.Names.{reads_layer_names}
 use Rattle.cnb_export.specs.Reading.{reads_as, reads_some}
 use Rattle.cnb_export.specs.Settling.{decision_of, digest_of_contents, digest_or, kept_of, reuses, row_of, settles_by}
 use Rattle.cnb_export.specs.declared.exported.Gathered.{Gathered}

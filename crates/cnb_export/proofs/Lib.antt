@@ -6,9 +6,7 @@ pub mod FormLaws
 pub mod GatherLaws
 pub mod ImageLaws
 pub mod LeftLaws
-pub mod PathLemmas
 pub mod PlaceLaws
 pub mod ReadSteps
 pub mod StandLaws
-pub mod StemLemmas
 pub mod SettleLemmas

@@ -6,13 +6,13 @@ use Rattle.std.proofs.lemmas.List.{map-append, take_more}
 use Rattle.std.proofs.lemmas.List.Folds.{list_all-append}
 use Rattle.cnb_world.specs.Path.{is_part, is_path, is_short_path, joined}
 use Rattle.cnb_world.proofs.Joins.{file_is_path}
+use Rattle.cnb_world.proofs.Lengths.{length_joined, part_within}
 use Rattle.cnb_env.proofs.TypeLemmas.{type_is_part}
 use Rattle.cnb_toml.specs.Names.{folder_of, is_process_type}
 use Rattle.image_docs.specs.Row.{is_row}
 use Rattle.cnb_export.specs.Rows.{layer_place, layer_row}
 use Rattle.cnb_export.specs.declared.exported.ImageLayer.{ImageLayer}
 use Rattle.image_docs.specs.declared.layer_row.LayerRow.{LayerRow}
-use Rattle.cnb_export.proofs.PathLemmas.{length_joined, part_within}
 
 short_path : (path : List ℕ) → length path ≤ 4096 → is_path path ≡ true → is_short_path path ≡ true
 short_path path short is = and_from (nat_le (length path) 4096) (is_path path) (le-leb (length path) 4096 short) is

@@ -19,7 +19,7 @@ use Rattle.cnb_export.specs.declared.fault.ExportFault.{ExportFault}
 use Rattle.cnb_export.specs.declared.fault.ExportFault.TheVariants.{TwoDefaults}
 use Rattle.cnb_export.specs.Gathering.{exports_layer, nothing_gathered}
 use Rattle.cnb_export.specs.Names.{reads_layer_names}
-use Rattle.cnb_export.specs.Paths.{layers_folder}
+use Rattle.layer_paths.specs.Paths.{layers_folder}
 use Rattle.cnb_export.specs.Reading.{reads_as, reads_some}
 use Rattle.cnb_export.specs.Refusals.{cause_of}
 

@@ -17,7 +17,7 @@ use Rattle.cnb_export.specs.declared.fault.ExportFault.{ExportFault}
 use Rattle.cnb_export.specs.declared.fault.ExportFault.TheVariants.{Store}
 use Rattle.cnb_export.specs.declared.layer.LayerTree.{LayerTree}
 use Rattle.cnb_export.specs.declared.layer.FoundLayer.{FoundLayer}
-use Rattle.cnb_export.specs.Paths.{layer_document}
+use Rattle.layer_paths.specs.Paths.{layer_document}
 use Rattle.cnb_export.specs.Reading.{reads_files, reads_kind, some_value_at}
 use Rattle.cnb_export.specs.Refusals.{cause_of}
 

@@ -9,7 +9,6 @@ pub mod Image
 pub mod Images
 pub mod Layer
 pub mod Names
-pub mod Paths
 pub mod Processes
 pub mod Reading
 pub mod Refusals

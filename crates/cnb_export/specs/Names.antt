@@ -1,24 +1,14 @@
 -- The layers that have a document in a folder (buildpack.md, "Layer Content Metadata (TOML)").
-use Rattle.std.specs.Prelude.{ℕ, Bool, true, false, ◌-◌, List, [], codes, length, nat_eq, take, if◌then◌else◌, Option, Some, None, Result, Ok}
-use Rattle.std.specs.List.{ends_with, filter, filter_map}
+use Rattle.std.specs.Prelude.{ℕ, Bool, true, false, List, [], Result, Ok}
 use Rattle.cnb_world.specs.Tree.{can_list}
-use Rattle.cnb_toml.specs.Names.{is_layer_name}
 use Rattle.cnb_env.specs.Files.{is_absent}
 use Rattle.doc_files.specs.Reading.{names_at}
-use Rattle.plan_resolve.specs.Plan.{ascending}
+use Rattle.layer_paths.specs.Names.{layers_among}
 use Rattle.steps.specs.Outside.{Seen}
 use Rattle.steps.specs.Steps.{◌>>=◌, gives, yields}
 use Rattle.cnb_export.specs.declared.fault.ExportFault.{ExportFault}
 use Rattle.cnb_export.specs.Reading.{reads_files, reads_kind}
 use Rattle.cnb_export.specs.Refusals.{cause_of}
-
--- a name in front of `.toml`
-abbrev pub stem_of : List ℕ → Option (List ℕ)
-stem_of name = if ends_with nat_eq name (codes ".toml") then Some (take (length name - 5) name) else None
-
--- the layers that have a document among files of these names, ascending
-abbrev pub layers_among : List (List ℕ) → List (List ℕ)
-layers_among names = filter is_layer_name (ascending (filter_map stem_of names))
 
 abbrev pub lists : List ℕ → Seen → Result (List (List ℕ)) ExportFault → Seen → Type 0
 lists folder = reads_files (λ files. can_list files folder) (λ files. names_at files folder)

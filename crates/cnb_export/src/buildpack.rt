@@ -12,11 +12,11 @@ use crate::exported::{ExportFrame, Gathered};
 use crate::fault::ExportFault;
 use crate::gathering::{export_layer, nothing_gathered};
 use crate::names::read_layer_names;
-use crate::paths::layers_folder;
 use crate::reading::{read_launch_toml, read_store_toml};
 use cnb_toml::{BpId, LayerName};
 use cnb_world::{List, Memory, Path, World};
 use image_docs::{LayerRow, StoreRow};
+use layer_paths::layers_folder;
 use run_docs::{GroupRow, LaunchToml, StoreToml};
 use std::alloc::Global;
 

@@ -11,11 +11,11 @@ ghost use Rattle.tree_store.specs.declared.fault.StoreFault.TheVariants as store
 ghost use Rattle.cnb_export.specs.Refusals.{cause_of};
 
 use crate::fault::ExportFault;
-use crate::paths::{contents_path, layer_document};
 use crate::reading::{kind_at, value_at};
 use cnb_toml::{LayerName, Meta};
 use cnb_world::{Bytes, Kind, Path, World};
 use layer_flags::Flags;
+use layer_paths::{contents_path, layer_document};
 use run_docs::{LayerDoc, read_layer};
 use std::alloc::Global;
 use tree_canon::{Digest, Tree, encode};

@@ -7,11 +7,11 @@ ghost use Rattle.cnb_export.specs.Names.{lists, lists_unless, reads_layer_names,
 ghost use Rattle.cnb_export.specs.Refusals.{cause_of};
 
 use crate::fault::ExportFault;
-use crate::layer_names::layers_among;
 use crate::reading::kind_at;
 use cnb_toml::LayerName;
 use cnb_world::{Kind, List, Path, Text, World};
 use doc_files::list_names;
+use layer_paths::layers_among;
 use std::alloc::Global;
 
 fn list<W: World>(alloc: Global, world: &mut W, folder: &Path) -> Result<List<Text>, ExportFault>

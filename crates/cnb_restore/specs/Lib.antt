@@ -3,7 +3,6 @@ pub mod Commands
 pub mod Faults
 pub mod Images
 pub mod Layers
-pub mod Paths
 pub mod Report
 pub mod Restored
 pub mod Restores

@@ -20,7 +20,7 @@ use Rattle.cnb_restore.specs.declared.sources.Sources.{Sources}
 use Rattle.cnb_restore.specs.Analyzes.{is_fit_image, previous_in}
 use Rattle.cnb_restore.specs.Faults.{cause_of}
 use Rattle.cnb_restore.specs.Layers.{lays_contents, writes_layer, writes_store}
-use Rattle.cnb_restore.specs.Paths.{layers_folder}
+use Rattle.layer_paths.specs.Paths.{layers_folder}
 use Rattle.cnb_restore.specs.Images.{kept_for, layers_of, store_of}
 use Rattle.cnb_restore.specs.Restored.{after_search, gathered_first, with_layer}
 use Rattle.cnb_restore.specs.Rows.{layer_names, restored_part, row_of, rows_of, source_of}

@@ -9,10 +9,11 @@ ghost use Rattle.cnb_restore.specs.Layers.{ReadsAsLayer, ReadsAsStore, lays_cont
 
 use crate::fault::RestoreFault;
 use crate::folders::write_document;
-use crate::paths::{contents_path, document_name};
+use crate::paths::document_name;
 use cnb_toml::Meta;
 use cnb_world::{Bytes, Memory, Path, PathFault, World};
 use image_docs::{LayerRow, StoreRow};
+use layer_paths::contents_path;
 use run_docs::{LayerDoc, StoreToml, write_layer, write_store};
 use std::alloc::Global;
 use tree_canon::Tree;

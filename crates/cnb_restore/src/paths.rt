@@ -2,9 +2,7 @@
 ghost use Rattle.std.specs.Prelude.{◌≡◌, ◌≤◌, ◌<◌, ◌+◌, IfOk, IsTrue, length};
 ghost use Rattle.cnb_world.specs.Path.{beside, is_part, joined};
 ghost use Rattle.image_files.specs.Paths.{document_name};
-ghost use Rattle.cnb_restore.specs.Paths.{layers_folder};
 
-use cnb_toml::{BpId, LayerName};
 use cnb_world::{Memory, Path, Text};
 use std::alloc::Global;
 
@@ -22,29 +20,6 @@ pub(crate) fn document_name(alloc: Global, name: &str) -> Result<Text, Memory>
     let mut text = String::from_str(alloc, name)?;
     text.push_str(".toml")?;
     Ok(Text::from_string(text))
-}
-
-/// The folder of a buildpack's layers.
-#[tactic(auto, using(image_files::proofs::PathLemmas::length_joined, image_files::proofs::PathLemmas::part_within))]
-pub(crate) fn layers_folder(alloc: Global, layers: &Path, id: &BpId) -> Result<Path, Memory>
-    requires { length layers.now ≤ 4096 }
-    ensures path { IfOk result (λ path. path ≡ layers_folder layers.now id.now) }
-    ensures short { IfOk result (λ path. length path ≤ 4352) }
-{
-    let name = id.folder(alloc)?;
-    let path = layers.below(alloc, name.as_str())?;
-    Ok(path)
-}
-
-/// The folder of a layer's contents.
-#[tactic(auto, using(image_files::proofs::PathLemmas::length_joined, image_files::proofs::PathLemmas::part_within))]
-pub(crate) fn contents_path(alloc: Global, folder: &Path, layer: &LayerName) -> Result<Path, Memory>
-    requires { length folder.now ≤ 4352 }
-    ensures path { IfOk result (λ path. path ≡ joined folder.now layer.now) }
-    ensures short { IfOk result (λ path. length path ≤ 8192) }
-{
-    let path = folder.below(alloc, layer.as_str())?;
-    Ok(path)
 }
 
 /// A document of the work folder.

@@ -3,7 +3,7 @@ ghost use Rattle.std.specs.Prelude.{◌≡◌, IfOk, OnOk, ◌++◌, ◌∷◌, 
 ghost use Rattle.std.specs.List.{filter_map};
 ghost use Rattle.std.specs.Option.{option_copied};
 ghost use Rattle.cnb_toml.specs.Names.{is_layer_name};
-ghost use Rattle.cnb_build.specs.Layers.{layers_among, stem_of};
+ghost use Rattle.layer_paths.specs.Names.{layers_among, stem_of};
 
 use cnb_toml::{LayerName, NameFault};
 use cnb_world::{List, Memory, Text};
@@ -40,7 +40,7 @@ fn push_name(alloc: Global, names: &mut List<LayerName>, stem: &str) -> Result<(
 }
 
 /// The layers that have a document among files of these names, ascending by layer name.
-pub(crate) fn layers_among(alloc: Global, names: &List<Text>) -> Result<List<LayerName>, Memory>
+pub fn layers_among(alloc: Global, names: &List<Text>) -> Result<List<LayerName>, Memory>
     ensures { IfOk result (λ layers. layers ≡ layers_among names.now) }
 {
     let stems = ascending(alloc, stems(alloc, names.as_slice())?)?;

@@ -5,7 +5,7 @@ use Rattle.std.specs.Option.{option_copied}
 use Rattle.std.specs.Str.{IsCharBoundary}
 use Rattle.std.specs.Str.Pattern.{FindsTextSuffix, StripsSuffix}
 use Rattle.std.proofs.lemmas.Str.Pattern.{ends_text}
-use Rattle.cnb_build.specs.Layers.{stem_of}
+use Rattle.layer_paths.specs.Names.{stem_of}
 
 -- what is in front of a suffix that is stripped
 pub stem_is : (name : List ℕ) (found : Option (Bor (List ℕ))) → MatchOption found (FindsTextSuffix (codes ".toml") name None) (λ x. StripsSuffix (FindsTextSuffix (codes ".toml")) name x.now)
