@@ -32,7 +32,6 @@ use Rattle.run_docs.specs.Store.{is_store_toml, store_in}
 use Rattle.run_docs.specs.declared.group.GroupRow.{GroupRow}
 use Rattle.run_docs.specs.declared.launch.LaunchToml.{LaunchToml}
 use Rattle.run_docs.specs.declared.layer.LayerDoc.{LayerDoc}
-use Rattle.run_docs.specs.declared.layer.LayerTypes.{LayerTypes}
 use Rattle.run_docs.specs.declared.store.StoreToml.{StoreToml}
 use Rattle.steps.specs.Results.{and_then}
 use Rattle.cnb_export.specs.Reading.{some_value_at, value_at}
@@ -66,14 +65,14 @@ store_holds table = store_made (metadata_in table) (meta_holds table)
 pub store_readable : (bytes : List ℕ) (store : StoreToml) → store_in bytes ≡ Ok store → is_store_toml store ≡ true
 store_readable bytes store h = holds_of is_store_toml (store_in bytes) store (in_document store_doc.table_in is_store_toml store_holds bytes) h
 
-layer_made : (types : Result LayerTypes DocFault) (meta : Result Meta DocFault) → Holds is_kept meta
-    → Holds is_layer_doc (types >>= (λ t. meta >>= (λ m. Ok (record { launch = t.launch; build = t.build; cache = t.cache; meta = m }))))
-layer_made (Err fault) meta h = tt
-layer_made (Ok t) (Err fault) h = tt
-layer_made (Ok t) (Ok m) h = h
+layer_made : {T : Type 0} (types : Result T DocFault) (meta : Result Meta DocFault) (make : T → Meta → LayerDoc) → ((t : T) (m : Meta) → (make t m).meta ≡ m) → Holds is_kept meta
+    → Holds is_layer_doc (types >>= (λ t. meta >>= (λ m. Ok (make t m))))
+layer_made (Err fault) meta make same h = tt
+layer_made (Ok t) (Err fault) make same h = tt
+layer_made (Ok t) (Ok m) make same h = ap is_kept (same t m) ∙ h
 
 layer_holds : (table : Members) → Holds is_layer_doc (layer_doc.table_in table)
-layer_holds table = layer_made (value_or layer_doc.no_types (table_of layer_doc.types_in) (codes "types") table) (metadata_in table) (meta_holds table)
+layer_holds table = layer_made (value_or layer_doc.no_types (table_of layer_doc.types_in) (codes "types") table) (metadata_in table) _ (λ t m. refl) (meta_holds table)
 
 pub layer_readable : (bytes : List ℕ) (layer : LayerDoc) → layer_in bytes ≡ Ok layer → is_layer_doc layer ≡ true
 layer_readable bytes layer h = holds_of is_layer_doc (layer_in bytes) layer (in_document layer_doc.table_in is_layer_doc layer_holds bytes) h

@@ -5,7 +5,7 @@ use Rattle.cnb_build.proofs.places.places_of.Goals as goal
 pub returns-clause-places : goal.returns-clause-places
 returns-clause-places c =
     let buildpack = c.in_ok-buildpack.ensures.folder in
-    let layers = c.in_ok-layers.ensures.folder in
+    let layers = c.in_ok-layers.ensures.path in
     let descriptor = c.in_ok-below.ensures.0 ∙ ap (λ folder. joined folder (codes "buildpack.toml")) buildpack in
     let unmet = c.in_ok-below-2.ensures.0 ∙ ap (λ folder. joined folder (codes "build.toml")) layers in
     let launch = c.in_ok-below-3.ensures.0 ∙ ap (λ folder. joined folder (codes "launch.toml")) layers in
