@@ -1,18 +1,14 @@
 -- The places of a build are paths, and leave room.
-use Rattle.std.proofs.Common.{◌≡◌, refl, ◌+◌, ◌<◌, ◌≤◌, ℕ, true, false, not, cond, ◌&&◌, IsTrue, nat_le, List, [], ◌∷◌, ◌++◌, length, length-append, codes, arith}
-use Rattle.std.specs.List.{All, list_all}
+use Rattle.std.proofs.Common.{◌≡◌, ◌<◌, ◌≤◌, ℕ, true, false, cond, List, [], ◌∷◌, ◌++◌, length, length-append, arith}
+use Rattle.std.specs.List.{All}
 use Rattle.std.specs.Str.{bytes_eq}
-use Rattle.std.proofs.lemmas.Bool.{and_parts, leb-true}
 use Rattle.std.proofs.lemmas.List.Elements.{All-push}
-use Rattle.std.proofs.lemmas.List.Folds.{list_all-append}
-use Rattle.cnb_world.specs.Path.{beside, is_part, is_part_byte, is_path, joined}
+use Rattle.cnb_world.specs.Path.{beside, is_part, is_path, joined}
 use Rattle.cnb_world.specs.Tree.{is_root}
 use Rattle.cnb_world.proofs.Folders.{not_longer}
 use Rattle.cnb_world.proofs.Joins.{path_beside_file}
-use Rattle.cnb_toml.specs.Names.{is_layer_name, is_reserved_layer}
 use Rattle.cnb_env.specs.Layers.{AreShort, IsShort}
 use Rattle.cnb_world.proofs.Lengths.{length_joined, part_within}
-use Rattle.cnb_env.proofs.PlanNameLemmas.{long_part, part_bytes}
 
 -- a file of a folder isn't `/`
 pub no_root : (folder name : List ℕ) → 1 < length name → is_root (joined folder name) ≡ false
