@@ -1,4 +1,11 @@
+pub mod ChosenLemmas
+pub mod FoundLemmas
+pub mod NameLemmas
 pub mod Numbers
 pub mod OptionLemmas
 pub mod PathLemmas
+pub mod ReaderLemmas
+pub mod ReadingLaw
+pub mod RowLemmas
 pub mod TypeLemmas
+pub mod WalkLemmas

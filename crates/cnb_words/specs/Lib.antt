@@ -1,6 +1,7 @@
 pub mod Analyze
 pub mod Base
 pub mod Build
+pub mod Chosen
 pub mod Create
 pub mod Detect
 pub mod Drill
@@ -11,6 +12,7 @@ pub mod Launch
 pub mod OptionValues
 pub mod Options
 pub mod Program
+pub mod Reading
 pub mod Rebase
 pub mod Restore
 pub mod Show

@@ -1,11 +1,13 @@
 // The options of `analyze`.
-ghost use Rattle.std.specs.Prelude.{IfOk};
+ghost use Rattle.std.specs.Prelude.{IfOk, map, string_bytes};
+ghost use Rattle.std.specs.Option.{option_and_then};
 ghost use Rattle.cnb_words.specs.Faults.{Reads};
+ghost use Rattle.cnb_words.specs.Options.{options_in};
 ghost use Rattle.cnb_words.specs.Analyze.{analyze_in, KeepsLimits};
 
 use crate::fault::WordsFault;
 use crate::option_values::{image_of, optional_image_of, path_of};
-use crate::options::{Given, check_names};
+use crate::reading::read_options;
 use cnb_toml::ImageName;
 use cnb_world::Path;
 use std::alloc::Global;
@@ -19,16 +21,16 @@ pub struct AnalyzeWords {
     pub previous: Option<ImageName>,
 }
 
-/// What the options of `analyze` ask for.
-pub(crate) fn analyze_in(alloc: Global, options: &[Given]) -> Result<AnalyzeWords, WordsFault>
-    ensures reads { Reads result (analyze_in options.now) }
+/// What the words behind `analyze` ask for.
+pub(crate) fn analyze_in(alloc: Global, words: &[String]) -> Result<AnalyzeWords, WordsFault>
+    ensures reads { Reads result (option_and_then analyze_in (options_in (map string_bytes words.now))) }
     ensures limits { IfOk result KeepsLimits }
 {
-    check_names(options, &["--store", "--run", "--work", "--previous"], &[])?;
-    let store = path_of(alloc, options, "--store")?;
-    let run = image_of(alloc, options, "--run")?;
-    let work = path_of(alloc, options, "--work")?;
-    let previous = optional_image_of(alloc, options, "--previous")?;
+    let options = read_options(alloc, &["store", "run", "work", "previous"], &[], words)?;
+    let store = path_of(alloc, &options, "store")?;
+    let run = image_of(alloc, &options, "run")?;
+    let work = path_of(alloc, &options, "work")?;
+    let previous = optional_image_of(alloc, &options, "previous")?;
     Ok(AnalyzeWords {
         store,
         run,

@@ -1,11 +1,13 @@
 // The options of `base`.
-ghost use Rattle.std.specs.Prelude.{IfOk};
+ghost use Rattle.std.specs.Prelude.{IfOk, map, string_bytes};
+ghost use Rattle.std.specs.Option.{option_and_then};
 ghost use Rattle.cnb_words.specs.Faults.{Reads};
+ghost use Rattle.cnb_words.specs.Options.{options_in};
 ghost use Rattle.cnb_words.specs.Base.{base_in, KeepsLimits};
 
 use crate::fault::WordsFault;
 use crate::option_values::{image_of, path_of, target_of, trees_of};
-use crate::options::{Given, check_names};
+use crate::reading::read_options;
 use cnb_toml::ImageName;
 use cnb_world::{List, Path, Text};
 use std::alloc::Global;
@@ -20,21 +22,17 @@ pub struct BaseWords {
     pub trees: List<Path>,
 }
 
-/// What the options of `base` ask for.
-pub(crate) fn base_in(alloc: Global, options: &[Given]) -> Result<BaseWords, WordsFault>
-    ensures reads { Reads result (base_in options.now) }
+/// What the words behind `base` ask for.
+pub(crate) fn base_in(alloc: Global, words: &[String]) -> Result<BaseWords, WordsFault>
+    ensures reads { Reads result (option_and_then base_in (options_in (map string_bytes words.now))) }
     ensures limits { IfOk result KeepsLimits }
 {
-    check_names(
-        options,
-        &["--store", "--run", "--os", "--arch"],
-        &["--tree"],
-    )?;
-    let store = path_of(alloc, options, "--store")?;
-    let run = image_of(alloc, options, "--run")?;
-    let os = target_of(alloc, options, "--os")?;
-    let arch = target_of(alloc, options, "--arch")?;
-    let trees = trees_of(alloc, options)?;
+    let options = read_options(alloc, &["store", "run", "os", "arch"], &["tree"], words)?;
+    let store = path_of(alloc, &options, "store")?;
+    let run = image_of(alloc, &options, "run")?;
+    let os = target_of(alloc, &options, "os")?;
+    let arch = target_of(alloc, &options, "arch")?;
+    let trees = trees_of(alloc, &options)?;
     Ok(BaseWords {
         store,
         run,

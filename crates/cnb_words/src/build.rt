@@ -1,11 +1,13 @@
 // The options of `build`.
-ghost use Rattle.std.specs.Prelude.{IfOk};
+ghost use Rattle.std.specs.Prelude.{IfOk, map, string_bytes};
+ghost use Rattle.std.specs.Option.{option_and_then};
 ghost use Rattle.cnb_words.specs.Faults.{Reads};
+ghost use Rattle.cnb_words.specs.Options.{options_in};
 ghost use Rattle.cnb_words.specs.Build.{build_in, KeepsLimits};
 
 use crate::fault::WordsFault;
 use crate::option_values::path_of;
-use crate::options::{Given, check_names};
+use crate::reading::read_options;
 use cnb_world::Path;
 use std::alloc::Global;
 
@@ -19,21 +21,22 @@ pub struct BuildWords {
     pub layers: Path,
 }
 
-/// What the options of `build` ask for.
-pub(crate) fn build_in(alloc: Global, options: &[Given]) -> Result<BuildWords, WordsFault>
-    ensures reads { Reads result (build_in options.now) }
+/// What the words behind `build` ask for.
+pub(crate) fn build_in(alloc: Global, words: &[String]) -> Result<BuildWords, WordsFault>
+    ensures reads { Reads result (option_and_then build_in (options_in (map string_bytes words.now))) }
     ensures limits { IfOk result KeepsLimits }
 {
-    check_names(
-        options,
-        &["--buildpacks", "--app", "--platform", "--work", "--layers"],
+    let options = read_options(
+        alloc,
+        &["buildpacks", "app", "platform", "work", "layers"],
         &[],
+        words,
     )?;
-    let buildpacks = path_of(alloc, options, "--buildpacks")?;
-    let app = path_of(alloc, options, "--app")?;
-    let platform = path_of(alloc, options, "--platform")?;
-    let work = path_of(alloc, options, "--work")?;
-    let layers = path_of(alloc, options, "--layers")?;
+    let buildpacks = path_of(alloc, &options, "buildpacks")?;
+    let app = path_of(alloc, &options, "app")?;
+    let platform = path_of(alloc, &options, "platform")?;
+    let work = path_of(alloc, &options, "work")?;
+    let layers = path_of(alloc, &options, "layers")?;
     Ok(BuildWords {
         buildpacks,
         app,

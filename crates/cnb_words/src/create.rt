@@ -1,12 +1,15 @@
 // The options of `create`.
-ghost use Rattle.std.specs.Prelude.{IfOk};
+ghost use Rattle.std.specs.Prelude.{IfOk, map, string_bytes};
+ghost use Rattle.std.specs.Option.{option_and_then};
 ghost use Rattle.cnb_words.specs.Faults.{Reads};
+ghost use Rattle.cnb_words.specs.Options.{options_in};
 ghost use Rattle.cnb_words.specs.Create.{create_in, create_values, image_options, ImageKeepsLimits, KeepsLimits};
 
 use crate::detect::{DetectWords, detect_values};
 use crate::fault::WordsFault;
 use crate::option_values::{caches_of, image_of, optional_image_of, path_of};
-use crate::options::{Given, check_names};
+use crate::options::Options;
+use crate::reading::read_options;
 use cnb_toml::ImageName;
 use cnb_world::{List, Path};
 use std::alloc::Global;
@@ -35,15 +38,15 @@ struct ImageOptions {
     caches: List<Path>,
 }
 
-fn image_options(alloc: Global, options: &[Given]) -> Result<ImageOptions, WordsFault>
+fn image_options(alloc: Global, options: &Options) -> Result<ImageOptions, WordsFault>
     ensures reads { Reads result (image_options options.now) }
     ensures limits { IfOk result ImageKeepsLimits }
 {
-    let store = path_of(alloc, options, "--store")?;
-    let run = image_of(alloc, options, "--run")?;
-    let launcher = path_of(alloc, options, "--launcher")?;
-    let image = image_of(alloc, options, "--image")?;
-    let previous = optional_image_of(alloc, options, "--previous")?;
+    let store = path_of(alloc, options, "store")?;
+    let run = image_of(alloc, options, "run")?;
+    let launcher = path_of(alloc, options, "launcher")?;
+    let image = image_of(alloc, options, "image")?;
+    let previous = optional_image_of(alloc, options, "previous")?;
     let caches = caches_of(alloc, options)?;
     Ok(ImageOptions {
         store,
@@ -55,12 +58,12 @@ fn image_options(alloc: Global, options: &[Given]) -> Result<ImageOptions, Words
     })
 }
 
-fn create_values(alloc: Global, options: &[Given]) -> Result<CreateWords, WordsFault>
+fn create_values(alloc: Global, options: &Options) -> Result<CreateWords, WordsFault>
     ensures reads { Reads result (create_values options.now) }
     ensures limits { IfOk result KeepsLimits }
 {
     let detect = detect_values(alloc, options)?;
-    let layers = path_of(alloc, options, "--layers")?;
+    let layers = path_of(alloc, options, "layers")?;
     let image = image_options(alloc, options)?;
     Ok(CreateWords {
         detect,
@@ -74,28 +77,29 @@ fn create_values(alloc: Global, options: &[Given]) -> Result<CreateWords, WordsF
     })
 }
 
-/// What the options of `create` ask for.
-pub(crate) fn create_in(alloc: Global, options: &[Given]) -> Result<CreateWords, WordsFault>
-    ensures reads { Reads result (create_in options.now) }
+/// What the words behind `create` ask for.
+pub(crate) fn create_in(alloc: Global, words: &[String]) -> Result<CreateWords, WordsFault>
+    ensures reads { Reads result (option_and_then create_in (options_in (map string_bytes words.now))) }
     ensures limits { IfOk result KeepsLimits }
 {
-    check_names(
-        options,
+    let options = read_options(
+        alloc,
         &[
-            "--order",
-            "--buildpacks",
-            "--app",
-            "--platform",
-            "--work",
-            "--layers",
-            "--store",
-            "--run",
-            "--launcher",
-            "--image",
-            "--previous",
-            "--workers",
+            "order",
+            "buildpacks",
+            "app",
+            "platform",
+            "work",
+            "layers",
+            "store",
+            "run",
+            "launcher",
+            "image",
+            "previous",
+            "workers",
         ],
-        &["--cache"],
+        &["cache"],
+        words,
     )?;
-    create_values(alloc, options)
+    create_values(alloc, &options)
 }

@@ -1,11 +1,14 @@
 // The options of `detect`.
-ghost use Rattle.std.specs.Prelude.{IfOk};
+ghost use Rattle.std.specs.Prelude.{IfOk, map, string_bytes};
+ghost use Rattle.std.specs.Option.{option_and_then};
 ghost use Rattle.cnb_words.specs.Faults.{Reads};
+ghost use Rattle.cnb_words.specs.Options.{options_in};
 ghost use Rattle.cnb_words.specs.Detect.{detect_in, detect_values, KeepsLimits};
 
 use crate::fault::WordsFault;
 use crate::option_values::{path_of, workers_of};
-use crate::options::{Given, check_names};
+use crate::options::Options;
+use crate::reading::read_options;
 use cnb_world::Path;
 use std::alloc::Global;
 
@@ -21,15 +24,15 @@ pub struct DetectWords {
 }
 
 /// What the options ask for, where each that `detect` must have is given.
-pub(crate) fn detect_values(alloc: Global, options: &[Given]) -> Result<DetectWords, WordsFault>
+pub(crate) fn detect_values(alloc: Global, options: &Options) -> Result<DetectWords, WordsFault>
     ensures reads { Reads result (detect_values options.now) }
     ensures limits { IfOk result KeepsLimits }
 {
-    let order = path_of(alloc, options, "--order")?;
-    let buildpacks = path_of(alloc, options, "--buildpacks")?;
-    let app = path_of(alloc, options, "--app")?;
-    let platform = path_of(alloc, options, "--platform")?;
-    let work = path_of(alloc, options, "--work")?;
+    let order = path_of(alloc, options, "order")?;
+    let buildpacks = path_of(alloc, options, "buildpacks")?;
+    let app = path_of(alloc, options, "app")?;
+    let platform = path_of(alloc, options, "platform")?;
+    let work = path_of(alloc, options, "work")?;
     let workers = workers_of(options)?;
     Ok(DetectWords {
         order,
@@ -41,22 +44,16 @@ pub(crate) fn detect_values(alloc: Global, options: &[Given]) -> Result<DetectWo
     })
 }
 
-/// What the options of `detect` ask for.
-pub(crate) fn detect_in(alloc: Global, options: &[Given]) -> Result<DetectWords, WordsFault>
-    ensures reads { Reads result (detect_in options.now) }
+/// What the words behind `detect` ask for.
+pub(crate) fn detect_in(alloc: Global, words: &[String]) -> Result<DetectWords, WordsFault>
+    ensures reads { Reads result (option_and_then detect_in (options_in (map string_bytes words.now))) }
     ensures limits { IfOk result KeepsLimits }
 {
-    check_names(
-        options,
-        &[
-            "--order",
-            "--buildpacks",
-            "--app",
-            "--platform",
-            "--work",
-            "--workers",
-        ],
+    let options = read_options(
+        alloc,
+        &["order", "buildpacks", "app", "platform", "work", "workers"],
         &[],
+        words,
     )?;
-    detect_values(alloc, options)
+    detect_values(alloc, &options)
 }

@@ -1,11 +1,13 @@
 // The options of `export`.
-ghost use Rattle.std.specs.Prelude.{IfOk};
+ghost use Rattle.std.specs.Prelude.{IfOk, map, string_bytes};
+ghost use Rattle.std.specs.Option.{option_and_then};
 ghost use Rattle.cnb_words.specs.Faults.{Reads};
+ghost use Rattle.cnb_words.specs.Options.{options_in};
 ghost use Rattle.cnb_words.specs.Export.{export_in, KeepsLimits};
 
 use crate::fault::WordsFault;
 use crate::option_values::{caches_of, image_of, path_of};
-use crate::options::{Given, check_names};
+use crate::reading::read_options;
 use cnb_toml::ImageName;
 use cnb_world::{List, Path};
 use std::alloc::Global;
@@ -22,30 +24,24 @@ pub struct ExportWords {
     pub caches: List<Path>,
 }
 
-/// What the options of `export` ask for.
-pub(crate) fn export_in(alloc: Global, options: &[Given]) -> Result<ExportWords, WordsFault>
-    ensures reads { Reads result (export_in options.now) }
+/// What the words behind `export` ask for.
+pub(crate) fn export_in(alloc: Global, words: &[String]) -> Result<ExportWords, WordsFault>
+    ensures reads { Reads result (option_and_then export_in (options_in (map string_bytes words.now))) }
     ensures limits { IfOk result KeepsLimits }
 {
-    check_names(
-        options,
-        &[
-            "--store",
-            "--work",
-            "--layers",
-            "--app",
-            "--launcher",
-            "--image",
-        ],
-        &["--cache"],
+    let options = read_options(
+        alloc,
+        &["store", "work", "layers", "app", "launcher", "image"],
+        &["cache"],
+        words,
     )?;
-    let store = path_of(alloc, options, "--store")?;
-    let work = path_of(alloc, options, "--work")?;
-    let layers = path_of(alloc, options, "--layers")?;
-    let app = path_of(alloc, options, "--app")?;
-    let launcher = path_of(alloc, options, "--launcher")?;
-    let image = image_of(alloc, options, "--image")?;
-    let caches = caches_of(alloc, options)?;
+    let store = path_of(alloc, &options, "store")?;
+    let work = path_of(alloc, &options, "work")?;
+    let layers = path_of(alloc, &options, "layers")?;
+    let app = path_of(alloc, &options, "app")?;
+    let launcher = path_of(alloc, &options, "launcher")?;
+    let image = image_of(alloc, &options, "image")?;
+    let caches = caches_of(alloc, &options)?;
     Ok(ExportWords {
         store,
         work,

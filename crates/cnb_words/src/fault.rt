@@ -1,7 +1,9 @@
 // Why words ask for nothing.
 
+use clap::error::ErrorKind;
 use cnb_toml::NameFault;
 use cnb_world::{Memory, PathFault};
+use std::alloc::AllocError;
 
 /// Why words ask for nothing: they are no command with its options, or memory ran out.
 #[derive(Drop)]
@@ -45,6 +47,32 @@ impl From<NameFault> for WordsFault {
         match fault {
             NameFault::Bad => WordsFault::Usage,
             NameFault::Memory => WordsFault::Memory,
+        }
+    }
+}
+
+impl From<AllocError> for WordsFault {
+    ghost use Rattle.std.specs.Prelude.{◌≡◌};
+    ghost use Rattle.cnb_words.specs.declared.fault.WordsFault.TheVariants.{Memory};
+
+    ghost from_gives = { λ _ fault. fault ≡ Memory };
+
+    fn from(_: AllocError) -> Self {
+        WordsFault::Memory
+    }
+}
+
+impl From<clap::Error> for WordsFault {
+    ghost use Rattle.std.specs.Prelude.{◌≡◌};
+    ghost use Rattle.clap.specs.Values.{kind_of};
+    ghost use Rattle.cnb_words.specs.Reading.{fault_of_reading};
+
+    ghost from_gives = { λ error fault. fault ≡ fault_of_reading (kind_of error) };
+
+    fn from(error: clap::Error) -> Self {
+        match error.kind() {
+            ErrorKind::OutOfMemory => WordsFault::Memory,
+            _ => WordsFault::Usage,
         }
     }
 }

@@ -13,6 +13,7 @@ mod launch;
 mod option_values;
 mod options;
 mod program;
+mod reading;
 mod rebase;
 mod restore;
 mod show;

@@ -1,11 +1,13 @@
 // The options of `restore`.
-ghost use Rattle.std.specs.Prelude.{IfOk};
+ghost use Rattle.std.specs.Prelude.{IfOk, map, string_bytes};
+ghost use Rattle.std.specs.Option.{option_and_then};
 ghost use Rattle.cnb_words.specs.Faults.{Reads};
+ghost use Rattle.cnb_words.specs.Options.{options_in};
 ghost use Rattle.cnb_words.specs.Restore.{restore_in, KeepsLimits};
 
 use crate::fault::WordsFault;
 use crate::option_values::{caches_of, path_of};
-use crate::options::{Given, check_names};
+use crate::reading::read_options;
 use cnb_world::{List, Path};
 use std::alloc::Global;
 
@@ -18,16 +20,16 @@ pub struct RestoreWords {
     pub caches: List<Path>,
 }
 
-/// What the options of `restore` ask for.
-pub(crate) fn restore_in(alloc: Global, options: &[Given]) -> Result<RestoreWords, WordsFault>
-    ensures reads { Reads result (restore_in options.now) }
+/// What the words behind `restore` ask for.
+pub(crate) fn restore_in(alloc: Global, words: &[String]) -> Result<RestoreWords, WordsFault>
+    ensures reads { Reads result (option_and_then restore_in (options_in (map string_bytes words.now))) }
     ensures limits { IfOk result KeepsLimits }
 {
-    check_names(options, &["--store", "--work", "--layers"], &["--cache"])?;
-    let store = path_of(alloc, options, "--store")?;
-    let work = path_of(alloc, options, "--work")?;
-    let layers = path_of(alloc, options, "--layers")?;
-    let caches = caches_of(alloc, options)?;
+    let options = read_options(alloc, &["store", "work", "layers"], &["cache"], words)?;
+    let store = path_of(alloc, &options, "store")?;
+    let work = path_of(alloc, &options, "work")?;
+    let layers = path_of(alloc, &options, "layers")?;
+    let caches = caches_of(alloc, &options)?;
     Ok(RestoreWords {
         store,
         work,

@@ -1,11 +1,13 @@
 // The options of `show`.
-ghost use Rattle.std.specs.Prelude.{IfOk};
+ghost use Rattle.std.specs.Prelude.{IfOk, map, string_bytes};
+ghost use Rattle.std.specs.Option.{option_and_then};
 ghost use Rattle.cnb_words.specs.Faults.{Reads};
+ghost use Rattle.cnb_words.specs.Options.{options_in};
 ghost use Rattle.cnb_words.specs.Show.{show_in, KeepsLimits};
 
 use crate::fault::WordsFault;
 use crate::option_values::{image_of, path_of};
-use crate::options::{Given, check_names};
+use crate::reading::read_options;
 use cnb_toml::ImageName;
 use cnb_world::Path;
 use std::alloc::Global;
@@ -17,13 +19,13 @@ pub struct ShowWords {
     pub image: ImageName,
 }
 
-/// What the options of `show` ask for.
-pub(crate) fn show_in(alloc: Global, options: &[Given]) -> Result<ShowWords, WordsFault>
-    ensures reads { Reads result (show_in options.now) }
+/// What the words behind `show` ask for.
+pub(crate) fn show_in(alloc: Global, words: &[String]) -> Result<ShowWords, WordsFault>
+    ensures reads { Reads result (option_and_then show_in (options_in (map string_bytes words.now))) }
     ensures limits { IfOk result KeepsLimits }
 {
-    check_names(options, &["--store", "--image"], &[])?;
-    let store = path_of(alloc, options, "--store")?;
-    let image = image_of(alloc, options, "--image")?;
+    let options = read_options(alloc, &["store", "image"], &[], words)?;
+    let store = path_of(alloc, &options, "store")?;
+    let image = image_of(alloc, &options, "image")?;
     Ok(ShowWords { store, image })
 }

@@ -1,7 +1,9 @@
 // The words of a command line.
 ghost use Rattle.std.specs.Prelude.{◌≡◌, ◌∷◌, IfOk, IsTrue, map, string_bytes};
 ghost use Rattle.cnb_toml.specs.Names.{is_process_type};
-ghost use Rattle.cnb_words.specs.Words.{AsksAs, AsksWithinLimits, asked_by, asked_of, caches_asked, command_asked, image_asked, launcher_asked, options_asked, phase_asked, process_asked};
+ghost use Rattle.cnb_words.specs.Chosen.{image_chosen, phase_chosen};
+ghost use Rattle.cnb_words.specs.Options.{options_in};
+ghost use Rattle.cnb_words.specs.Words.{AsksAs, AsksWithinLimits, asked_by, asked_of, caches_asked, command_asked, launcher_asked, options_asked, process_asked};
 
 use crate::analyze::{AnalyzeWords, analyze_in};
 use crate::base::{BaseWords, base_in};
@@ -12,7 +14,6 @@ use crate::drill::{DrillWords, drill_in};
 use crate::export::{ExportWords, export_in};
 use crate::fault::WordsFault;
 use crate::launch::{LaunchWords, launch_at, launch_in, process_at};
-use crate::options::{Given, options_in};
 use crate::program::{is_launcher, process_type, root_of};
 use crate::rebase::{RebaseWords, rebase_in};
 use crate::restore::{RestoreWords, restore_in};
@@ -53,40 +54,40 @@ impl Asked {
 }
 
 // A command that builds an image, or is a part of that.
-fn phase_asked(alloc: Global, command: &str, options: &[Given]) -> Result<Asked, WordsFault>
-    ensures words { AsksAs result (phase_asked command.now options.now) }
+fn phase_asked(alloc: Global, command: &str, words: &[String]) -> Result<Asked, WordsFault>
+    ensures words { AsksAs result (phase_chosen command.now (options_in (map string_bytes words.now))) }
     ensures limits { IfOk result AsksWithinLimits }
 {
     if command == "detect" {
-        detect_in(alloc, options).map(Asked::Detect)
+        detect_in(alloc, words).map(Asked::Detect)
     } else if command == "analyze" {
-        analyze_in(alloc, options).map(Asked::Analyze)
+        analyze_in(alloc, words).map(Asked::Analyze)
     } else if command == "restore" {
-        restore_in(alloc, options).map(Asked::Restore)
+        restore_in(alloc, words).map(Asked::Restore)
     } else if command == "build" {
-        build_in(alloc, options).map(Asked::Build)
+        build_in(alloc, words).map(Asked::Build)
     } else if command == "export" {
-        export_in(alloc, options).map(Asked::Export)
+        export_in(alloc, words).map(Asked::Export)
     } else {
-        image_asked(alloc, command, options)
+        image_asked(alloc, command, words)
     }
 }
 
 // A command on whole images.
-fn image_asked(alloc: Global, command: &str, options: &[Given]) -> Result<Asked, WordsFault>
-    ensures words { AsksAs result (image_asked command.now options.now) }
+fn image_asked(alloc: Global, command: &str, words: &[String]) -> Result<Asked, WordsFault>
+    ensures words { AsksAs result (image_chosen command.now (options_in (map string_bytes words.now))) }
     ensures limits { IfOk result AsksWithinLimits }
 {
     if command == "create" {
-        create_in(alloc, options).map(Asked::Create)
+        create_in(alloc, words).map(Asked::Create)
     } else if command == "rebase" {
-        rebase_in(alloc, options).map(Asked::Rebase)
+        rebase_in(alloc, words).map(Asked::Rebase)
     } else if command == "base" {
-        base_in(alloc, options).map(Asked::Base)
+        base_in(alloc, words).map(Asked::Base)
     } else if command == "unpack" {
-        unpack_in(alloc, options).map(Asked::Unpack)
+        unpack_in(alloc, words).map(Asked::Unpack)
     } else if command == "show" {
-        show_in(alloc, options).map(Asked::Show)
+        show_in(alloc, words).map(Asked::Show)
     } else {
         Err(WordsFault::Usage)
     }
@@ -96,8 +97,7 @@ fn options_asked(alloc: Global, command: &str, words: &[String]) -> Result<Asked
     ensures words { AsksAs result (options_asked command.now (map string_bytes words.now)) }
     ensures limits { IfOk result AsksWithinLimits }
 {
-    let options = options_in(alloc, words)?;
-    phase_asked(alloc, command, options.as_slice())
+    phase_asked(alloc, command, words)
 }
 
 /// What a command and the words behind it ask for.
