@@ -3,7 +3,9 @@ use Rattle.std.proofs.Common.{◌≡◌, ◌∙◌, ap, sym, subst, ℕ, List, O
 use Rattle.cnb_world.specs.Calls.{LastFailed}
 use Rattle.cnb_world.specs.declared.world.FileFault.{FileFault}
 use Rattle.cnb_world.specs.declared.world.FileFault.TheVariants as file_fault
-use Rattle.doc_files.specs.Reading.{Blames, BlamesOne, BlamesOnly, FailsAt, NamesFailed, Reads}
+use Rattle.steps.specs.Causes.{IsAnswer, IsReadCause}
+use Rattle.doc_files.specs.Faults.{read_cause}
+use Rattle.doc_files.specs.Reading.{Blames, BlamesOne, BlamesOnly, FailsAt}
 use Rattle.doc_files.specs.declared.fault.ReadFault.{ReadFault}
 use Rattle.doc_files.specs.declared.fault.ReadFault.TheVariants.{File, Document, Limit, Memory}
 
@@ -22,7 +24,7 @@ fails_among path Among is (Document blamed fault) h = absurd h
 fails_among path Among is (Limit kind) h = absurd h
 
 -- and may come in place of any answer
-pub fails_free : {T : Type 0} (path : List ℕ) (fault : ReadFault) (want : Result T ReadFault) → FailsAt path fault → Reads {T = T} (Err fault) want
+pub fails_free : {T : Type 0} (path : List ℕ) (fault : ReadFault) (want : Result T ReadFault) → FailsAt path fault → IsAnswer {A = T} read_cause (Err fault) want
 fails_free path (File blamed) want h = tt
 fails_free path Memory want h = tt
 fails_free path (Document blamed fault) want h = absurd h
@@ -43,7 +45,7 @@ pub blames_same : (path other : List ℕ) → path ≡ other → (fault : ReadFa
 blames_same path other same fault h = subst (λ p. BlamesOnly p fault) same h
 
 -- the path of a call that failed is that of the last one
-pub blamed_last : (T : Type 0) (path : List ℕ) (fault : FileFault) (refusal : ReadFault) (before now : Option (List ℕ)) → LastFailed {T = T} path (Err fault) before now → Blames path fault refusal → NamesFailed now refusal
+pub blamed_last : (T : Type 0) (path : List ℕ) (fault : FileFault) (refusal : ReadFault) (before now : Option (List ℕ)) → LastFailed {T = T} path (Err fault) before now → Blames path fault refusal → IsReadCause now (read_cause refusal)
 blamed_last T path fault Memory before now last h = tt
 blamed_last T path file_fault.Failed (File blamed) before now last h = last ∙ ap Some (sym h)
 blamed_last T path file_fault.Memory (File blamed) before now last h = absurd h

@@ -1,7 +1,6 @@
 -- Reading documents and folders from files.
-use Rattle.std.specs.Prelude.{ℕ, ◌≡◌, Bool, true, false, if◌then◌else◌, List, Option, Some, None, Result, Ok, Err}
+use Rattle.std.specs.Prelude.{ℕ, ◌≡◌, if◌then◌else◌, List, Option, Some, None, Result, Ok, Err}
 use Rattle.cnb_world.specs.Listing.{names_in}
-use Rattle.cnb_world.specs.Steps.{Answers}
 use Rattle.cnb_world.specs.Tree.{Tree, can_list, is_file_or_absent, item_at}
 use Rattle.cnb_world.specs.Whole.{whole_of}
 use Rattle.cnb_world.specs.declared.limits.LimitKind.TheVariants.{Document as DocumentLimit}
@@ -13,17 +12,6 @@ use Rattle.cnb_toml.specs.declared.fault.DocFault.{DocFault}
 use Rattle.cnb_toml.specs.declared.fault.DocFault.TheVariants as doc_fault
 use Rattle.doc_files.specs.declared.fault.ReadFault.{ReadFault}
 use Rattle.doc_files.specs.declared.fault.ReadFault.TheVariants.{File, Document, Limit, Memory}
-
--- a fault that may come at any call: the outside failed, or memory ran out
-abbrev pub is_free : ReadFault → Bool
-is_free (File path) = true
-is_free Memory = true
-is_free (Document path fault) = false
-is_free (Limit kind) = false
-
--- an answer is this one, unless the outside failed or memory ran out
-abbrev pub Reads : {T : Type 0} → Result T ReadFault → Result T ReadFault → Type 0
-Reads result want = Answers is_free result want
 
 -- a call on a path that failed is a refusal of that path, or memory ran out
 abbrev pub Blames : List ℕ → FileFault → ReadFault → Type 0
@@ -37,13 +25,6 @@ FailsAt path (File blamed) = blamed ≡ path
 FailsAt path Memory = Unit {0}
 FailsAt path (Document blamed fault) = ⊥
 FailsAt path (Limit kind) = ⊥
-
--- `File` has the path of the call that failed last
-abbrev pub NamesFailed : Option (List ℕ) → ReadFault → Type 0
-NamesFailed last (File path) = last ≡ Some path
-NamesFailed last (Document path fault) = Unit {0}
-NamesFailed last (Limit kind) = Unit {0}
-NamesFailed last Memory = Unit {0}
 
 -- a fault that names a path names one of these
 abbrev pub BlamesOne : (List ℕ → Type 0) → ReadFault → Type 0

@@ -3,8 +3,11 @@ ghost use Rattle.std.specs.Prelude.{◌≡◌, IfErr, IfSome};
 ghost use Rattle.std.specs.Option.{option_map};
 ghost use Rattle.cnb_world.specs.Calls.{MayMisuse};
 ghost use Rattle.cnb_world.specs.Tree.{is_file_or_absent, item_at};
-ghost use Rattle.doc_files.specs.Counts.{CountsFiles};
-ghost use Rattle.doc_files.specs.Reading.{BlamesOnly, NamesFailed, Reads, document_at};
+ghost use Rattle.steps.specs.Causes.{IsAnswer};
+ghost use Rattle.steps.specs.Outside.{seen};
+ghost use Rattle.steps.specs.Reading.{ReadFrame};
+ghost use Rattle.doc_files.specs.Faults.{read_cause};
+ghost use Rattle.doc_files.specs.Reading.{BlamesOnly, document_at};
 
 use crate::fault::{ReadFault, blamed};
 use cnb_world::{Bytes, LimitKind, Path, Whole, World, read_whole};
@@ -20,13 +23,9 @@ pub fn read_document<W: World>(
     world: &mut W,
     path: &Path,
 ) -> Result<Option<Bytes>, ReadFault>
-    ensures reads { IfSome (W.tree world.old) (λ files. Reads result (document_at files path.now)) }
+    ensures reads { IfSome (W.tree world.old) (λ files. IsAnswer read_cause result (document_at files path.now)) }
     ensures blames { IfErr result (BlamesOnly path.now) }
-    ensures cause { IfErr result (NamesFailed (W.failed_at world.new)) }
-    ensures tree { W.tree world.new ≡ W.tree world.old }
-    ensures files { CountsFiles result (W.file_faults world.old) (W.file_faults world.new) }
-    ensures children { W.child_faults world.new ≡ W.child_faults world.old }
-    ensures runs { W.runs world.new ≡ W.runs world.old }
+    ensures frame { ReadFrame read_cause result (seen W.World world.old) (seen W.World world.new) }
     ensures misused { MayMisuse (option_map (λ files. is_file_or_absent (item_at files path.now)) (W.tree world.old))
         (W.misused world.old) (W.misused world.new) }
 {

@@ -1,7 +1,8 @@
 // Why files were not read.
 ghost use Rattle.std.specs.Prelude.{◌≡◌, ℕ, Err, IfErr};
-ghost use Rattle.doc_files.specs.Counts.{CountsFiles};
-ghost use Rattle.doc_files.specs.Reading.{Blames, BlamesOnly, Reads, read_at};
+ghost use Rattle.steps.specs.Causes.{CountsFiles, IsAnswer};
+ghost use Rattle.doc_files.specs.Faults.{read_cause};
+ghost use Rattle.doc_files.specs.Reading.{Blames, BlamesOnly, read_at};
 
 use cnb_toml::DocFault;
 use cnb_world::{FileFault, LimitKind, Memory, Path};
@@ -58,9 +59,9 @@ pub fn read_at<T: Drop>(
     path: &Path,
     answer: Result<T, DocFault>,
 ) -> Result<T, ReadFault>
-    ensures reads { Reads result (read_at path.now answer) }
+    ensures reads { IsAnswer read_cause result (read_at path.now answer) }
     ensures blames { IfErr result (BlamesOnly path.now) }
-    ensures files { (n : ℕ) → CountsFiles result n n }
+    ensures files { (n : ℕ) → CountsFiles read_cause result n n }
 {
     match answer {
         Ok(value) => Ok(value),

@@ -3,8 +3,11 @@ ghost use Rattle.std.specs.Prelude.{◌≡◌, IfErr, IfOk, IfSome, Ok};
 ghost use Rattle.std.specs.Option.{option_map};
 ghost use Rattle.cnb_world.specs.Calls.{AreNames, MayMisuse};
 ghost use Rattle.cnb_world.specs.Tree.{can_list, is_folder, item_at, kind_of};
-ghost use Rattle.doc_files.specs.Counts.{CountsFiles};
-ghost use Rattle.doc_files.specs.Reading.{FailsAt, NamesFailed, Reads, names_at};
+ghost use Rattle.steps.specs.Causes.{IsAnswer};
+ghost use Rattle.steps.specs.Outside.{seen};
+ghost use Rattle.steps.specs.Reading.{ReadFrame};
+ghost use Rattle.doc_files.specs.Faults.{read_cause};
+ghost use Rattle.doc_files.specs.Reading.{FailsAt, names_at};
 
 use crate::fault::{ReadFault, blamed};
 use cnb_world::{Kind, List, Path, Text, World};
@@ -13,13 +16,10 @@ use std::alloc::Global;
 /// Whether a folder stands at the path.
 #[tactic(auto, using(crate::proofs::Blame::blamed_last))]
 pub fn is_folder<W: World>(alloc: Global, world: &mut W, path: &Path) -> Result<bool, ReadFault>
-    ensures reads { IfSome (W.tree world.old) (λ files. Reads result (Ok (is_folder (item_at files path.now)))) }
+    ensures reads { IfSome (W.tree world.old)
+        (λ files. IsAnswer read_cause result (Ok (is_folder (item_at files path.now)))) }
     ensures blames { IfErr result (FailsAt path.now) }
-    ensures cause { IfErr result (NamesFailed (W.failed_at world.new)) }
-    ensures tree { W.tree world.new ≡ W.tree world.old }
-    ensures files { CountsFiles result (W.file_faults world.old) (W.file_faults world.new) }
-    ensures children { W.child_faults world.new ≡ W.child_faults world.old }
-    ensures runs { W.runs world.new ≡ W.runs world.old }
+    ensures frame { ReadFrame read_cause result (seen W.World world.old) (seen W.World world.new) }
     ensures misused { W.misused world.new ≡ W.misused world.old }
 {
     match world.kind(path) {
@@ -37,13 +37,9 @@ pub fn list_names<W: World>(
     folder: &Path,
 ) -> Result<List<Text>, ReadFault>
     ensures names { IfOk result AreNames }
-    ensures reads { IfSome (W.tree world.old) (λ files. Reads result (names_at files folder.now)) }
+    ensures reads { IfSome (W.tree world.old) (λ files. IsAnswer read_cause result (names_at files folder.now)) }
     ensures blames { IfErr result (FailsAt folder.now) }
-    ensures cause { IfErr result (NamesFailed (W.failed_at world.new)) }
-    ensures tree { W.tree world.new ≡ W.tree world.old }
-    ensures files { CountsFiles result (W.file_faults world.old) (W.file_faults world.new) }
-    ensures children { W.child_faults world.new ≡ W.child_faults world.old }
-    ensures runs { W.runs world.new ≡ W.runs world.old }
+    ensures frame { ReadFrame read_cause result (seen W.World world.old) (seen W.World world.new) }
     ensures misused { MayMisuse (option_map (λ files. can_list files folder.now) (W.tree world.old))
         (W.misused world.old) (W.misused world.new) }
 {

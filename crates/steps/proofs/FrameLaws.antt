@@ -1,11 +1,10 @@
 -- What steps leave alone.
-use Rattle.std.proofs.Common.{◌≡◌, ◌∙◌, refl, sym, ap, subst, ℕ, ◌++◌, ◌||◌, ◌&&◌, List, [], ◌∷◌, Bool, true, false, not, cond, Option, Some, None, Result, Ok, Err, inl, inr, ◌⊎◌, append_assoc, append-nil, take}
+use Rattle.std.proofs.Common.{◌≡◌, ◌∙◌, refl, sym, ap, ℕ, ◌++◌, ◌||◌, ◌&&◌, List, [], ◌∷◌, Bool, true, false, not, cond, Option, Some, None, Result, Ok, Err, inl, inr, append_assoc, append-nil, take}
 use Rattle.std.specs.List.{AllByRecursion, list_any}
 use Rattle.std.specs.Str.{bytes_eq}
 use Rattle.std.specs.Option.{option_map}
 use Rattle.std.specs.FinMap.{get, insert, remove}
 use Rattle.cnb_world.specs.declared.child.ChildJob.{ChildJob}
-use Rattle.cnb_world.specs.declared.world.Item.{Item}
 use Rattle.cnb_world.specs.declared.world.Item.TheVariants.{Folder, File}
 use Rattle.cnb_world.specs.Path.{parent_of, beside}
 use Rattle.cnb_world.specs.Runs.{Run}

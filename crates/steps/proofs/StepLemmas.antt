@@ -1,5 +1,5 @@
 -- Steps that go on, and steps that end.
-use Rattle.std.proofs.Common.{◌≡◌, ◌∙◌, refl, sym, ap, subst, arith, ℕ, List, Bool, true, false, Option, Some, None, Result, Ok, Err, inl, inr, ◌⊎◌}
+use Rattle.std.proofs.Common.{◌≡◌, refl, sym, subst, arith, ℕ, List, Bool, true, false, Option, Some, None, Result, Ok, Err, inl, inr}
 use Rattle.std.specs.Prelude.{IfErr, IfSome, IsTrue}
 use Rattle.std.specs.Option.{option_map}
 use Rattle.cnb_world.specs.Calls.{MayMisuse}
@@ -7,8 +7,8 @@ use Rattle.cnb_world.specs.Tree.{Tree}
 use Rattle.cnb_world.specs.Whole.{LeavesPart, can_write, written}
 use Rattle.steps.specs.Causes.{Cause, OutOfMemory, WhereDecided, IsAnswer, IsGivenCause, IsReadCause, IsWriteCause}
 use Rattle.cnb_world.specs.declared.world.World as world
-use Rattle.steps.specs.Outside.{Outside, Seen, SpawnerSeen, seen}
-use Rattle.steps.specs.Steps.{◌>>=◌, Same, Allows, LeavesUnwritten, Reads, Writes, gives, in_world, in_spawners, map_err, reads, writes, yields}
+use Rattle.steps.specs.Outside.{Seen, SpawnerSeen, seen}
+use Rattle.steps.specs.Steps.{◌>>=◌, gives, in_world, in_spawners, map_err, reads, writes, yields}
 
 -- a step that went well, and what came of the next
 pub went : {S E A B : Type 0} (first : S → Result A E → S → Type 0) (next : A → S → Result B E → S → Type 0) (old mid new : S) (a : A) (result : Result B E) → first old (Ok a) mid → next a mid result new → (first >>= next) old result new
@@ -85,9 +85,13 @@ pub write_refused : {W E : Type 0} (ghosts : world.Ghosts W) (cause_of : E → C
 unfolding writes
 write_refused ghosts cause_of path Says bytes fault old new cause says files runs allows = (cause, record { files = inr (bytes, says, files); runs = runs; allows = allows })
 
+-- a fault that is told as another, for the same cause
+pub cause_told : {E F : Type 0} (cause_of : E → Cause) (cause_of' : F → Cause) (of : E → F) (last : Option (List ℕ)) (fault : E) → cause_of' (of fault) ≡ cause_of fault → IsReadCause last (cause_of fault) → IsReadCause last (cause_of' (of fault))
+cause_told cause_of cause_of' of last fault same h = subst (IsReadCause last) (sym same) h
+
 -- files that were read
 pub read_so : {W E A : Type 0} (ghosts : world.Ghosts W) (cause_of : E → Cause) (fits : Tree → Bool) (want : Tree → Result A E) (result : Result A E) (old new : W)
-    → IfSome (ghosts.tree old) (λ files. IsAnswer cause_of result (want files)) → IfErr result (λ fault. IsReadCause (cause_of fault)) → ghosts.tree new ≡ ghosts.tree old → ghosts.runs new ≡ ghosts.runs old
+    → IfSome (ghosts.tree old) (λ files. IsAnswer cause_of result (want files)) → IfErr result (λ fault. IsReadCause (ghosts.failed_at new) (cause_of fault)) → ghosts.tree new ≡ ghosts.tree old → ghosts.runs new ≡ ghosts.runs old
     → MayMisuse (option_map fits (ghosts.tree old)) (ghosts.misused old) (ghosts.misused new) → reads cause_of fits want (seen ghosts old) result (seen ghosts new)
 unfolding reads
 read_so ghosts cause_of fits want result old new answer cause files runs allows = record { same = record { files = files; runs = runs }; answer = answer; cause = cause; allows = allows }

@@ -1,5 +1,5 @@
 -- Why a call is refused, whatever its type of refusals is: each has a function that gives the cause.
-use Rattle.std.specs.Prelude.{ℕ, ◌≡◌, ◌≤◌, List, Result, Ok, Err}
+use Rattle.std.specs.Prelude.{ℕ, ◌≡◌, ◌≤◌, List, Option, Some, Result, Ok, Err}
 use Rattle.cnb_world.specs.Calls.{Rose}
 
 -- A call on the file at a path failed, a child gave no end, memory ran out, or what was read or answered decides.
@@ -48,12 +48,13 @@ abbrev pub CountsChildren : {A E : Type 0} → (E → Cause) → Result A E → 
 CountsChildren cause_of (Ok value) before now = now ≡ before
 CountsChildren cause_of (Err fault) before now = ChildrenBy (cause_of fault) before now
 
--- What each kind of step may be refused for: reading for a failed call, want of memory or what was read;
-abbrev pub IsReadCause : Cause → Type 0
-IsReadCause (FileFailed path) = Unit {0}
-IsReadCause ChildFailed = ⊥
-IsReadCause OutOfMemory = Unit {0}
-IsReadCause Decided = Unit {0}
+-- What each kind of step may be refused for: reading for a failed call, which is told with the path whose call failed last,
+-- want of memory or what was read;
+abbrev pub IsReadCause : Option (List ℕ) → Cause → Type 0
+IsReadCause last (FileFailed path) = last ≡ Some path
+IsReadCause last ChildFailed = ⊥
+IsReadCause last OutOfMemory = Unit {0}
+IsReadCause last Decided = Unit {0}
 
 -- a value that is known for want of memory, or because it is a refusal;
 abbrev pub IsGivenCause : Cause → Type 0

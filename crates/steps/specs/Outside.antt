@@ -6,12 +6,13 @@ use Rattle.cnb_world.specs.declared.child.Reply.{Reply}
 use Rattle.cnb_world.specs.declared.child.Spawner as spawner
 use Rattle.cnb_world.specs.declared.world.World as world
 
--- of a world: its files, where they are told, the children that ran in it, and its counts of failed calls on files, of
--- children that gave no end, and of calls on a path of the wrong kind
+-- of a world: its files, where they are told, the children that ran in it, its counts of failed calls on files, of children
+-- that gave no end, and of calls on a path of the wrong kind, and the path whose call failed last
 pub record Seen : Type 0 where
   pub files : Option Tree
   pub runs : List Run
   pub file_faults : ℕ
+  pub failed_at : Option (List ℕ)
   pub child_faults : ℕ
   pub misused : ℕ
 
@@ -20,6 +21,7 @@ seen ghosts w = record {
   files = ghosts.tree w;
   runs = ghosts.runs w;
   file_faults = ghosts.file_faults w;
+  failed_at = ghosts.failed_at w;
   child_faults = ghosts.child_faults w;
   misused = ghosts.misused w;
 }

@@ -2,7 +2,6 @@
 use Rattle.std.specs.Prelude.{ℕ, Bool, not, ◌≡◌, ◌⊎◌, ◌++◌, List, [], ◌∷◌, Option, Result, Ok, Err, IfErr, IfSome, IsTrue}
 use Rattle.std.specs.Option.{option_map}
 use Rattle.cnb_world.specs.Calls.{MayMisuse, RemovesSome}
-use Rattle.cnb_world.specs.Runs.{Run}
 use Rattle.cnb_world.specs.Tree.{Tree, folder_made, can_make_folder, is_root, without}
 use Rattle.cnb_world.specs.Whole.{written, can_write, LeavesPart}
 use Rattle.cnb_world.specs.declared.child.ChildJob.{ChildJob}
@@ -51,7 +50,7 @@ Allows fits old new = MayMisuse (option_map fits old.files) old.misused new.misu
 pub record Reads {E A : Type 0} (cause_of : E → Cause) (fits : Tree → Bool) (want : Tree → Result A E) (old : Seen) (result : Result A E) (new : Seen) : Type 0 where
   pub same : Same old new
   pub answer : IfSome old.files (λ files. IsAnswer cause_of result (want files))
-  pub cause : IfErr result (λ fault. IsReadCause (cause_of fault))
+  pub cause : IfErr result (λ fault. IsReadCause new.failed_at (cause_of fault))
   pub allows : Allows fits old new
 
 unfoldable pub reads : {E A : Type 0} → (E → Cause) → (Tree → Bool) → (Tree → Result A E) → Seen → Result A E → Seen → Type 0
