@@ -13,12 +13,19 @@ use Rattle.cnb_toml.specs.declared.meta.MetaEntry.{MetaEntry}
 use Rattle.cnb_toml.specs.declared.meta.Meta.TheVariants as variant
 use Rattle.cnb_toml.specs.declared.meta.Meta.TheOpen as layer
 use Rattle.cnb_toml.specs.declared.meta.Meta.TheFolds.{fold-Meta, fold-MetaEntry}
+use Rattle.cnb_toml.specs.declared.meta.PathPart.{PathPart}
+use Rattle.cnb_toml.specs.declared.meta.PathPart.TheVariants.{Key, Place}
 use Rattle.cnb_toml.specs.Writing.{put_all}
 use Rattle.cnb_toml.specs.Reading.{◌>>=◌}
 
 -- how deep a value may stand: the values of the table that is read stand 1 deep, those in one of them 2 deep
 abbrev pub deepest : ℕ
 deepest = 32
+
+-- how a key path spells a key of a table, and a place in a list
+abbrev pub part_text : PathPart → List ℕ
+part_text (Key key) = key.now
+part_text (Place place) = decimal place
 
 -- a value, unless it stands too deep, whatever it is
 abbrev pub standing : {A : Type 0} → ℕ → List ℕ → Result A DocFault → Result A DocFault

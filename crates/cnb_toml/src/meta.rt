@@ -1,11 +1,10 @@
 // Metadata that is kept and handed on.
 ghost use Rattle.std.specs.Prelude.{ℕ, codes, option_map, ◌≡◌, ◌≤◌, ◌+◌, ◌++◌, ◌∷◌, List as Seq, map, IfOk, IsTrue};
-ghost use Rattle.std.specs.Fmt.{decimal};
 ghost use Rattle.toml.specs.Data.{array, table, no_members, as_table, get_member};
 ghost use Rattle.toml.specs.View.{view, items_of, array_view, table_view};
 ghost use Rattle.cnb_toml.specs.Reading.{Answers, IsFault};
 ghost use Rattle.cnb_toml.specs.Writing.{put_all};
-ghost use Rattle.cnb_toml.specs.Meta.{metadata_in, metadata_table, meta_in, meta_at, items_at, members_at, fault_below, members_of, data_of, entry_of, is_kept};
+ghost use Rattle.cnb_toml.specs.Meta.{metadata_in, metadata_table, meta_in, meta_at, items_at, members_at, fault_below, members_of, data_of, entry_of, is_kept, part_text};
 
 use crate::fault::DocFault;
 use crate::writing::put;
@@ -38,6 +37,13 @@ pub struct MetaEntry {
 pub struct Need {
     pub name: Text,
     pub meta: Meta,
+}
+
+/// A part of a key path: a key of a table, or a place in a list.
+#[derive(Clone, Copy)]
+enum PathPart<'a> {
+    Key(&'a str),
+    Place(usize),
 }
 
 /// How deep a value may stand: the values of the table that is read stand 1 deep, those in one of them 2 deep.
@@ -153,43 +159,58 @@ fn metadata(table: &Table) -> Option<&Value>
 }
 
 #[cycle(read)]
-fn read_value(alloc: Global, depth: usize, key: &str, value: &Value) -> Result<Meta, DocFault>
+fn read_value(
+    alloc: Global,
+    depth: usize,
+    part: PathPart<'_>,
+    value: &Value,
+) -> Result<Meta, DocFault>
     requires { depth ≤ DEEPEST + 1 }
-    ensures { Answers result (meta_at depth key.now (view value.now)) }
+    ensures { Answers result (meta_at depth (part_text part.entry) (view value.now)) }
 {
     if depth > DEEPEST {
-        return Err(refused(alloc, key));
+        return Err(refused(alloc, part));
     }
     match value {
         Value::Boolean(truth) => Ok(Meta::Bool(*truth)),
         Value::Integer(number) => Ok(Meta::Int(*number)),
         Value::String(text) => Ok(Meta::Text(Text::of(alloc, text.as_str())?)),
-        Value::Float(_) => Err(refused(alloc, key)),
-        Value::Datetime(_) => Err(refused(alloc, key)),
-        Value::Array(items) => read_list(alloc, depth, key, items),
-        Value::Table(members) => read_table(alloc, depth, key, members),
+        Value::Float(_) => Err(refused(alloc, part)),
+        Value::Datetime(_) => Err(refused(alloc, part)),
+        Value::Array(items) => read_list(alloc, depth, part, items),
+        Value::Table(members) => read_table(alloc, depth, part, members),
     }
 }
 
 #[cycle(read)]
-fn read_list(alloc: Global, depth: usize, key: &str, items: &Array) -> Result<Meta, DocFault>
+fn read_list(
+    alloc: Global,
+    depth: usize,
+    part: PathPart<'_>,
+    items: &Array,
+) -> Result<Meta, DocFault>
     requires { depth ≤ DEEPEST }
-    ensures { Answers result (meta_at depth key.now (array (array_view items.now))) }
+    ensures { Answers result (meta_at depth (part_text part.entry) (array (array_view items.now))) }
 {
     match read_items(alloc, depth + 1, items) {
         Ok(list) => Ok(Meta::List(list)),
-        Err(fault) => Err(below(alloc, key, fault)),
+        Err(fault) => Err(below_part(alloc, part, fault)),
     }
 }
 
 #[cycle(read)]
-fn read_table(alloc: Global, depth: usize, key: &str, members: &Table) -> Result<Meta, DocFault>
+fn read_table(
+    alloc: Global,
+    depth: usize,
+    part: PathPart<'_>,
+    members: &Table,
+) -> Result<Meta, DocFault>
     requires { depth ≤ DEEPEST }
-    ensures { Answers result (meta_at depth key.now (table (table_view members.now))) }
+    ensures { Answers result (meta_at depth (part_text part.entry) (table (table_view members.now))) }
 {
     match read_members(alloc, depth + 1, members) {
         Ok(entries) => Ok(Meta::Table(entries)),
-        Err(fault) => Err(below(alloc, key, fault)),
+        Err(fault) => Err(below_part(alloc, part, fault)),
     }
 }
 
@@ -200,20 +221,9 @@ fn read_items(alloc: Global, depth: usize, items: &Array) -> Result<List<Meta>, 
 {
     let mut list = List::new(alloc);
     for (place, item) in items.iter().enumerate() {
-        list.push(read_item(alloc, depth, place, item)?)?;
+        list.push(read_value(alloc, depth, PathPart::Place(place), item)?)?;
     }
     Ok(list)
-}
-
-#[cycle(read)]
-fn read_item(alloc: Global, depth: usize, place: usize, item: &Value) -> Result<Meta, DocFault>
-    requires { depth ≤ DEEPEST + 1 }
-    ensures { Answers result (meta_at depth (decimal place) (view item.now)) }
-{
-    match format!(in alloc; "{place}") {
-        Ok(key) => read_value(alloc, depth, key.as_str(), item),
-        Err(_) => Err(DocFault::Memory),
-    }
 }
 
 #[cycle(read)]
@@ -225,17 +235,39 @@ fn read_members(alloc: Global, depth: usize, members: &Table) -> Result<List<Met
     for (key, value) in members.iter() {
         entries.push(MetaEntry {
             key: Text::of(alloc, key.as_str())?,
-            value: read_value(alloc, depth, key.as_str(), value)?,
+            value: read_value(alloc, depth, PathPart::Key(key.as_str()), value)?,
         })?;
     }
     Ok(entries)
 }
 
-fn refused(alloc: Global, key: &str) -> DocFault
-    ensures { IsFault result (DocFault.MetaKind key.now) }
+fn part_text(alloc: Global, part: PathPart<'_>) -> Result<Text, Memory>
+    ensures { IfOk result (λ text. text ≡ part_text part.entry) }
 {
-    match Text::of(alloc, key) {
+    match part {
+        PathPart::Key(key) => Text::of(alloc, key),
+        PathPart::Place(place) => match format!(in alloc; "{place}") {
+            Ok(text) => Ok(Text::from_string(text)),
+            Err(_) => Err(Memory),
+        },
+    }
+}
+
+fn refused(alloc: Global, part: PathPart<'_>) -> DocFault
+    ensures { IsFault result (DocFault.MetaKind (part_text part.entry)) }
+{
+    match part_text(alloc, part) {
         Ok(path) => DocFault::MetaKind(path),
+        Err(Memory) => DocFault::Memory,
+    }
+}
+
+/// The fault of what stands below a key, or a place.
+fn below_part(alloc: Global, part: PathPart<'_>, fault: DocFault) -> DocFault
+    ensures { IsFault result (fault_below (part_text part.entry) fault) }
+{
+    match part_text(alloc, part) {
+        Ok(key) => below(alloc, key.as_str(), fault),
         Err(Memory) => DocFault::Memory,
     }
 }
