@@ -1,17 +1,32 @@
 -- Which path a fault of layers names.
 use Rattle.std.proofs.Common.{◌≡◌, ◌∙◌, subst, ℕ, ◌<◌, List, length, get_or, inl, inr}
 use Rattle.std.specs.Prelude.{IsTrue}
-use Rattle.std.specs.List.{IsAmong}
 use Rattle.cnb_world.specs.Path.{is_part, joined}
-use Rattle.doc_files.proofs.Blame.{blames_more, fails_among}
+use Rattle.doc_files.proofs.Blame.{blames_more}
 use Rattle.doc_files.specs.Reading.{BlamesOne, FailsAt}
 use Rattle.doc_files.specs.declared.fault.ReadFault.{ReadFault}
+use Rattle.doc_files.specs.declared.fault.ReadFault.TheVariants.{File, Document, Limit, Memory}
 use Rattle.cnb_env.specs.Files.{IsOfFolder}
-use Rattle.cnb_env.specs.Layers.{IsOfFolderIn, IsOfLayer, IsOfLayers, IsOfSets}
+use Rattle.cnb_env.specs.Layers.{FailsOne, IsOfFolderIn, IsOfLayer, IsOfLayers, IsOfSets}
+
+fails_as : (path : List ℕ) (Among : List ℕ → Type 0) → ((blamed : List ℕ) → blamed ≡ path → Among blamed) → (fault : ReadFault) → FailsAt path fault → FailsOne Among fault
+fails_as path Among is (File blamed) h = is blamed h
+fails_as path Among is Memory h = tt
+fails_as path Among is (Document blamed fault) h = absurd h
+fails_as path Among is (Limit kind) h = absurd h
 
 -- a call on a folder of a layer failed
-pub folder_blamed : (layers : List (List ℕ)) (i : ℕ) (layer name path : List ℕ) → i < length layers → layer ≡ get_or layers i layer → IsTrue (is_part name) → path ≡ joined layer name → (fault : ReadFault) → FailsAt path fault → BlamesOne (IsOfLayers layers) fault
-folder_blamed layers i layer name path h e part place fault fails = fails_among path (IsOfLayers layers) (λ blamed b. (layer, (i, (h, e)), inl (name, part, inl (b ∙ place)))) fault fails
+pub folder_fails : (layers : List (List ℕ)) (i : ℕ) (layer name path : List ℕ) → i < length layers → layer ≡ get_or layers i layer → IsTrue (is_part name) → path ≡ joined layer name → (fault : ReadFault) → FailsAt path fault → FailsOne (IsOfLayers layers) fault
+folder_fails layers i layer name path h e part place fault fails = fails_as path (IsOfLayers layers) (λ blamed b. (layer, (i, (h, e)), inl (name, part, inl (b ∙ place)))) fault fails
+
+pub fails_blames : (Among : List ℕ → Type 0) (fault : ReadFault) → FailsOne Among fault → BlamesOne Among fault
+fails_blames Among (File blamed) h = h
+fails_blames Among Memory h = tt
+fails_blames Among (Document blamed fault) h = absurd h
+fails_blames Among (Limit kind) h = absurd h
+
+pub fails_same : (layers other : List (List ℕ)) → layers ≡ other → (fault : ReadFault) → FailsOne (IsOfLayers layers) fault → BlamesOne (IsOfLayers other) fault
+fails_same layers other same fault h = subst (λ ls. BlamesOne (IsOfLayers ls) fault) same (fails_blames (IsOfLayers layers) fault h)
 
 pub folder_same : (folder other : List ℕ) → folder ≡ other → (fault : ReadFault) → BlamesOne (IsOfFolder folder) fault → BlamesOne (IsOfFolder other) fault
 folder_same folder other same fault h = subst (λ f. BlamesOne (IsOfFolder f) fault) same h

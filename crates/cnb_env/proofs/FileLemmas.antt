@@ -1,5 +1,5 @@
 -- One environment file: what its reading gives, step by step.
-use Rattle.std.proofs.Common.{◌≡◌, ◌∙◌, refl, sym, ap, subst, ℕ, ◌+◌, ◌≤◌, Bool, true, false, cond, List, [], ◌∷◌, length, take, drop, arith, Option, Some, None, Result, Ok, Err}
+use Rattle.std.proofs.Common.{◌≡◌, ◌∙◌, sym, ap, subst, ℕ, ◌+◌, ◌≤◌, Bool, true, false, cond, List, [], ◌∷◌, length, take, drop, arith, Option, Some, None, Result, Ok, Err}
 use Rattle.std.specs.Prelude.{IfSome, IsTrue, nat_lt}
 use Rattle.std.proofs.lemmas.Bool.Decides.{nat_tests}
 use Rattle.std.proofs.lemmas.Grind.{common_steps}
@@ -11,7 +11,8 @@ use Rattle.cnb_world.specs.declared.world.Item.{Item}
 use Rattle.cnb_world.specs.declared.world.Item.TheVariants as item
 use Rattle.cnb_world.specs.declared.world.Kind.{Kind}
 use Rattle.cnb_world.specs.declared.world.Kind.TheVariants as kind
-use Rattle.doc_files.specs.Reading.{Reads}
+use Rattle.steps.specs.Causes.{IsAnswer}
+use Rattle.doc_files.specs.Faults.{read_cause}
 use Rattle.doc_files.specs.declared.fault.ReadFault.{ReadFault}
 use Rattle.doc_files.specs.declared.fault.ReadFault.TheVariants.{File, Document, Limit, Memory}
 use Rattle.cnb_env.specs.Contents.{contents_of, file_of, file_at}
@@ -43,7 +44,7 @@ whole_read (Some files) o1 path k exec len bytes e is told le read =
     let P : Option Tree → Type 0 = λ x. IfSome x (λ t. bytes ≡ take 1048576 (drop 0 (bytes_of (item_at t path)))) in
     whole_item (item_at files path) exec len bytes (sym is ∙ told) le (subst P e read)
 
-of_refused : (name path : List ℕ) (want : Result (Option (List ℕ)) ReadFault) (fault : ReadFault) → Reads (Err fault) want → Reads (Err fault) (file_of name path want)
+of_refused : (name path : List ℕ) (want : Result (Option (List ℕ)) ReadFault) (fault : ReadFault) → IsAnswer read_cause (Err fault) want → IsAnswer read_cause (Err fault) (file_of name path want)
 of_refused name path want (File p) h = tt
 of_refused name path want Memory h = tt
 of_refused name path want (Document p f) h = ap (file_of name path) h
@@ -51,7 +52,7 @@ of_refused name path want (Limit kind) h = ap (file_of name path) h
 
 module _ (naming : Naming) (folder name path : List ℕ) (place : path ≡ joined folder name) where
   -- a name that is passed over has no file
-  pub no_file : (o : Option Tree) → is_ignored naming name ≡ true → IfSome o (λ files. Reads (Ok None) (file_at naming files folder name))
+  pub no_file : (o : Option Tree) → is_ignored naming name ≡ true → IfSome o (λ files. IsAnswer read_cause (Ok None) (file_at naming files folder name))
   unfolding file_at
   no_file None h = tt
   no_file (Some files) h = ap (λ b. cond b (Ok None) (file_of name (joined folder name) (contents_of (item_at files (joined folder name))))) h
@@ -60,16 +61,16 @@ module _ (naming : Naming) (folder name path : List ℕ) (place : path ≡ joine
   unfolding file_at
   at_path files h = ap (λ b. cond b (Ok None) (file_of name (joined folder name) (contents_of (item_at files (joined folder name))))) h ∙ ap (λ p. file_of name p (contents_of (item_at files p))) (sym place)
 
-  pub refused_file : (o : Option Tree) (fault : ReadFault) → is_ignored naming name ≡ false → IfSome o (λ files. Reads {T = Option (List ℕ)} (Err fault) (contents_of (item_at files path)))
-      → IfSome o (λ files. Reads {T = Option EnvFile} (Err fault) (file_at naming files folder name))
+  pub refused_file : (o : Option Tree) (fault : ReadFault) → is_ignored naming name ≡ false → IfSome o (λ files. IsAnswer {A = Option (List ℕ)} read_cause (Err fault) (contents_of (item_at files path)))
+      → IfSome o (λ files. IsAnswer {A = Option EnvFile} read_cause (Err fault) (file_at naming files folder name))
   refused_file None fault h r = tt
-  refused_file (Some files) fault h r = let P : Result (Option EnvFile) ReadFault → Type 0 = λ x. Reads (Err fault) x in subst P (sym (at_path files h)) (of_refused name path (contents_of (item_at files path)) fault r)
+  refused_file (Some files) fault h r = let P : Result (Option EnvFile) ReadFault → Type 0 = λ x. IsAnswer read_cause (Err fault) x in subst P (sym (at_path files h)) (of_refused name path (contents_of (item_at files path)) fault r)
 
-  found_at : (files : Tree) (found : Option (List ℕ)) (result : Result (Option EnvFile) ReadFault) → is_ignored naming name ≡ false → contents_of (item_at files path) ≡ Ok found → Reads result (file_of name path (Ok found)) → Reads result (file_at naming files folder name)
-  found_at files found result h r of = let P : Result (Option EnvFile) ReadFault → Type 0 = λ x. Reads result x in subst P (sym (at_path files h ∙ ap (file_of name path) r)) of
+  found_at : (files : Tree) (found : Option (List ℕ)) (result : Result (Option EnvFile) ReadFault) → is_ignored naming name ≡ false → contents_of (item_at files path) ≡ Ok found → IsAnswer read_cause result (file_of name path (Ok found)) → IsAnswer read_cause result (file_at naming files folder name)
+  found_at files found result h r of = let P : Result (Option EnvFile) ReadFault → Type 0 = λ x. IsAnswer read_cause result x in subst P (sym (at_path files h ∙ ap (file_of name path) r)) of
 
-  pub found_refused : (o : Option Tree) (found : Option (List ℕ)) (fault : ReadFault) → is_ignored naming name ≡ false → IfSome o (λ files. contents_of (item_at files path) ≡ Ok found) → Reads {T = Option EnvFile} (Err fault) (file_of name path (Ok found))
-      → IfSome o (λ files. Reads {T = Option EnvFile} (Err fault) (file_at naming files folder name))
+  pub found_refused : (o : Option Tree) (found : Option (List ℕ)) (fault : ReadFault) → is_ignored naming name ≡ false → IfSome o (λ files. contents_of (item_at files path) ≡ Ok found) → IsAnswer {A = Option EnvFile} read_cause (Err fault) (file_of name path (Ok found))
+      → IfSome o (λ files. IsAnswer {A = Option EnvFile} read_cause (Err fault) (file_at naming files folder name))
   found_refused None found fault h r of = tt
   found_refused (Some files) found fault h r of = found_at files found (Err fault) h r of
 

@@ -1,11 +1,12 @@
 -- The files of a folder's names: how far a loop over them has come.
-use Rattle.std.proofs.Common.{◌≡◌, ◌∙◌, refl, sym, ap, subst, ℕ, Bool, true, false, List, [], ◌∷◌, ◌++◌, append_assoc, Option, Some, None, Result, Ok, Err}
+use Rattle.std.proofs.Common.{◌≡◌, ◌∙◌, refl, sym, ap, subst, ℕ, true, false, List, [], ◌∷◌, ◌++◌, append_assoc, Option, Some, None, Result, Ok, Err}
 use Rattle.std.specs.Prelude.{IfSome}
 use Rattle.cnb_world.specs.Tree.{Tree, item_at, kind_of}
 use Rattle.cnb_world.specs.declared.world.Item.{Item}
 use Rattle.cnb_world.specs.declared.world.Item.TheVariants as item
 use Rattle.cnb_world.specs.declared.world.Kind.{Kind}
-use Rattle.doc_files.specs.Reading.{Reads}
+use Rattle.steps.specs.Causes.{IsAnswer}
+use Rattle.doc_files.specs.Faults.{read_cause}
 use Rattle.doc_files.specs.declared.fault.ReadFault.{ReadFault}
 use Rattle.doc_files.specs.declared.fault.ReadFault.TheVariants.{File, Document, Limit, Memory}
 use Rattle.cnb_env.specs.Contents.{file_at, with_found}
@@ -50,17 +51,17 @@ module _ (naming : Naming) (folder name : List ℕ) (names all : List (List ℕ)
       let Q : List (List ℕ) → Type 0 = λ x. behind done (files_of naming files folder x) ≡ whole_of files in
       moves_at files found (subst P e read) (subst Q w left)
 
-  stops_at : (files : Tree) (fault : ReadFault) → Reads {T = Option EnvFile} (Err fault) (file_at naming files folder name) → behind done (file_before (file_at naming files folder name) (rest_of files)) ≡ whole_of files → Reads {T = List EnvFile} (Err fault) (whole_of files)
+  stops_at : (files : Tree) (fault : ReadFault) → IsAnswer {A = Option EnvFile} read_cause (Err fault) (file_at naming files folder name) → behind done (file_before (file_at naming files folder name) (rest_of files)) ≡ whole_of files → IsAnswer {A = List EnvFile} read_cause (Err fault) (whole_of files)
   stops_at files (File path) read left = tt
   stops_at files Memory read left = tt
   stops_at files (Document path fault) read left = sym (step files (Err (Document path fault)) read left)
   stops_at files (Limit kind) read left = sym (step files (Err (Limit kind)) read left)
 
-  pub stops : (o o1 : Option Tree) (whole : List (List ℕ)) (fault : ReadFault) → o1 ≡ o → whole ≡ name ∷ names → IfSome o1 (λ files. Reads {T = Option EnvFile} (Err fault) (file_at naming files folder name)) → Leaves naming o folder done whole all
-      → IfSome o (λ files. Reads {T = List EnvFile} (Err fault) (whole_of files))
+  pub stops : (o o1 : Option Tree) (whole : List (List ℕ)) (fault : ReadFault) → o1 ≡ o → whole ≡ name ∷ names → IfSome o1 (λ files. IsAnswer {A = Option EnvFile} read_cause (Err fault) (file_at naming files folder name)) → Leaves naming o folder done whole all
+      → IfSome o (λ files. IsAnswer {A = List EnvFile} read_cause (Err fault) (whole_of files))
   stops None o1 whole fault e w read left = tt
   stops (Some files) o1 whole fault e w read left =
-      let P : Option Tree → Type 0 = λ x. IfSome x (λ t. Reads {T = Option EnvFile} (Err fault) (file_at naming t folder name)) in
+      let P : Option Tree → Type 0 = λ x. IfSome x (λ t. IsAnswer {A = Option EnvFile} read_cause (Err fault) (file_at naming t folder name)) in
       let Q : List (List ℕ) → Type 0 = λ x. behind done (files_of naming files folder x) ≡ whole_of files in
       stops_at files fault (subst P e read) (subst Q w left)
 
@@ -81,14 +82,14 @@ module _ (naming : Naming) (folder : List ℕ) where
   standing_is files (Some found) k h e = refl
 
   -- what stands there is read as a folder
-  standing_at : (files : Tree) (k : Kind) (result : Files) → is_absent k ≡ false → k ≡ kind_of (item_at files folder) → Reads result (listed_files naming files folder) → Reads result (folder_files_in naming folder files)
-  standing_at files k result h told read = let Q : Files → Type 0 = λ x. Reads result x in subst Q (sym (standing_is files (item_at files folder) k h told)) read
+  standing_at : (files : Tree) (k : Kind) (result : Files) → is_absent k ≡ false → k ≡ kind_of (item_at files folder) → IsAnswer read_cause result (listed_files naming files folder) → IsAnswer read_cause result (folder_files_in naming folder files)
+  standing_at files k result h told read = let Q : Files → Type 0 = λ x. IsAnswer read_cause result x in subst Q (sym (standing_is files (item_at files folder) k h told)) read
 
   pub standing_refused : (o o1 : Option Tree) (k : Kind) (fault : ReadFault) → o1 ≡ o → is_absent k ≡ false → IfSome o (λ files. k ≡ kind_of (item_at files folder))
-      → IfSome o1 (λ files. Reads {T = List EnvFile} (Err fault) (listed_files naming files folder)) → IfSome o (λ files. Reads {T = List EnvFile} (Err fault) (folder_files_in naming folder files))
+      → IfSome o1 (λ files. IsAnswer {A = List EnvFile} read_cause (Err fault) (listed_files naming files folder)) → IfSome o (λ files. IsAnswer {A = List EnvFile} read_cause (Err fault) (folder_files_in naming folder files))
   standing_refused None o1 k fault e h told read = tt
   standing_refused (Some files) o1 k fault e h told read =
-      let P : Option Tree → Type 0 = λ x. IfSome x (λ t. Reads {T = List EnvFile} (Err fault) (listed_files naming t folder)) in
+      let P : Option Tree → Type 0 = λ x. IfSome x (λ t. IsAnswer {A = List EnvFile} read_cause (Err fault) (listed_files naming t folder)) in
       standing_at files k (Err fault) h told (subst P e read)
 
   pub standing_folder : (o o1 : Option Tree) (k : Kind) (found : List EnvFile) → o1 ≡ o → is_absent k ≡ false → IfSome o (λ files. k ≡ kind_of (item_at files folder))

@@ -1,5 +1,5 @@
 -- The environment that buildpacks' children begin with (buildpack.md, "Environment"; platform.md, "Environment").
-use Rattle.std.specs.Prelude.{ℕ, Bool, not, List, codes, nat_eq}
+use Rattle.std.specs.Prelude.{Bool, not, List, codes, nat_eq}
 use Rattle.std.specs.List.{filter, starts_with}
 use Rattle.cnb_world.specs.declared.env.Variable.{Variable}
 

@@ -1,11 +1,11 @@
 -- Reading the environment files of a folder.
 use Rattle.std.specs.Prelude.{ℕ, ◌≡◌, ◌⊎◌, IsTrue, Bool, true, false, List, [], ◌∷◌, codes, Option, Some, None, Result, Ok, Err}
 use Rattle.cnb_world.specs.Path.{is_part, joined}
-use Rattle.cnb_world.specs.Steps.{◌>>=◌}
 use Rattle.cnb_world.specs.Tree.{Tree, is_folder, item_at}
 use Rattle.cnb_world.specs.declared.world.Item.{Item}
 use Rattle.cnb_world.specs.declared.world.Kind.{Kind}
 use Rattle.cnb_world.specs.declared.world.Kind.TheVariants as kind
+use Rattle.steps.specs.Results.{◌>>=◌}
 use Rattle.doc_files.specs.Reading.{names_at}
 use Rattle.doc_files.specs.declared.fault.ReadFault.{ReadFault}
 use Rattle.cnb_env.specs.Contents.{file_at}

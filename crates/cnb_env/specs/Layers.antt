@@ -1,13 +1,13 @@
 -- The environment that layers give (buildpack.md, "Layer Paths"; "Provided by the Buildpacks").
-use Rattle.std.specs.Prelude.{ℕ, ◌≡◌, ◌≤◌, ◌⊎◌, IfSome, IsTrue, Bool, not, List, [], ◌∷◌, ◌++◌, codes, filter, map, length, if◌then◌else◌, Option, Some, None, Result, Ok, Err, ◌==◌}
+use Rattle.std.specs.Prelude.{ℕ, ◌≡◌, ◌≤◌, ◌⊎◌, IfSome, IsTrue, Bool, List, [], ◌∷◌, ◌++◌, codes, filter, map, length, if◌then◌else◌, Option, Some, None, Result, Ok, Err}
 use Rattle.std.specs.List.{All, IsAmong, join_by, list_all}
 use Rattle.cnb_world.specs.Env.{with_value}
 use Rattle.cnb_world.specs.Path.{is_part, joined}
-use Rattle.cnb_world.specs.Steps.{◌>>=◌}
 use Rattle.cnb_world.specs.Tree.{Tree, is_folder, item_at}
 use Rattle.cnb_world.specs.declared.env.Variable.{Variable}
+use Rattle.steps.specs.Results.{◌>>=◌}
 use Rattle.doc_files.specs.declared.fault.ReadFault.{ReadFault}
-use Rattle.doc_files.specs.declared.fault.ReadFault.TheVariants.{Memory}
+use Rattle.doc_files.specs.declared.fault.ReadFault.TheVariants.{File, Document, Limit, Memory}
 use Rattle.cnb_env.specs.Apply.{HasFirst, all_applied, applied_among, in_front, text_of}
 use Rattle.cnb_env.specs.Files.{IsOfFolder, folder_files_in, is_fit_folder}
 use Rattle.cnb_env.specs.Platform.{with_files}
@@ -164,3 +164,10 @@ IsOfLayers layers path = (layer : List ℕ) × IsAmong layers layer × IsOfLayer
 
 abbrev pub IsOfSets : List (List (List ℕ)) → List ℕ → Type 0
 IsOfSets sets path = (layers : List (List ℕ)) × IsAmong sets layers × IsOfLayers layers path
+
+-- a call on one of these paths failed, or memory ran out
+abbrev pub FailsOne : (List ℕ → Type 0) → ReadFault → Type 0
+FailsOne Among (File blamed) = Among blamed
+FailsOne Among Memory = Unit {0}
+FailsOne Among (Document blamed fault) = ⊥
+FailsOne Among (Limit kind) = ⊥

@@ -2,8 +2,11 @@
 ghost use Rattle.std.specs.Prelude.{◌≡◌, ◌≤◌, IfErr, IfSome, OnErr, OnOk, length};
 ghost use Rattle.std.specs.Option.{option_map};
 ghost use Rattle.cnb_world.specs.Calls.{MayMisuse};
-ghost use Rattle.doc_files.specs.Counts.{CountsFiles};
-ghost use Rattle.doc_files.specs.Reading.{BlamesOne, NamesFailed, Reads};
+ghost use Rattle.steps.specs.Causes.{IsAnswer};
+ghost use Rattle.steps.specs.Outside.{seen};
+ghost use Rattle.steps.specs.Reading.{ReadFrame};
+ghost use Rattle.doc_files.specs.Faults.{read_cause};
+ghost use Rattle.doc_files.specs.Reading.{BlamesOne};
 ghost use Rattle.cnb_env.specs.Apply.{HasFirst, all_applied, applied_among, delimiter_in, is_delimiter_of};
 ghost use Rattle.cnb_env.specs.Files.{IsOfFolder, is_fit_folder};
 ghost use Rattle.cnb_env.specs.Layers.{LeavesFirst, folder_applied, giving};
@@ -72,14 +75,10 @@ pub fn env_folder<W: World>(
 ) -> Result<(), ReadFault>
     requires { length folder.now ≤ 16384 }
     ensures reads { IfSome (W.tree world.old) (λ files.
-        Reads (giving env.new result) (folder_applied files folder.now env.old)) }
+        IsAnswer read_cause (giving env.new result) (folder_applied files folder.now env.old)) }
     ensures refused { LeavesFirst result (W.tree world.old) folder.now env.old env.new }
     ensures blames { IfErr result (BlamesOne (IsOfFolder folder.now)) }
-    ensures cause { IfErr result (NamesFailed (W.failed_at world.new)) }
-    ensures tree { W.tree world.new ≡ W.tree world.old }
-    ensures files { CountsFiles result (W.file_faults world.old) (W.file_faults world.new) }
-    ensures children { W.child_faults world.new ≡ W.child_faults world.old }
-    ensures runs { W.runs world.new ≡ W.runs world.old }
+    ensures frame { ReadFrame read_cause result (seen W.World world.old) (seen W.World world.new) }
     ensures misused { MayMisuse (option_map (is_fit_folder folder.now) (W.tree world.old))
         (W.misused world.old) (W.misused world.new) }
 {

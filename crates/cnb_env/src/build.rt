@@ -3,8 +3,11 @@ ghost use Rattle.std.specs.Prelude.{◌≡◌, IfErr, IfSome, OnOk};
 ghost use Rattle.std.specs.List.{All};
 ghost use Rattle.std.specs.Option.{option_copied, option_map};
 ghost use Rattle.cnb_world.specs.Calls.{MayMisuse};
-ghost use Rattle.doc_files.specs.Counts.{CountsFiles};
-ghost use Rattle.doc_files.specs.Reading.{BlamesOne, NamesFailed, Reads};
+ghost use Rattle.steps.specs.Causes.{IsAnswer};
+ghost use Rattle.steps.specs.Outside.{seen};
+ghost use Rattle.steps.specs.Reading.{ReadFrame};
+ghost use Rattle.doc_files.specs.Faults.{read_cause};
+ghost use Rattle.doc_files.specs.Reading.{BlamesOne};
 ghost use Rattle.cnb_env.specs.Layers.{AreShort, IsOfSets, are_fit_build_sets, build_env, with_platform};
 
 use crate::files::EnvFile;
@@ -34,13 +37,9 @@ pub fn build_env<W: World>(
 ) -> Result<Env, ReadFault>
     requires { All AreShort done.now }
     ensures reads { IfSome (W.tree world.old) (λ tree.
-        Reads result (build_env done.now (option_copied files.entry) base.now tree)) }
+        IsAnswer read_cause result (build_env done.now (option_copied files.entry) base.now tree)) }
     ensures blames { IfErr result (BlamesOne (IsOfSets done.now)) }
-    ensures cause { IfErr result (NamesFailed (W.failed_at world.new)) }
-    ensures tree { W.tree world.new ≡ W.tree world.old }
-    ensures files { CountsFiles result (W.file_faults world.old) (W.file_faults world.new) }
-    ensures children { W.child_faults world.new ≡ W.child_faults world.old }
-    ensures runs { W.runs world.new ≡ W.runs world.old }
+    ensures frame { ReadFrame read_cause result (seen W.World world.old) (seen W.World world.new) }
     ensures misused { MayMisuse (option_map (λ tree. are_fit_build_sets tree done.now) (W.tree world.old))
         (W.misused world.old) (W.misused world.new) }
 {

@@ -3,8 +3,11 @@ ghost use Rattle.std.specs.Prelude.{◌≡◌, ◌≤◌, ◌==◌, IfErr, IfSom
 ghost use Rattle.std.specs.List.{list_any};
 ghost use Rattle.cnb_world.specs.Path.{is_part, joined};
 ghost use Rattle.cnb_world.specs.Tree.{item_at};
-ghost use Rattle.doc_files.specs.Counts.{CountsFiles};
-ghost use Rattle.doc_files.specs.Reading.{BlamesOnly, NamesFailed, Reads};
+ghost use Rattle.steps.specs.Causes.{CountsFiles, IsAnswer};
+ghost use Rattle.steps.specs.Outside.{seen};
+ghost use Rattle.steps.specs.Reading.{ReadFrame};
+ghost use Rattle.doc_files.specs.Faults.{read_cause};
+ghost use Rattle.doc_files.specs.Reading.{BlamesOnly};
 ghost use Rattle.cnb_env.specs.Contents.{contents_of, file_at, file_of, value_in};
 
 use crate::files::EnvFile;
@@ -24,13 +27,10 @@ pub fn contents<W: World>(
     world: &mut W,
     path: &Path,
 ) -> Result<Option<Bytes>, ReadFault>
-    ensures reads { IfSome (W.tree world.old) (λ files. Reads result (contents_of (item_at files path.now))) }
+    ensures reads { IfSome (W.tree world.old) (λ files.
+        IsAnswer read_cause result (contents_of (item_at files path.now))) }
     ensures blames { IfErr result (BlamesOnly path.now) }
-    ensures cause { IfErr result (NamesFailed (W.failed_at world.new)) }
-    ensures tree { W.tree world.new ≡ W.tree world.old }
-    ensures files { CountsFiles result (W.file_faults world.old) (W.file_faults world.new) }
-    ensures children { W.child_faults world.new ≡ W.child_faults world.old }
-    ensures runs { W.runs world.new ≡ W.runs world.old }
+    ensures frame { ReadFrame read_cause result (seen W.World world.old) (seen W.World world.new) }
     ensures misused { W.misused world.new ≡ W.misused world.old }
 {
     match world.kind(path) {
@@ -55,9 +55,9 @@ fn has_zero(bytes: &[u8]) -> bool
 // The value that a file's bytes are.
 #[tactic(auto, using(crate::proofs::Texts::is_text, crate::proofs::Texts::is_no_text))]
 fn value_in(alloc: Global, path: &Path, bytes: &[u8]) -> Result<Text, ReadFault>
-    ensures reads { Reads result (value_in path.now bytes.now) }
+    ensures reads { IsAnswer read_cause result (value_in path.now bytes.now) }
     ensures blames { IfErr result (BlamesOnly path.now) }
-    ensures files { (n : ℕ) → CountsFiles result n n }
+    ensures files { (n : ℕ) → CountsFiles read_cause result n n }
 {
     match std::str::from_utf8(bytes) {
         Err(_) => Err(ReadFault::Document(path.copy(alloc)?, DocFault::NotUtf8)),
@@ -76,9 +76,9 @@ fn file_of(
     name: &Text,
     found: Option<Bytes>,
 ) -> Result<Option<EnvFile>, ReadFault>
-    ensures reads { Reads result (file_of name.now path.now (Ok found)) }
+    ensures reads { IsAnswer read_cause result (file_of name.now path.now (Ok found)) }
     ensures blames { IfErr result (BlamesOnly path.now) }
-    ensures files { (n : ℕ) → CountsFiles result n n }
+    ensures files { (n : ℕ) → CountsFiles read_cause result n n }
 {
     match found {
         Some(bytes) => {
@@ -101,13 +101,10 @@ pub(crate) fn read_file<W: World>(
 ) -> Result<Option<EnvFile>, ReadFault>
     requires part { IsTrue (is_part name.now) }
     requires short { length folder.now ≤ 16384 }
-    ensures reads { IfSome (W.tree world.old) (λ files. Reads result (file_at naming files folder.now name.now)) }
+    ensures reads { IfSome (W.tree world.old) (λ files.
+        IsAnswer read_cause result (file_at naming files folder.now name.now)) }
     ensures blames { IfErr result (BlamesOnly (joined folder.now name.now)) }
-    ensures cause { IfErr result (NamesFailed (W.failed_at world.new)) }
-    ensures tree { W.tree world.new ≡ W.tree world.old }
-    ensures files { CountsFiles result (W.file_faults world.old) (W.file_faults world.new) }
-    ensures children { W.child_faults world.new ≡ W.child_faults world.old }
-    ensures runs { W.runs world.new ≡ W.runs world.old }
+    ensures frame { ReadFrame read_cause result (seen W.World world.old) (seen W.World world.new) }
     ensures misused { W.misused world.new ≡ W.misused world.old }
 {
     if is_ignored(naming, name.as_str()) {

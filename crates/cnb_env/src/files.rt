@@ -1,9 +1,12 @@
 // The platform's environment files.
-ghost use Rattle.std.specs.Prelude.{◌≡◌, ◌≤◌, IfErr, IfSome, length};
+ghost use Rattle.std.specs.Prelude.{◌≤◌, IfErr, IfSome, length};
 ghost use Rattle.std.specs.Option.{option_map};
 ghost use Rattle.cnb_world.specs.Calls.{MayMisuse};
-ghost use Rattle.doc_files.specs.Counts.{CountsFiles};
-ghost use Rattle.doc_files.specs.Reading.{BlamesOne, NamesFailed, Reads};
+ghost use Rattle.steps.specs.Causes.{IsAnswer};
+ghost use Rattle.steps.specs.Outside.{seen};
+ghost use Rattle.steps.specs.Reading.{ReadFrame};
+ghost use Rattle.doc_files.specs.Faults.{read_cause};
+ghost use Rattle.doc_files.specs.Reading.{BlamesOne};
 ghost use Rattle.cnb_env.specs.Files.{IsOfFolder, is_fit_platform, platform_env, platform_files_in};
 
 use crate::folder::folder_files;
@@ -29,13 +32,10 @@ pub fn platform_files<W: World>(
     platform: &Path,
 ) -> Result<List<EnvFile>, ReadFault>
     requires { length platform.now ≤ 8192 }
-    ensures reads { IfSome (W.tree world.old) (λ files. Reads result (platform_files_in platform.now files)) }
+    ensures reads { IfSome (W.tree world.old) (λ files.
+        IsAnswer read_cause result (platform_files_in platform.now files)) }
     ensures blames { IfErr result (BlamesOne (IsOfFolder (platform_env platform.now))) }
-    ensures cause { IfErr result (NamesFailed (W.failed_at world.new)) }
-    ensures tree { W.tree world.new ≡ W.tree world.old }
-    ensures files { CountsFiles result (W.file_faults world.old) (W.file_faults world.new) }
-    ensures children { W.child_faults world.new ≡ W.child_faults world.old }
-    ensures runs { W.runs world.new ≡ W.runs world.old }
+    ensures frame { ReadFrame read_cause result (seen W.World world.old) (seen W.World world.new) }
     ensures misused { MayMisuse (option_map (is_fit_platform platform.now) (W.tree world.old))
         (W.misused world.old) (W.misused world.new) }
 {

@@ -3,8 +3,11 @@ ghost use Rattle.std.specs.Prelude.{◌≡◌, ◌≤◌, IfErr, IfSome, OnOk, l
 ghost use Rattle.std.specs.Option.{option_map};
 ghost use Rattle.cnb_world.specs.Calls.{AreNames, MayMisuse};
 ghost use Rattle.cnb_world.specs.Tree.{can_list};
-ghost use Rattle.doc_files.specs.Counts.{CountsFiles};
-ghost use Rattle.doc_files.specs.Reading.{BlamesOne, NamesFailed, Reads};
+ghost use Rattle.steps.specs.Causes.{IsAnswer};
+ghost use Rattle.steps.specs.Outside.{seen};
+ghost use Rattle.steps.specs.Reading.{ReadFrame};
+ghost use Rattle.doc_files.specs.Faults.{read_cause};
+ghost use Rattle.doc_files.specs.Reading.{BlamesOne};
 ghost use Rattle.cnb_env.specs.Contents.{with_found};
 ghost use Rattle.cnb_env.specs.Files.{IsOfFolder, files_of, folder_files_in, is_absent, is_fit_folder, listed_files};
 
@@ -34,13 +37,10 @@ fn read_files<W: World>(
 ) -> Result<List<EnvFile>, ReadFault>
     requires names { AreNames names.now }
     requires short { length folder.now ≤ 16384 }
-    ensures reads { IfSome (W.tree world.old) (λ files. Reads result (files_of naming files folder.now names.now)) }
+    ensures reads { IfSome (W.tree world.old) (λ files.
+        IsAnswer read_cause result (files_of naming files folder.now names.now)) }
     ensures blames { IfErr result (BlamesOne (IsOfFolder folder.now)) }
-    ensures cause { IfErr result (NamesFailed (W.failed_at world.new)) }
-    ensures tree { W.tree world.new ≡ W.tree world.old }
-    ensures files { CountsFiles result (W.file_faults world.old) (W.file_faults world.new) }
-    ensures children { W.child_faults world.new ≡ W.child_faults world.old }
-    ensures runs { W.runs world.new ≡ W.runs world.old }
+    ensures frame { ReadFrame read_cause result (seen W.World world.old) (seen W.World world.new) }
     ensures misused { W.misused world.new ≡ W.misused world.old }
 {
     let mut files = List::new(alloc);
@@ -59,13 +59,10 @@ fn read_folder<W: World>(
     naming: Naming,
 ) -> Result<List<EnvFile>, ReadFault>
     requires { length folder.now ≤ 16384 }
-    ensures reads { IfSome (W.tree world.old) (λ files. Reads result (listed_files naming files folder.now)) }
+    ensures reads { IfSome (W.tree world.old) (λ files.
+        IsAnswer read_cause result (listed_files naming files folder.now)) }
     ensures blames { IfErr result (BlamesOne (IsOfFolder folder.now)) }
-    ensures cause { IfErr result (NamesFailed (W.failed_at world.new)) }
-    ensures tree { W.tree world.new ≡ W.tree world.old }
-    ensures files { CountsFiles result (W.file_faults world.old) (W.file_faults world.new) }
-    ensures children { W.child_faults world.new ≡ W.child_faults world.old }
-    ensures runs { W.runs world.new ≡ W.runs world.old }
+    ensures frame { ReadFrame read_cause result (seen W.World world.old) (seen W.World world.new) }
     ensures misused { MayMisuse (option_map (λ files. can_list files folder.now) (W.tree world.old))
         (W.misused world.old) (W.misused world.new) }
 {
@@ -89,13 +86,10 @@ pub(crate) fn folder_files<W: World>(
     naming: Naming,
 ) -> Result<List<EnvFile>, ReadFault>
     requires { length folder.now ≤ 16384 }
-    ensures reads { IfSome (W.tree world.old) (λ files. Reads result (folder_files_in naming folder.now files)) }
+    ensures reads { IfSome (W.tree world.old) (λ files.
+        IsAnswer read_cause result (folder_files_in naming folder.now files)) }
     ensures blames { IfErr result (BlamesOne (IsOfFolder folder.now)) }
-    ensures cause { IfErr result (NamesFailed (W.failed_at world.new)) }
-    ensures tree { W.tree world.new ≡ W.tree world.old }
-    ensures files { CountsFiles result (W.file_faults world.old) (W.file_faults world.new) }
-    ensures children { W.child_faults world.new ≡ W.child_faults world.old }
-    ensures runs { W.runs world.new ≡ W.runs world.old }
+    ensures frame { ReadFrame read_cause result (seen W.World world.old) (seen W.World world.new) }
     ensures misused { MayMisuse (option_map (is_fit_folder folder.now) (W.tree world.old))
         (W.misused world.old) (W.misused world.new) }
 {

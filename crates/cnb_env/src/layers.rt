@@ -4,8 +4,11 @@ ghost use Rattle.std.specs.List.{All};
 ghost use Rattle.std.specs.Option.{option_map};
 ghost use Rattle.cnb_world.specs.Calls.{MayMisuse};
 ghost use Rattle.cnb_world.specs.Path.{is_part, joined};
-ghost use Rattle.doc_files.specs.Counts.{CountsFiles};
-ghost use Rattle.doc_files.specs.Reading.{BlamesOne, NamesFailed, Reads};
+ghost use Rattle.steps.specs.Causes.{IsAnswer};
+ghost use Rattle.steps.specs.Outside.{seen};
+ghost use Rattle.steps.specs.Reading.{ReadFrame};
+ghost use Rattle.doc_files.specs.Faults.{read_cause};
+ghost use Rattle.doc_files.specs.Reading.{BlamesOne};
 ghost use Rattle.cnb_env.specs.Files.{IsOfFolder, is_fit_folder};
 ghost use Rattle.cnb_env.specs.Layers.{AreShort, HasRoom, IsOfFolderIn, IsOfLayer, IsOfLayers, IsOfSets, IsShort};
 ghost use Rattle.cnb_env.specs.Layers.{are_fit_folders, are_fit_sets, is_fit_layer, is_fit_set};
@@ -49,13 +52,9 @@ fn apply_folder<W: World>(
     requires part { IsTrue (is_part name.now) }
     requires short { HasRoom layer.now }
     ensures reads { IfSome (W.tree world.old) (λ files.
-        Reads (giving env.new result) (folder_applied files (joined layer.now name.now) env.old)) }
+        IsAnswer read_cause (giving env.new result) (folder_applied files (joined layer.now name.now) env.old)) }
     ensures blames { IfErr result (BlamesOne (IsOfFolder (joined layer.now name.now))) }
-    ensures cause { IfErr result (NamesFailed (W.failed_at world.new)) }
-    ensures tree { W.tree world.new ≡ W.tree world.old }
-    ensures files { CountsFiles result (W.file_faults world.old) (W.file_faults world.new) }
-    ensures children { W.child_faults world.new ≡ W.child_faults world.old }
-    ensures runs { W.runs world.new ≡ W.runs world.old }
+    ensures frame { ReadFrame read_cause result (seen W.World world.old) (seen W.World world.new) }
     ensures misused { MayMisuse (option_map (is_fit_folder (joined layer.now name.now)) (W.tree world.old))
         (W.misused world.old) (W.misused world.new) }
 {
@@ -74,14 +73,10 @@ fn apply_type_folder<W: World>(
     kind: &Option<ProcType>,
 ) -> Result<(), ReadFault>
     requires { HasRoom folder.now }
-    ensures reads { IfSome (W.tree world.old) (λ files.
-        Reads (giving env.new result) (each (folder_applied files) (type_folders kind.now folder.now) env.old)) }
+    ensures reads { IfSome (W.tree world.old) (λ files. IsAnswer read_cause (giving env.new result)
+        (each (folder_applied files) (type_folders kind.now folder.now) env.old)) }
     ensures blames { IfErr result (BlamesOne (IsOfFolderIn folder.now)) }
-    ensures cause { IfErr result (NamesFailed (W.failed_at world.new)) }
-    ensures tree { W.tree world.new ≡ W.tree world.old }
-    ensures files { CountsFiles result (W.file_faults world.old) (W.file_faults world.new) }
-    ensures children { W.child_faults world.new ≡ W.child_faults world.old }
-    ensures runs { W.runs world.new ≡ W.runs world.old }
+    ensures frame { ReadFrame read_cause result (seen W.World world.old) (seen W.World world.new) }
     ensures misused { MayMisuse (option_map (λ files. are_fit_folders files (type_folders kind.now folder.now))
         (W.tree world.old)) (W.misused world.old) (W.misused world.new) }
 {
@@ -100,14 +95,10 @@ fn apply_launch_folders<W: World>(
     kind: &Option<ProcType>,
 ) -> Result<(), ReadFault>
     requires { IsShort layer.now }
-    ensures reads { IfSome (W.tree world.old) (λ files.
-        Reads (giving env.new result) (each (folder_applied files) (launch_folders kind.now layer.now) env.old)) }
+    ensures reads { IfSome (W.tree world.old) (λ files. IsAnswer read_cause (giving env.new result)
+        (each (folder_applied files) (launch_folders kind.now layer.now) env.old)) }
     ensures blames { IfErr result (BlamesOne (IsOfLayer layer.now)) }
-    ensures cause { IfErr result (NamesFailed (W.failed_at world.new)) }
-    ensures tree { W.tree world.new ≡ W.tree world.old }
-    ensures files { CountsFiles result (W.file_faults world.old) (W.file_faults world.new) }
-    ensures children { W.child_faults world.new ≡ W.child_faults world.old }
-    ensures runs { W.runs world.new ≡ W.runs world.old }
+    ensures frame { ReadFrame read_cause result (seen W.World world.old) (seen W.World world.new) }
     ensures misused { MayMisuse (option_map (λ files. are_fit_folders files (launch_folders kind.now layer.now))
         (W.tree world.old)) (W.misused world.old) (W.misused world.new) }
 {
@@ -126,14 +117,10 @@ fn apply_phase_folders<W: World>(
     phase: &Phase,
 ) -> Result<(), ReadFault>
     requires { IsShort layer.now }
-    ensures reads { IfSome (W.tree world.old) (λ files.
-        Reads (giving env.new result) (each (folder_applied files) (phase_folders phase.now layer.now) env.old)) }
+    ensures reads { IfSome (W.tree world.old) (λ files. IsAnswer read_cause (giving env.new result)
+        (each (folder_applied files) (phase_folders phase.now layer.now) env.old)) }
     ensures blames { IfErr result (BlamesOne (IsOfLayer layer.now)) }
-    ensures cause { IfErr result (NamesFailed (W.failed_at world.new)) }
-    ensures tree { W.tree world.new ≡ W.tree world.old }
-    ensures files { CountsFiles result (W.file_faults world.old) (W.file_faults world.new) }
-    ensures children { W.child_faults world.new ≡ W.child_faults world.old }
-    ensures runs { W.runs world.new ≡ W.runs world.old }
+    ensures frame { ReadFrame read_cause result (seen W.World world.old) (seen W.World world.new) }
     ensures misused { MayMisuse (option_map (λ files. are_fit_folders files (phase_folders phase.now layer.now))
         (W.tree world.old)) (W.misused world.old) (W.misused world.new) }
 {
@@ -153,13 +140,9 @@ fn apply_layer<W: World>(
 ) -> Result<(), ReadFault>
     requires { IsShort layer.now }
     ensures reads { IfSome (W.tree world.old) (λ files.
-        Reads (giving env.new result) (layer_applied phase.now files layer.now env.old)) }
+        IsAnswer read_cause (giving env.new result) (layer_applied phase.now files layer.now env.old)) }
     ensures blames { IfErr result (BlamesOne (IsOfLayer layer.now)) }
-    ensures cause { IfErr result (NamesFailed (W.failed_at world.new)) }
-    ensures tree { W.tree world.new ≡ W.tree world.old }
-    ensures files { CountsFiles result (W.file_faults world.old) (W.file_faults world.new) }
-    ensures children { W.child_faults world.new ≡ W.child_faults world.old }
-    ensures runs { W.runs world.new ≡ W.runs world.old }
+    ensures frame { ReadFrame read_cause result (seen W.World world.old) (seen W.World world.new) }
     ensures misused { MayMisuse (option_map (λ files. is_fit_layer phase.now files layer.now) (W.tree world.old))
         (W.misused world.old) (W.misused world.new) }
 {
@@ -178,13 +161,9 @@ fn apply_layers<W: World>(
 ) -> Result<(), ReadFault>
     requires { All IsShort layers.now }
     ensures reads { IfSome (W.tree world.old) (λ files.
-        Reads (giving env.new result) (each (layer_applied phase.now files) layers.now env.old)) }
+        IsAnswer read_cause (giving env.new result) (each (layer_applied phase.now files) layers.now env.old)) }
     ensures blames { IfErr result (BlamesOne (IsOfLayers layers.now)) }
-    ensures cause { IfErr result (NamesFailed (W.failed_at world.new)) }
-    ensures tree { W.tree world.new ≡ W.tree world.old }
-    ensures files { CountsFiles result (W.file_faults world.old) (W.file_faults world.new) }
-    ensures children { W.child_faults world.new ≡ W.child_faults world.old }
-    ensures runs { W.runs world.new ≡ W.runs world.old }
+    ensures frame { ReadFrame read_cause result (seen W.World world.old) (seen W.World world.new) }
     ensures misused { MayMisuse (option_map (λ files. is_fit_set phase.now files layers.now) (W.tree world.old))
         (W.misused world.old) (W.misused world.new) }
 {
@@ -204,13 +183,9 @@ fn apply_set<W: World>(
 ) -> Result<(), ReadFault>
     requires { All IsShort layers.now }
     ensures reads { IfSome (W.tree world.old) (λ files.
-        Reads (giving env.new result) (set_applied phase.now files layers.now env.old)) }
+        IsAnswer read_cause (giving env.new result) (set_applied phase.now files layers.now env.old)) }
     ensures blames { IfErr result (BlamesOne (IsOfLayers layers.now)) }
-    ensures cause { IfErr result (NamesFailed (W.failed_at world.new)) }
-    ensures tree { W.tree world.new ≡ W.tree world.old }
-    ensures files { CountsFiles result (W.file_faults world.old) (W.file_faults world.new) }
-    ensures children { W.child_faults world.new ≡ W.child_faults world.old }
-    ensures runs { W.runs world.new ≡ W.runs world.old }
+    ensures frame { ReadFrame read_cause result (seen W.World world.old) (seen W.World world.new) }
     ensures misused { MayMisuse (option_map (λ files. is_fit_set phase.now files layers.now) (W.tree world.old))
         (W.misused world.old) (W.misused world.new) }
 {
@@ -230,13 +205,9 @@ pub(crate) fn apply_sets<W: World>(
 ) -> Result<(), ReadFault>
     requires { All AreShort sets.now }
     ensures reads { IfSome (W.tree world.old) (λ files.
-        Reads (giving env.new result) (each (set_applied phase.now files) sets.now env.old)) }
+        IsAnswer read_cause (giving env.new result) (each (set_applied phase.now files) sets.now env.old)) }
     ensures blames { IfErr result (BlamesOne (IsOfSets sets.now)) }
-    ensures cause { IfErr result (NamesFailed (W.failed_at world.new)) }
-    ensures tree { W.tree world.new ≡ W.tree world.old }
-    ensures files { CountsFiles result (W.file_faults world.old) (W.file_faults world.new) }
-    ensures children { W.child_faults world.new ≡ W.child_faults world.old }
-    ensures runs { W.runs world.new ≡ W.runs world.old }
+    ensures frame { ReadFrame read_cause result (seen W.World world.old) (seen W.World world.new) }
     ensures misused { MayMisuse (option_map (λ files. are_fit_sets phase.now files sets.now) (W.tree world.old))
         (W.misused world.old) (W.misused world.new) }
 {

@@ -1,11 +1,15 @@
 // The path folders of layers in an environment.
-ghost use Rattle.std.specs.Prelude.{◌≡◌, ◌++◌, ◌∷◌, [], IfErr, IfOk, IfSome, IsTrue, Ok, OnErr, OnOk, codes, filter, string_bytes};
+ghost use Rattle.std.specs.Prelude.{◌≡◌, ◌++◌, ◌∷◌, [], IfErr, IfOk, IfSome, IsTrue, Ok, OnErr, OnOk};
+ghost use Rattle.std.specs.Prelude.{codes, filter, string_bytes};
 ghost use Rattle.std.specs.List.{All, join_by};
 ghost use Rattle.cnb_world.specs.Path.{is_part};
 ghost use Rattle.cnb_world.specs.Tree.{is_folder, item_at};
-ghost use Rattle.doc_files.specs.Counts.{CountsFiles};
-ghost use Rattle.doc_files.specs.Reading.{BlamesOne, FailsAt, NamesFailed, Reads, is_free};
-ghost use Rattle.cnb_env.specs.Layers.{IsOfLayers, IsShort, folders_at, giving, separated, standing_at};
+ghost use Rattle.steps.specs.Causes.{IsAnswer};
+ghost use Rattle.steps.specs.Outside.{seen};
+ghost use Rattle.steps.specs.Reading.{ReadFrame};
+ghost use Rattle.doc_files.specs.Faults.{read_cause};
+ghost use Rattle.doc_files.specs.Reading.{BlamesOne, FailsAt};
+ghost use Rattle.cnb_env.specs.Layers.{FailsOne, IsOfLayers, IsShort, folders_at, giving, separated, standing_at};
 ghost use Rattle.cnb_env.specs.Layers.{with_build_paths, with_front, with_launch_paths, with_paths};
 
 use crate::apply::{in_front, text_of};
@@ -30,11 +34,7 @@ fn push_standing<W: World>(
     ensures found { IfSome (W.tree world.old) (λ files. OnOk result (paths.new ≡ paths.old ++ filter (λ p.
         is_folder (item_at files p)) (path ∷ []))) }
     ensures fails { IfErr result (FailsAt path) }
-    ensures cause { IfErr result (NamesFailed (W.failed_at world.new)) }
-    ensures tree { W.tree world.new ≡ W.tree world.old }
-    ensures files { CountsFiles result (W.file_faults world.old) (W.file_faults world.new) }
-    ensures children { W.child_faults world.new ≡ W.child_faults world.old }
-    ensures runs { W.runs world.new ≡ W.runs world.old }
+    ensures frame { ReadFrame read_cause result (seen W.World world.old) (seen W.World world.new) }
     ensures misused { W.misused world.new ≡ W.misused world.old }
 {
     if is_folder(alloc, world, &path)? {
@@ -54,13 +54,8 @@ fn standing<W: World>(
     requires short { All IsShort layers.now }
     ensures found { IfSome (W.tree world.old) (λ files. IfOk result (λ paths.
         paths ≡ standing_at files layers.now name.now)) }
-    ensures fails { IfErr result (λ fault. IsTrue (is_free fault)) }
-    ensures blames { IfErr result (BlamesOne (IsOfLayers layers.now)) }
-    ensures cause { IfErr result (NamesFailed (W.failed_at world.new)) }
-    ensures tree { W.tree world.new ≡ W.tree world.old }
-    ensures files { CountsFiles result (W.file_faults world.old) (W.file_faults world.new) }
-    ensures children { W.child_faults world.new ≡ W.child_faults world.old }
-    ensures runs { W.runs world.new ≡ W.runs world.old }
+    ensures fails { IfErr result (FailsOne (IsOfLayers layers.now)) }
+    ensures frame { ReadFrame read_cause result (seen W.World world.old) (seen W.World world.new) }
     ensures misused { W.misused world.new ≡ W.misused world.old }
 {
     let mut paths = List::new(alloc);
@@ -102,13 +97,8 @@ fn folders<W: World>(
     requires short { All IsShort layers.now }
     ensures found { IfSome (W.tree world.old) (λ files. IfOk result (λ text.
         text ≡ folders_at files layers.now name.now)) }
-    ensures fails { IfErr result (λ fault. IsTrue (is_free fault)) }
-    ensures blames { IfErr result (BlamesOne (IsOfLayers layers.now)) }
-    ensures cause { IfErr result (NamesFailed (W.failed_at world.new)) }
-    ensures tree { W.tree world.new ≡ W.tree world.old }
-    ensures files { CountsFiles result (W.file_faults world.old) (W.file_faults world.new) }
-    ensures children { W.child_faults world.new ≡ W.child_faults world.old }
-    ensures runs { W.runs world.new ≡ W.runs world.old }
+    ensures fails { IfErr result (FailsOne (IsOfLayers layers.now)) }
+    ensures frame { ReadFrame read_cause result (seen W.World world.old) (seen W.World world.new) }
     ensures misused { W.misused world.new ≡ W.misused world.old }
 {
     let paths = standing(alloc, world, layers, name)?;
@@ -140,13 +130,8 @@ fn put_launch_paths<W: World>(
     requires { All IsShort layers.now }
     ensures found { IfSome (W.tree world.old) (λ files.
         OnOk result (env.new ≡ with_launch_paths files layers.now env.old)) }
-    ensures fails { IfErr result (λ fault. IsTrue (is_free fault)) }
-    ensures blames { IfErr result (BlamesOne (IsOfLayers layers.now)) }
-    ensures cause { IfErr result (NamesFailed (W.failed_at world.new)) }
-    ensures tree { W.tree world.new ≡ W.tree world.old }
-    ensures files { CountsFiles result (W.file_faults world.old) (W.file_faults world.new) }
-    ensures children { W.child_faults world.new ≡ W.child_faults world.old }
-    ensures runs { W.runs world.new ≡ W.runs world.old }
+    ensures fails { IfErr result (FailsOne (IsOfLayers layers.now)) }
+    ensures frame { ReadFrame read_cause result (seen W.World world.old) (seen W.World world.new) }
     ensures misused { W.misused world.new ≡ W.misused world.old }
 {
     let bin = folders(alloc, world, layers, "bin")?;
@@ -166,13 +151,8 @@ fn put_build_paths<W: World>(
     requires { All IsShort layers.now }
     ensures found { IfSome (W.tree world.old) (λ files.
         OnOk result (env.new ≡ with_build_paths files layers.now env.old)) }
-    ensures fails { IfErr result (λ fault. IsTrue (is_free fault)) }
-    ensures blames { IfErr result (BlamesOne (IsOfLayers layers.now)) }
-    ensures cause { IfErr result (NamesFailed (W.failed_at world.new)) }
-    ensures tree { W.tree world.new ≡ W.tree world.old }
-    ensures files { CountsFiles result (W.file_faults world.old) (W.file_faults world.new) }
-    ensures children { W.child_faults world.new ≡ W.child_faults world.old }
-    ensures runs { W.runs world.new ≡ W.runs world.old }
+    ensures fails { IfErr result (FailsOne (IsOfLayers layers.now)) }
+    ensures frame { ReadFrame read_cause result (seen W.World world.old) (seen W.World world.new) }
     ensures misused { W.misused world.new ≡ W.misused world.old }
 {
     let bin = folders(alloc, world, layers, "bin")?;
@@ -198,13 +178,8 @@ pub(crate) fn put_paths<W: World>(
     requires { All IsShort layers.now }
     ensures found { IfSome (W.tree world.old) (λ files.
         OnOk result (env.new ≡ with_paths when files layers.now env.old)) }
-    ensures fails { IfErr result (λ fault. IsTrue (is_free fault)) }
-    ensures blames { IfErr result (BlamesOne (IsOfLayers layers.now)) }
-    ensures cause { IfErr result (NamesFailed (W.failed_at world.new)) }
-    ensures tree { W.tree world.new ≡ W.tree world.old }
-    ensures files { CountsFiles result (W.file_faults world.old) (W.file_faults world.new) }
-    ensures children { W.child_faults world.new ≡ W.child_faults world.old }
-    ensures runs { W.runs world.new ≡ W.runs world.old }
+    ensures fails { IfErr result (FailsOne (IsOfLayers layers.now)) }
+    ensures frame { ReadFrame read_cause result (seen W.World world.old) (seen W.World world.new) }
     ensures misused { W.misused world.new ≡ W.misused world.old }
 {
     match when {
@@ -223,14 +198,10 @@ pub fn layer_paths<W: World>(
 ) -> Result<(), ReadFault>
     requires { All IsShort layers.now }
     ensures reads { IfSome (W.tree world.old) (λ files.
-        Reads (giving env.new result) (Ok (with_paths when files layers.now env.old))) }
+        IsAnswer read_cause (giving env.new result) (Ok (with_paths when files layers.now env.old))) }
     ensures refused { OnErr result (env.new ≡ env.old) }
     ensures blames { IfErr result (BlamesOne (IsOfLayers layers.now)) }
-    ensures cause { IfErr result (NamesFailed (W.failed_at world.new)) }
-    ensures tree { W.tree world.new ≡ W.tree world.old }
-    ensures files { CountsFiles result (W.file_faults world.old) (W.file_faults world.new) }
-    ensures children { W.child_faults world.new ≡ W.child_faults world.old }
-    ensures runs { W.runs world.new ≡ W.runs world.old }
+    ensures frame { ReadFrame read_cause result (seen W.World world.old) (seen W.World world.new) }
     ensures misused { W.misused world.new ≡ W.misused world.old }
 {
     let mut changed = env.copy()?;

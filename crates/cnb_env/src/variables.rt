@@ -1,6 +1,5 @@
 // The platform's environment files in an environment.
 ghost use Rattle.std.specs.Prelude.{◌≡◌, IfOk, OnErr, OnOk};
-ghost use Rattle.cnb_world.specs.Env.{with_value};
 ghost use Rattle.cnb_env.specs.Apply.{HasFirst};
 ghost use Rattle.cnb_env.specs.Platform.{is_path_variable, value_of_file, with_file, with_files};
 

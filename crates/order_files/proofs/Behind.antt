@@ -4,10 +4,11 @@ use Rattle.std.specs.Prelude.{IfSome}
 use Rattle.cnb_world.specs.Tree.{Tree, is_folder, item_at}
 use Rattle.bp_docs.specs.declared.descriptor.Descriptor.{Descriptor}
 use Rattle.order_files.specs.Catalog.{followed_by, listed}
-use Rattle.doc_files.specs.Reading.{Reads}
+use Rattle.steps.specs.Causes.{IsAnswer}
+use Rattle.steps.proofs.ReadingLaws.{where_map}
+use Rattle.doc_files.specs.Faults.{read_cause}
 use Rattle.doc_files.proofs.NamesRead.{told}
 use Rattle.doc_files.specs.declared.fault.ReadFault.{ReadFault}
-use Rattle.doc_files.specs.declared.fault.ReadFault.TheVariants.{File, Document, Limit, Memory}
 
 abbrev pub Found : Type 0
 Found = Result (List Descriptor) ReadFault
@@ -40,17 +41,14 @@ module _ (one rest all : Tree → Found) (done : List Descriptor) where
   refused_all : (files : Tree) (fault : ReadFault) → followed_by (Ok done) (one files) ≡ Err fault → followed_by (Ok done) (followed_by (one files) (rest files)) ≡ all files → all files ≡ Err fault
   refused_all files fault read left = sym left ∙ sym (followed_by-followed_by (Ok done) (one files) (rest files)) ∙ ap (λ x. followed_by x (rest files)) read
 
-  stops_at : (files : Tree) (fault : ReadFault) → Reads {T = List Descriptor} (Err fault) (followed_by (Ok done) (one files)) → followed_by (Ok done) (followed_by (one files) (rest files)) ≡ all files → Reads {T = List Descriptor} (Err fault) (all files)
-  stops_at files (File path) read left = tt
-  stops_at files Memory read left = tt
-  stops_at files (Document path fault) read left = refused_all files (Document path fault) read left
-  stops_at files (Limit kind) read left = refused_all files (Limit kind) read left
+  stops_at : (files : Tree) (fault : ReadFault) → IsAnswer {A = List Descriptor} read_cause (Err fault) (followed_by (Ok done) (one files)) → followed_by (Ok done) (followed_by (one files) (rest files)) ≡ all files → IsAnswer {A = List Descriptor} read_cause (Err fault) (all files)
+  stops_at files fault read left = where_map (read_cause fault) _ _ (λ refused. refused_all files fault refused left) read
 
-  pub stops : (o o1 : Option Tree) (fault : ReadFault) → o1 ≡ o → IfSome o1 (λ files. Reads {T = List Descriptor} (Err fault) (followed_by (Ok done) (one files))) → Leaves o done (λ files. followed_by (one files) (rest files)) all
-      → IfSome o (λ files. Reads {T = List Descriptor} (Err fault) (all files))
+  pub stops : (o o1 : Option Tree) (fault : ReadFault) → o1 ≡ o → IfSome o1 (λ files. IsAnswer {A = List Descriptor} read_cause (Err fault) (followed_by (Ok done) (one files))) → Leaves o done (λ files. followed_by (one files) (rest files)) all
+      → IfSome o (λ files. IsAnswer {A = List Descriptor} read_cause (Err fault) (all files))
   stops None o1 fault e read left = tt
   stops (Some files) o1 fault e read left =
-      let P : Option Tree → Type 0 = λ x. IfSome x (λ t. Reads {T = List Descriptor} (Err fault) (followed_by (Ok done) (one t))) in
+      let P : Option Tree → Type 0 = λ x. IfSome x (λ t. IsAnswer {A = List Descriptor} read_cause (Err fault) (followed_by (Ok done) (one t))) in
       stops_at files fault (subst P e read) left
 
 -- what a loop over all has done is the whole
@@ -68,7 +66,7 @@ abbrev pub when_folder : Tree → List ℕ → Found → Found
 when_folder files path found = cond (is_folder (item_at files path)) found (Ok [])
 
 abbrev pub IsFolder : Option Tree → List ℕ → Bool → Type 0
-IsFolder o path is = IfSome o (λ files. Reads (Ok is) (Ok (is_folder (item_at files path))))
+IsFolder o path is = IfSome o (λ files. IsAnswer read_cause (Ok is) (Ok (is_folder (item_at files path))))
 
 -- what was told is one
 pub told_same : {A : Type 0} (a b : A) → told a ≡ told b → a ≡ b
@@ -79,25 +77,22 @@ module _ (path : List ℕ) (inside : Tree → Found) (done : List Descriptor) wh
   passed_over None h = tt
   passed_over (Some files) h = ap (λ is. followed_by (Ok done) (cond is (inside files) (Ok []))) (told_same (is_folder (item_at files path)) false h) ∙ nothing_behind done
 
-  pub folder_read : (o o1 : Option Tree) (result : Found) → o1 ≡ o → IsFolder o path true → IfSome o1 (λ files. Reads result (followed_by (Ok done) (inside files))) → IfSome o (λ files. Reads result (followed_by (Ok done) (when_folder files path (inside files))))
+  pub folder_read : (o o1 : Option Tree) (result : Found) → o1 ≡ o → IsFolder o path true → IfSome o1 (λ files. IsAnswer read_cause result (followed_by (Ok done) (inside files))) → IfSome o (λ files. IsAnswer read_cause result (followed_by (Ok done) (when_folder files path (inside files))))
   folder_read None o1 result e h read = tt
   folder_read (Some files) o1 result e h read =
-      let P : Option Tree → Type 0 = λ x. IfSome x (λ t. Reads result (followed_by (Ok done) (inside t))) in
-      let Q : Bool → Type 0 = λ is. Reads result (followed_by (Ok done) (cond is (inside files) (Ok []))) in
+      let P : Option Tree → Type 0 = λ x. IfSome x (λ t. IsAnswer read_cause result (followed_by (Ok done) (inside t))) in
+      let Q : Bool → Type 0 = λ is. IsAnswer read_cause result (followed_by (Ok done) (cond is (inside files) (Ok []))) in
       subst Q (sym (told_same (is_folder (item_at files path)) true h)) (subst P e read)
 
-  pub folder_refused : (o o1 : Option Tree) (fault : ReadFault) → o1 ≡ o → IsFolder o path true → IfSome o1 (λ files. Reads {T = List Descriptor} (Err fault) (followed_by (Ok done) (inside files)))
-      → IfSome o (λ files. Reads {T = List Descriptor} (Err fault) (followed_by (Ok done) (when_folder files path (inside files))))
+  pub folder_refused : (o o1 : Option Tree) (fault : ReadFault) → o1 ≡ o → IsFolder o path true → IfSome o1 (λ files. IsAnswer {A = List Descriptor} read_cause (Err fault) (followed_by (Ok done) (inside files)))
+      → IfSome o (λ files. IsAnswer {A = List Descriptor} read_cause (Err fault) (followed_by (Ok done) (when_folder files path (inside files))))
   folder_refused o o1 fault e h read = folder_read o o1 (Err fault) e h read
 
 -- a refused descriptor refuses the whole
 module _ (read : Tree → Result (Option Descriptor) ReadFault) (done : List Descriptor) where
-  pub descriptor_refused : (o : Option Tree) (fault : ReadFault) → IfSome o (λ files. Reads {T = Option Descriptor} (Err fault) (read files)) → IfSome o (λ files. Reads {T = List Descriptor} (Err fault) (followed_by (Ok done) (listed (read files))))
+  pub descriptor_refused : (o : Option Tree) (fault : ReadFault) → IfSome o (λ files. IsAnswer {A = Option Descriptor} read_cause (Err fault) (read files)) → IfSome o (λ files. IsAnswer {A = List Descriptor} read_cause (Err fault) (followed_by (Ok done) (listed (read files))))
   descriptor_refused None fault h = tt
-  descriptor_refused (Some files) (File path) h = tt
-  descriptor_refused (Some files) Memory h = tt
-  descriptor_refused (Some files) (Document path fault) h = ap (λ x. followed_by (Ok done) (listed x)) h
-  descriptor_refused (Some files) (Limit kind) h = ap (λ x. followed_by (Ok done) (listed x)) h
+  descriptor_refused (Some files) fault h = where_map (read_cause fault) _ _ (λ refused. ap (λ x. followed_by (Ok done) (listed x)) refused) h
 
   pub descriptor_added : (o : Option Tree) (found : Option Descriptor) (new : List Descriptor) → IfSome o (λ files. read files ≡ Ok found) → followed_by (Ok done) (listed (Ok found)) ≡ Ok new
       → IfSome o (λ files. followed_by (Ok done) (listed (read files)) ≡ Ok new)

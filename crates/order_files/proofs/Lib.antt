@@ -3,3 +3,4 @@ pub mod FolderSteps
 pub mod Lengths
 pub mod Misuse
 pub mod PlaceLemmas
+pub mod ReadSteps

@@ -4,10 +4,13 @@ ghost use Rattle.std.specs.List.{list_all};
 ghost use Rattle.std.specs.Option.{option_map};
 ghost use Rattle.cnb_world.specs.Calls.{AreNames, MayMisuse};
 ghost use Rattle.cnb_world.specs.Path.{is_part, joined};
+ghost use Rattle.steps.specs.Causes.{IsAnswer};
+ghost use Rattle.steps.specs.Outside.{seen};
+ghost use Rattle.steps.specs.Reading.{ReadFrame};
+ghost use Rattle.doc_files.specs.Faults.{read_cause};
+ghost use Rattle.doc_files.specs.Reading.{BlamesOne};
 ghost use Rattle.order_files.specs.Catalog.{IsOfCatalog, IsOfId, buildpack_in, buildpacks_in, catalog_in, followed_by, is_fit_buildpack, is_fit_catalog};
-ghost use Rattle.doc_files.specs.Counts.{CountsFiles};
 ghost use Rattle.order_files.specs.Places.{KeepsOtherIds, has_place};
-ghost use Rattle.doc_files.specs.Reading.{BlamesOne, NamesFailed, Reads};
 
 use crate::version::with_versions;
 use cnb_world::{Path, Text, World};
@@ -27,15 +30,11 @@ fn with_buildpack<W: World>(
     requires part { IsTrue (is_part id_folder.now) }
     requires short { length buildpacks.now ≤ 4096 }
     requires vacant { (version : Seq ℕ) → has_place catalog id_folder.now version ≡ false }
-    ensures reads { IfSome (W.tree world.old)
-        (λ files. Reads result (followed_by (Ok catalog) (buildpack_in files buildpacks.now id_folder.now))) }
+    ensures reads { IfSome (W.tree world.old) (λ files.
+        IsAnswer read_cause result (followed_by (Ok catalog) (buildpack_in files buildpacks.now id_folder.now))) }
     ensures blames { IfErr result (BlamesOne (IsOfId (joined buildpacks.now id_folder.now))) }
     ensures others { IfOk result (KeepsOtherIds id_folder.now catalog) }
-    ensures cause { IfErr result (NamesFailed (W.failed_at world.new)) }
-    ensures tree { W.tree world.new ≡ W.tree world.old }
-    ensures files { CountsFiles result (W.file_faults world.old) (W.file_faults world.new) }
-    ensures children { W.child_faults world.new ≡ W.child_faults world.old }
-    ensures runs { W.runs world.new ≡ W.runs world.old }
+    ensures frame { ReadFrame read_cause result (seen W.World world.old) (seen W.World world.new) }
     ensures misused { MayMisuse (option_map (λ files.
         is_fit_buildpack files buildpacks.now id_folder.now) (W.tree world.old))
         (W.misused world.old) (W.misused world.new) }
@@ -66,13 +65,9 @@ fn read_buildpacks<W: World>(
     requires names { AreNames id_folders.now }
     requires short { length buildpacks.now ≤ 4096 }
     ensures reads { IfSome (W.tree world.old) (λ files.
-        Reads result (buildpacks_in files buildpacks.now id_folders.now)) }
+        IsAnswer read_cause result (buildpacks_in files buildpacks.now id_folders.now)) }
     ensures blames { IfErr result (BlamesOne (IsOfCatalog buildpacks.now)) }
-    ensures cause { IfErr result (NamesFailed (W.failed_at world.new)) }
-    ensures tree { W.tree world.new ≡ W.tree world.old }
-    ensures files { CountsFiles result (W.file_faults world.old) (W.file_faults world.new) }
-    ensures children { W.child_faults world.new ≡ W.child_faults world.old }
-    ensures runs { W.runs world.new ≡ W.runs world.old }
+    ensures frame { ReadFrame read_cause result (seen W.World world.old) (seen W.World world.new) }
     ensures misused { MayMisuse (option_map (λ files.
         list_all (is_fit_buildpack files buildpacks.now) id_folders.now) (W.tree world.old))
         (W.misused world.old) (W.misused world.new) }
@@ -92,13 +87,9 @@ pub fn read_catalog<W: World>(
     buildpacks: &Path,
 ) -> Result<Catalog, ReadFault>
     requires { length buildpacks.now ≤ 4096 }
-    ensures reads { IfSome (W.tree world.old) (λ files. Reads result (catalog_in buildpacks.now files)) }
+    ensures reads { IfSome (W.tree world.old) (λ files. IsAnswer read_cause result (catalog_in buildpacks.now files)) }
     ensures blames { IfErr result (BlamesOne (IsOfCatalog buildpacks.now)) }
-    ensures cause { IfErr result (NamesFailed (W.failed_at world.new)) }
-    ensures tree { W.tree world.new ≡ W.tree world.old }
-    ensures files { CountsFiles result (W.file_faults world.old) (W.file_faults world.new) }
-    ensures children { W.child_faults world.new ≡ W.child_faults world.old }
-    ensures runs { W.runs world.new ≡ W.runs world.old }
+    ensures frame { ReadFrame read_cause result (seen W.World world.old) (seen W.World world.new) }
     ensures misused { MayMisuse (option_map (is_fit_catalog buildpacks.now) (W.tree world.old))
         (W.misused world.old) (W.misused world.new) }
 {

@@ -1,11 +1,14 @@
 // The descriptor of a version of a buildpack.
-ghost use Rattle.std.specs.Prelude.{◌≡◌, ◌≤◌, ℕ, IfErr, IfOk, IfSome, length};
+ghost use Rattle.std.specs.Prelude.{◌≤◌, ℕ, IfErr, IfOk, IfSome, length};
 ghost use Rattle.std.specs.Option.{option_map};
 ghost use Rattle.cnb_world.specs.Calls.{MayMisuse};
-ghost use Rattle.doc_files.specs.Counts.{CountsFiles};
+ghost use Rattle.steps.specs.Causes.{CountsFiles, IsAnswer};
+ghost use Rattle.steps.specs.Outside.{seen};
+ghost use Rattle.steps.specs.Reading.{ReadFrame};
+ghost use Rattle.doc_files.specs.Faults.{read_cause};
+ghost use Rattle.doc_files.specs.Reading.{BlamesOnly};
 ghost use Rattle.order_files.specs.Descriptor.{described, descriptor_at, descriptor_path, is_fit_descriptor, with_folder_names};
 ghost use Rattle.order_files.specs.Places.{BelongsTo, IsPlaced};
-ghost use Rattle.doc_files.specs.Reading.{BlamesOnly, NamesFailed, Reads};
 
 use bp_docs::{Descriptor, read_buildpack};
 use cnb_toml::DocFault;
@@ -21,10 +24,10 @@ fn with_folder_names(
     version: &Text,
     descriptor: Descriptor,
 ) -> Result<Descriptor, ReadFault>
-    ensures reads { Reads result (with_folder_names path.now id_folder.now version.now descriptor) }
+    ensures reads { IsAnswer read_cause result (with_folder_names path.now id_folder.now version.now descriptor) }
     ensures blames { IfErr result (BlamesOnly path.now) }
     ensures placed { IfOk result (BelongsTo id_folder.now version.now) }
-    ensures files { (n : ℕ) → CountsFiles result n n }
+    ensures files { (n : ℕ) → CountsFiles read_cause result n n }
 {
     let own_folder = descriptor.key.id.folder(alloc)?;
     if own_folder.as_str() != id_folder.as_str() {
@@ -46,10 +49,10 @@ fn described(
     version: &Text,
     found: Option<Bytes>,
 ) -> Result<Option<Descriptor>, ReadFault>
-    ensures reads { Reads result (described path.now id_folder.now version.now found) }
+    ensures reads { IsAnswer read_cause result (described path.now id_folder.now version.now found) }
     ensures blames { IfErr result (BlamesOnly path.now) }
     ensures placed { IfOk result (IsPlaced id_folder.now version.now) }
-    ensures files { (n : ℕ) → CountsFiles result n n }
+    ensures files { (n : ℕ) → CountsFiles read_cause result n n }
 {
     match found {
         Some(bytes) => {
@@ -62,7 +65,7 @@ fn described(
 }
 
 /// The descriptor in the folder of a version, where it has one. `id_folder` is the name of the folder above.
-#[tactic(auto, using(crate::proofs::Lengths::document_fits, doc_files::proofs::Counts::counts_after))]
+#[tactic(auto, using(crate::proofs::Lengths::document_fits))]
 pub(crate) fn read_descriptor<W: World>(
     alloc: Global,
     world: &mut W,
@@ -72,14 +75,10 @@ pub(crate) fn read_descriptor<W: World>(
 ) -> Result<Option<Descriptor>, ReadFault>
     requires { length folder.now ≤ 4608 }
     ensures reads { IfSome (W.tree world.old) (λ files.
-        Reads result (descriptor_at files folder.now id_folder.now version.now)) }
+        IsAnswer read_cause result (descriptor_at files folder.now id_folder.now version.now)) }
     ensures blames { IfErr result (BlamesOnly (descriptor_path folder.now)) }
     ensures placed { IfOk result (IsPlaced id_folder.now version.now) }
-    ensures cause { IfErr result (NamesFailed (W.failed_at world.new)) }
-    ensures tree { W.tree world.new ≡ W.tree world.old }
-    ensures files { CountsFiles result (W.file_faults world.old) (W.file_faults world.new) }
-    ensures children { W.child_faults world.new ≡ W.child_faults world.old }
-    ensures runs { W.runs world.new ≡ W.runs world.old }
+    ensures frame { ReadFrame read_cause result (seen W.World world.old) (seen W.World world.new) }
     ensures misused { MayMisuse (option_map (λ files. is_fit_descriptor files folder.now) (W.tree world.old))
         (W.misused world.old) (W.misused world.new) }
 {

@@ -1,10 +1,13 @@
 // The order of an order file.
-ghost use Rattle.std.specs.Prelude.{◌≡◌, ℕ, IfErr, IfSome};
+ghost use Rattle.std.specs.Prelude.{ℕ, IfErr, IfSome};
 ghost use Rattle.std.specs.Option.{option_map};
 ghost use Rattle.cnb_world.specs.Calls.{MayMisuse};
-ghost use Rattle.doc_files.specs.Counts.{CountsFiles};
+ghost use Rattle.steps.specs.Causes.{CountsFiles, IsAnswer};
+ghost use Rattle.steps.specs.Outside.{seen};
+ghost use Rattle.steps.specs.Reading.{ReadFrame};
+ghost use Rattle.doc_files.specs.Faults.{read_cause};
+ghost use Rattle.doc_files.specs.Reading.{BlamesOnly};
 ghost use Rattle.order_files.specs.OrderFile.{is_fit_order_file, order_file_in, order_of};
-ghost use Rattle.doc_files.specs.Reading.{BlamesOnly, NamesFailed, Reads};
 
 use bp_docs::{Order, read_order};
 use cnb_toml::DocFault;
@@ -14,9 +17,9 @@ use std::alloc::Global;
 
 // The order that a document is.
 fn order_of(alloc: Global, path: &Path, found: Option<Bytes>) -> Result<Order, ReadFault>
-    ensures reads { Reads result (order_of path.now found) }
+    ensures reads { IsAnswer read_cause result (order_of path.now found) }
     ensures blames { IfErr result (BlamesOnly path.now) }
-    ensures files { (n : ℕ) → CountsFiles result n n }
+    ensures files { (n : ℕ) → CountsFiles read_cause result n n }
 {
     match found {
         Some(bytes) => {
@@ -28,19 +31,14 @@ fn order_of(alloc: Global, path: &Path, found: Option<Bytes>) -> Result<Order, R
 }
 
 /// The order of an order file (platform.md, "order.toml (TOML)"), which must be there.
-#[tactic(auto, using(doc_files::proofs::Counts::counts_after))]
 pub fn read_order_file<W: World>(
     alloc: Global,
     world: &mut W,
     path: &Path,
 ) -> Result<Order, ReadFault>
-    ensures reads { IfSome (W.tree world.old) (λ files. Reads result (order_file_in path.now files)) }
+    ensures reads { IfSome (W.tree world.old) (λ files. IsAnswer read_cause result (order_file_in path.now files)) }
     ensures blames { IfErr result (BlamesOnly path.now) }
-    ensures cause { IfErr result (NamesFailed (W.failed_at world.new)) }
-    ensures tree { W.tree world.new ≡ W.tree world.old }
-    ensures files { CountsFiles result (W.file_faults world.old) (W.file_faults world.new) }
-    ensures children { W.child_faults world.new ≡ W.child_faults world.old }
-    ensures runs { W.runs world.new ≡ W.runs world.old }
+    ensures frame { ReadFrame read_cause result (seen W.World world.old) (seen W.World world.new) }
     ensures misused { MayMisuse (option_map (is_fit_order_file path.now) (W.tree world.old))
         (W.misused world.old) (W.misused world.new) }
 {

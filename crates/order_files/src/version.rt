@@ -3,10 +3,13 @@ ghost use Rattle.std.specs.Prelude.{◌≡◌, ◌≤◌, List as Seq, ℕ, Ok, 
 ghost use Rattle.std.specs.Option.{option_map};
 ghost use Rattle.cnb_world.specs.Calls.{AreNames, MayMisuse};
 ghost use Rattle.cnb_world.specs.Path.{is_part, joined};
+ghost use Rattle.steps.specs.Causes.{IsAnswer};
+ghost use Rattle.steps.specs.Outside.{seen};
+ghost use Rattle.steps.specs.Reading.{ReadFrame};
+ghost use Rattle.doc_files.specs.Faults.{read_cause};
+ghost use Rattle.doc_files.specs.Reading.{BlamesOne};
 ghost use Rattle.order_files.specs.Catalog.{IsOfId, IsOfVersion, are_fit_versions, followed_by, is_fit_version, listed, version_in, versions_in};
-ghost use Rattle.doc_files.specs.Counts.{CountsFiles};
 ghost use Rattle.order_files.specs.Places.{IsPlaced, KeepsOtherIds, KeepsOthers, has_place};
-ghost use Rattle.doc_files.specs.Reading.{BlamesOne, NamesFailed, Reads};
 
 use crate::descriptor::read_descriptor;
 use bp_docs::Descriptor;
@@ -50,15 +53,11 @@ fn with_version<W: World>(
     requires part { IsTrue (is_part version.now) }
     requires short { length folder.now ≤ 4352 }
     requires vacant { has_place catalog id_folder.now version.now ≡ false }
-    ensures reads { IfSome (W.tree world.old)
-        (λ files. Reads result (followed_by (Ok catalog) (version_in files folder.now id_folder.now version.now))) }
+    ensures reads { IfSome (W.tree world.old) (λ files.
+        IsAnswer read_cause result (followed_by (Ok catalog) (version_in files folder.now id_folder.now version.now))) }
     ensures blames { IfErr result (BlamesOne (IsOfVersion (joined folder.now version.now))) }
     ensures others { IfOk result (KeepsOthers id_folder.now version.now catalog) }
-    ensures cause { IfErr result (NamesFailed (W.failed_at world.new)) }
-    ensures tree { W.tree world.new ≡ W.tree world.old }
-    ensures files { CountsFiles result (W.file_faults world.old) (W.file_faults world.new) }
-    ensures children { W.child_faults world.new ≡ W.child_faults world.old }
-    ensures runs { W.runs world.new ≡ W.runs world.old }
+    ensures frame { ReadFrame read_cause result (seen W.World world.old) (seen W.World world.new) }
     ensures misused { MayMisuse (option_map (λ files. is_fit_version files folder.now version.now) (W.tree world.old))
         (W.misused world.old) (W.misused world.new) }
 {
@@ -83,15 +82,11 @@ pub(crate) fn with_versions<W: World>(
     requires names { AreNames versions.now }
     requires short { length folder.now ≤ 4352 }
     requires vacant { (version : Seq ℕ) → has_place catalog id_folder.now version ≡ false }
-    ensures reads { IfSome (W.tree world.old)
-        (λ files. Reads result (followed_by (Ok catalog) (versions_in files folder.now id_folder.now versions.now))) }
+    ensures reads { IfSome (W.tree world.old) (λ files.
+        IsAnswer read_cause result (followed_by (Ok catalog) (versions_in files folder.now id_folder.now versions.now))) }
     ensures blames { IfErr result (BlamesOne (IsOfId folder.now)) }
     ensures others { IfOk result (KeepsOtherIds id_folder.now catalog) }
-    ensures cause { IfErr result (NamesFailed (W.failed_at world.new)) }
-    ensures tree { W.tree world.new ≡ W.tree world.old }
-    ensures files { CountsFiles result (W.file_faults world.old) (W.file_faults world.new) }
-    ensures children { W.child_faults world.new ≡ W.child_faults world.old }
-    ensures runs { W.runs world.new ≡ W.runs world.old }
+    ensures frame { ReadFrame read_cause result (seen W.World world.old) (seen W.World world.new) }
     ensures misused { MayMisuse (option_map (λ files.
         are_fit_versions files folder.now versions.now) (W.tree world.old))
         (W.misused world.old) (W.misused world.new) }

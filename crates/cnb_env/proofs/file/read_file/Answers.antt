@@ -1,9 +1,10 @@
-use Rattle.std.proofs.Common.{◌≡◌, ◌∙◌, refl, ap, true, false}
+use Rattle.std.proofs.Common.{◌≡◌, ◌∙◌, refl, ap, true, false, Option, Err}
 use Rattle.std.proofs.lemmas.Result.{err_from_is_err_and}
 use Rattle.cnb_world.specs.Path.{joined}
 use Rattle.cnb_env.specs.Names.{is_ignored}
 use Rattle.doc_files.proofs.Blame.{blames_same}
-use Rattle.doc_files.proofs.Counts.{names_none}
+use Rattle.doc_files.proofs.Counts.{counts_after, names_none}
+use Rattle.cnb_env.specs.declared.files.EnvFile.{EnvFile}
 use Rattle.cnb_env.proofs.FileLemmas.{no_file, refused_file, found_refused, found_file}
 use Rattle.cnb_env.proofs.file.read_file.Goals as goal
 
@@ -39,7 +40,14 @@ returns-in_err-file_of-clause-blames g c =
     let exit = err_from_is_err_and c.from_residual-in_err-file_of.result c.from_residual-in_err-file_of.ensures.1 in
     rw (exit.1, exit.2) (blames_same _ _ (c.in_ok-path.ensures.0 ∙ ap (joined c.args.folder.now) c.as_str-2.ensures) _ c.in_err-file_of.ensures.blames)
 
-pub returns-in_err-file_of-clause-cause : goal.returns-in_err-file_of-clause-cause
-returns-in_err-file_of-clause-cause g c =
+pub returns-in_err-file_of-clause-frame : goal.returns-in_err-file_of-clause-frame
+returns-in_err-file_of-clause-frame g c =
     let exit = err_from_is_err_and c.from_residual-in_err-file_of.result c.from_residual-in_err-file_of.ensures.1 in
-    rw (exit.1, exit.2) (names_none _ _ c.in_err-file_of.ensures.files)
+    let frame = c.in_ok-found.ensures.frame in
+    rw (exit.1, exit.2) (record {
+      files = frame.files;
+      runs = frame.runs;
+      children = frame.children;
+      counts = counts_after (Option EnvFile) (Err _) _ _ frame.counts c.in_err-file_of.ensures.files;
+      cause = names_none _ _ c.in_err-file_of.ensures.files;
+    })

@@ -1,4 +1,4 @@
-use Rattle.std.proofs.Common.{◌∙◌, ◌+◌, ◌∷◌, List, Ok, drop, refl}
+use Rattle.std.proofs.Common.{◌∙◌, ◌+◌, drop, refl}
 use Rattle.std.specs.List.{list_all}
 use Rattle.std.proofs.lemmas.List.{drop_all}
 use Rattle.std.proofs.lemmas.Result.{err_from_is_err_and}
@@ -28,10 +28,10 @@ loop-layer-preserved g c =
     let later = drop (c.loop-layer.layer-index + 1) c.args.layers.now in
     let next = next_item c.args.layers.now c.loop-layer.layer-index c.layer-item.result c.loop-layer-test.true c.layer-item.is in
     record {
-      tree = c.in_ok-apply_layer.ensures.tree ∙ c.loop-layer.invariant.tree;
-      files = c.in_ok-apply_layer.ensures.files ∙ c.loop-layer.invariant.files;
-      children = c.in_ok-apply_layer.ensures.children ∙ c.loop-layer.invariant.children;
-      runs = c.in_ok-apply_layer.ensures.runs ∙ c.loop-layer.invariant.runs;
+      tree = c.in_ok-apply_layer.ensures.frame.files ∙ c.loop-layer.invariant.tree;
+      files = c.in_ok-apply_layer.ensures.frame.counts ∙ c.loop-layer.invariant.files;
+      children = c.in_ok-apply_layer.ensures.frame.children ∙ c.loop-layer.invariant.children;
+      runs = c.in_ok-apply_layer.ensures.frame.runs ∙ c.loop-layer.invariant.runs;
       misused = λ now h. c.loop-layer.invariant.misused now (rest_fits (is_fit_layer phase) c.layer-item.result later _ next _ _ c.loop-layer.invariant.tree _ _ now c.in_ok-apply_layer.ensures.misused h);
       left = moves (layer_applied phase) c.layer-item.result later _ next (λ (files : Tree). each (layer_applied phase files) c.args.layers.now c.args.env.now)
           c.loop-layer.env _ _ _ c.loop-layer.invariant.tree c.in_ok-apply_layer.ensures.reads c.loop-layer.invariant.left;

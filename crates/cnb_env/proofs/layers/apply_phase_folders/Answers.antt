@@ -1,4 +1,4 @@
-use Rattle.std.proofs.Common.{◌≡◌, ◌∷◌, [], List, ℕ, ap, codes, refl}
+use Rattle.std.proofs.Common.{[], List, ℕ, ap, codes, refl}
 use Rattle.cnb_world.proofs.Misuse.{one_fits}
 use Rattle.cnb_world.specs.Path.{joined}
 use Rattle.cnb_world.specs.Tree.{Tree}

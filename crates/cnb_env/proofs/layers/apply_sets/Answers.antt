@@ -1,4 +1,4 @@
-use Rattle.std.proofs.Common.{◌∙◌, ◌+◌, ◌∷◌, List, Ok, drop, refl}
+use Rattle.std.proofs.Common.{◌∙◌, ◌+◌, drop, refl}
 use Rattle.std.specs.List.{list_all}
 use Rattle.std.proofs.lemmas.List.{drop_all}
 use Rattle.std.proofs.lemmas.Result.{err_from_is_err_and}
@@ -28,10 +28,10 @@ loop-layers-preserved g c =
     let later = drop (c.loop-layers.layers-index + 1) c.args.sets.now in
     let next = next_item c.args.sets.now c.loop-layers.layers-index c.layers-item.result c.loop-layers-test.true c.layers-item.is in
     record {
-      tree = c.in_ok-apply_set.ensures.tree ∙ c.loop-layers.invariant.tree;
-      files = c.in_ok-apply_set.ensures.files ∙ c.loop-layers.invariant.files;
-      children = c.in_ok-apply_set.ensures.children ∙ c.loop-layers.invariant.children;
-      runs = c.in_ok-apply_set.ensures.runs ∙ c.loop-layers.invariant.runs;
+      tree = c.in_ok-apply_set.ensures.frame.files ∙ c.loop-layers.invariant.tree;
+      files = c.in_ok-apply_set.ensures.frame.counts ∙ c.loop-layers.invariant.files;
+      children = c.in_ok-apply_set.ensures.frame.children ∙ c.loop-layers.invariant.children;
+      runs = c.in_ok-apply_set.ensures.frame.runs ∙ c.loop-layers.invariant.runs;
       misused = λ now h. c.loop-layers.invariant.misused now (rest_fits (is_fit_set phase) c.layers-item.result later _ next _ _ c.loop-layers.invariant.tree _ _ now c.in_ok-apply_set.ensures.misused h);
       left = moves (set_applied phase) c.layers-item.result later _ next (λ (files : Tree). each (set_applied phase files) c.args.sets.now c.args.env.now)
           c.loop-layers.env _ _ _ c.loop-layers.invariant.tree c.in_ok-apply_set.ensures.reads c.loop-layers.invariant.left;

@@ -1,4 +1,4 @@
-use Rattle.std.proofs.Common.{◌≡◌, ℕ, List, Ok, refl, subst, sym}
+use Rattle.std.proofs.Common.{◌≡◌, ℕ, List, Err, Ok, refl, subst, sym}
 use Rattle.std.specs.List.{list_all}
 use Rattle.std.specs.Prelude.{IfSome}
 use Rattle.std.proofs.lemmas.Result.{err_from_is_err_and}
@@ -8,8 +8,9 @@ use Rattle.order_files.specs.Catalog.{buildpacks_in, catalog_in, is_fit_buildpac
 use Rattle.doc_files.proofs.NamesRead.{names_told, told}
 use Rattle.order_files.proofs.FolderSteps.{names_fit}
 use Rattle.cnb_world.proofs.Misuse.{both, no_misuse}
-use Rattle.doc_files.specs.Reading.{is_free, names_at}
-use Rattle.cnb_world.proofs.Steps.{next_refused, stepped}
+use Rattle.doc_files.specs.Faults.{read_cause}
+use Rattle.doc_files.specs.Reading.{names_at}
+use Rattle.steps.proofs.ReadingLaws.{answers_where}
 use Rattle.order_files.proofs.catalog.read_catalog.Goals as goal
 
 pub returns-in_err-id_folders-clause-misused : goal.returns-in_err-id_folders-clause-misused
@@ -26,7 +27,7 @@ returns-in_err-catalog-clause-reads g c =
     let N : List (List ℕ) → Type 0 = λ names. IfSome (g.W.World.tree c.args.world.now) (λ files. names_at files buildpacks ≡ told names) in
     let names = subst N (sym c.as_slice.ensures) c.in_ok-id_folders.ensures.reads in
     let exit = err_from_is_err_and c.from_residual-in_err-catalog.result c.from_residual-in_err-catalog.ensures.1 in
-    rw (exit.1, exit.2) (next_refused is_free (λ (files : Tree). names_at files buildpacks) (λ (files : Tree) (names : List (List ℕ)). buildpacks_in files buildpacks names) _ _ c.as_slice.result.now _ c.in_ok-id_folders.ensures.tree names c.in_err-catalog.ensures.reads)
+    rw (exit.1, exit.2) (answers_where read_cause _ _ (λ (files : Tree). names_at files buildpacks) (λ (names : List (List ℕ)) (files : Tree). buildpacks_in files buildpacks names) c.as_slice.result.now (Err _) c.in_ok-id_folders.ensures.frame.files names c.in_err-catalog.ensures.reads)
 
 pub returns-in_err-catalog-clause-misused : goal.returns-in_err-catalog-clause-misused
 unfolding is_fit_catalog
@@ -35,7 +36,7 @@ returns-in_err-catalog-clause-misused g c =
     let N : List (List ℕ) → Type 0 = λ names. IfSome (g.W.World.tree c.args.world.now) (λ files. names_at files buildpacks ≡ told names) in
     let names = subst N (sym c.as_slice.ensures) c.in_ok-id_folders.ensures.reads in
     both (λ (files : Tree). can_list files buildpacks) (λ (files : Tree). list_all (is_fit_buildpack files buildpacks) (names_in files buildpacks)) _ _ _ _ _ refl c.in_ok-id_folders.ensures.misused
-    (names_fit (λ (files : Tree) (names : List (List ℕ)). list_all (is_fit_buildpack files buildpacks) names) buildpacks c.as_slice.result.now _ _ _ _ c.in_ok-id_folders.ensures.tree (names_told buildpacks c.as_slice.result.now _ names) c.in_err-catalog.ensures.misused)
+    (names_fit (λ (files : Tree) (names : List (List ℕ)). list_all (is_fit_buildpack files buildpacks) names) buildpacks c.as_slice.result.now _ _ _ _ c.in_ok-id_folders.ensures.frame.files (names_told buildpacks c.as_slice.result.now _ names) c.in_err-catalog.ensures.misused)
 
 pub returns-clause-reads : goal.returns-clause-reads
 unfolding catalog_in
@@ -43,7 +44,7 @@ returns-clause-reads g c =
     let buildpacks = c.args.buildpacks.now in
     let N : List (List ℕ) → Type 0 = λ names. IfSome (g.W.World.tree c.args.world.now) (λ files. names_at files buildpacks ≡ told names) in
     let names = subst N (sym c.as_slice.ensures) c.in_ok-id_folders.ensures.reads in
-    stepped is_free (λ (files : Tree). names_at files buildpacks) (λ (files : Tree) (names : List (List ℕ)). buildpacks_in files buildpacks names) _ _ c.as_slice.result.now (Ok c.in_ok-catalog.catalog) c.in_ok-id_folders.ensures.tree names c.in_ok-catalog.ensures.reads
+    answers_where read_cause _ _ (λ (files : Tree). names_at files buildpacks) (λ (names : List (List ℕ)) (files : Tree). buildpacks_in files buildpacks names) c.as_slice.result.now (Ok c.in_ok-catalog.catalog) c.in_ok-id_folders.ensures.frame.files names c.in_ok-catalog.ensures.reads
 
 pub returns-clause-misused : goal.returns-clause-misused
 unfolding is_fit_catalog
@@ -52,4 +53,4 @@ returns-clause-misused g c =
     let N : List (List ℕ) → Type 0 = λ names. IfSome (g.W.World.tree c.args.world.now) (λ files. names_at files buildpacks ≡ told names) in
     let names = subst N (sym c.as_slice.ensures) c.in_ok-id_folders.ensures.reads in
     both (λ (files : Tree). can_list files buildpacks) (λ (files : Tree). list_all (is_fit_buildpack files buildpacks) (names_in files buildpacks)) _ _ _ _ _ refl c.in_ok-id_folders.ensures.misused
-    (names_fit (λ (files : Tree) (names : List (List ℕ)). list_all (is_fit_buildpack files buildpacks) names) buildpacks c.as_slice.result.now _ _ _ _ c.in_ok-id_folders.ensures.tree (names_told buildpacks c.as_slice.result.now _ names) c.in_ok-catalog.ensures.misused)
+    (names_fit (λ (files : Tree) (names : List (List ℕ)). list_all (is_fit_buildpack files buildpacks) names) buildpacks c.as_slice.result.now _ _ _ _ c.in_ok-id_folders.ensures.frame.files (names_told buildpacks c.as_slice.result.now _ names) c.in_ok-catalog.ensures.misused)

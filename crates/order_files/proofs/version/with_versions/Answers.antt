@@ -43,10 +43,10 @@ loop-version-preserved g c =
       names = names.2;
       vacant = later_vacant id_folder version c.loop-version.catalog _ c.in_ok-catalog.ensures.others later names.1 vacant.1;
       others = keeps_ids id_folder version c.args.catalog c.loop-version.catalog _ c.in_ok-catalog.ensures.others c.loop-version.invariant.others;
-      tree = c.in_ok-catalog.ensures.tree ∙ c.loop-version.invariant.tree;
-      files = c.in_ok-catalog.ensures.files ∙ c.loop-version.invariant.files;
-      children = c.in_ok-catalog.ensures.children ∙ c.loop-version.invariant.children;
-      runs = c.in_ok-catalog.ensures.runs ∙ c.loop-version.invariant.runs;
+      tree = c.in_ok-catalog.ensures.frame.files ∙ c.loop-version.invariant.tree;
+      files = c.in_ok-catalog.ensures.frame.counts ∙ c.loop-version.invariant.files;
+      children = c.in_ok-catalog.ensures.frame.children ∙ c.loop-version.invariant.children;
+      runs = c.in_ok-catalog.ensures.frame.runs ∙ c.loop-version.invariant.runs;
       misused = λ now h. c.loop-version.invariant.misused now (rest_fits (λ (files : Tree). is_fit_version files folder) version later _ next _ _ c.loop-version.invariant.tree _ _ now c.in_ok-catalog.ensures.misused h);
       leaves = moves (λ (files : Tree). version_in files folder id_folder version) (λ (files : Tree). versions_in files folder id_folder later) (λ (files : Tree). followed_by (Ok c.args.catalog) (versions_in files folder id_folder c.args.versions.now))
           c.loop-version.catalog _ _ _ c.loop-version.invariant.tree c.in_ok-catalog.ensures.reads (subst L next c.loop-version.invariant.leaves);
