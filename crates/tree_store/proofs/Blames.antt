@@ -1,16 +1,20 @@
 -- Which path a refusal carries.
-use Rattle.std.proofs.Common.{◌≡◌, ℕ, ◌<◌, Bool, true, false, cond, List, [], ◌∷◌, ◌++◌, ◌||◌, refl, sym, ap, ◌∙◌, length, nat_eq, append_assoc}
-use Rattle.std.specs.Prelude.{IsTrue}
+use Rattle.std.proofs.Common.{◌≡◌, ℕ, ◌<◌, Bool, true, false, cond, List, [], ◌∷◌, ◌++◌, ◌||◌, refl, sym, ap, ◌∙◌, arith, length, nat_eq, append_assoc, Option, Some, Result, Ok, Err}
+use Rattle.std.specs.Prelude.{IfErr, IsTrue}
 use Rattle.std.specs.List.{starts_with}
 use Rattle.std.specs.Str.{bytes_eq}
 use Rattle.std.proofs.lemmas.Slice.Eq.{bytes_eq-Decides}
+use Rattle.cnb_world.specs.Calls.{LastFailed, Rose}
 use Rattle.cnb_world.specs.Path.{is_part, joined}
 use Rattle.cnb_world.specs.Tree.{is_root, is_under, is_within}
+use Rattle.cnb_world.specs.declared.world.FileFault.{FileFault}
+use Rattle.cnb_world.specs.declared.world.FileFault.TheVariants as file_fault
 use Rattle.cnb_world.proofs.Trees.{bytes_eq-same}
+use Rattle.steps.specs.Causes.{CountsFiles, IsReadCause}
 use Rattle.tree_canon.specs.Names.{is_name}
 use Rattle.tree_store.specs.declared.fault.StoreFault.{StoreFault}
 use Rattle.tree_store.specs.declared.fault.StoreFault.TheVariants.{OddFile, Limit, File, NoTree, Damaged, Clash, Memory}
-use Rattle.tree_store.specs.Answers.{BlamesAt, BlamesWithin}
+use Rattle.tree_store.specs.Answers.{Blames, BlamesAt, BlamesWithin, cause_of}
 use Rattle.tree_store.proofs.Places.{child_not_root, longer_front, name_form, or_right, part_form, starts_itself}
 
 pub within_itself : (path : List ℕ) → is_within path path ≡ true
@@ -61,3 +65,25 @@ part_within folder name path fault is part h = child_within folder name path fau
 
 pub name_within : (folder name path : List ℕ) (fault : StoreFault) → path ≡ joined folder name → is_name name ≡ true → BlamesWithin path fault → BlamesWithin folder fault
 name_within folder name path fault is name_is h = child_within folder name path fault is (name_form name name_is).0 h
+
+-- the path of a call that failed is that of the last one
+pub blamed_last : (T : Type 0) (path : List ℕ) (fault : FileFault) (refusal : StoreFault) (before now : Option (List ℕ)) → LastFailed {T = T} path (Err fault) before now → Blames path fault refusal → IsReadCause now (cause_of refusal)
+blamed_last T path file_fault.Failed (File blamed) before now last h = last ∙ ap Some (sym h)
+blamed_last T path file_fault.Memory (File blamed) before now last h = absurd (cc)
+blamed_last T path fault (OddFile odd) before now last h = tt
+blamed_last T path fault (Limit kind) before now last h = tt
+blamed_last T path fault (NoTree digest) before now last h = tt
+blamed_last T path fault (Damaged asked found bad) before now last h = tt
+blamed_last T path fault (Clash digest) before now last h = tt
+blamed_last T path fault Memory before now last h = tt
+
+-- an answer that no call on files was made for has no path of a call
+pub names_none : (T : Type 0) (result : Result T StoreFault) (last : Option (List ℕ)) → ((n : ℕ) → CountsFiles cause_of result n n) → IfErr result (λ fault. IsReadCause last (cause_of fault))
+names_none T (Ok value) last h = tt
+names_none T (Err (File path)) last h = let rose : Rose 0 0 = h 0 in let up = rose.up in absurd (omega arith)
+names_none T (Err (OddFile path)) last h = tt
+names_none T (Err (Limit kind)) last h = tt
+names_none T (Err (NoTree digest)) last h = tt
+names_none T (Err (Damaged asked found bad)) last h = tt
+names_none T (Err (Clash digest)) last h = tt
+names_none T (Err Memory) last h = tt

@@ -8,11 +8,12 @@ use Rattle.cnb_world.specs.Tree.{Tree, item_at, is_file, is_file_or_absent}
 use Rattle.cnb_world.specs.declared.world.World as world
 use Rattle.steps.specs.Causes.{IsAnswer, IsReadCause}
 use Rattle.steps.specs.Outside.{seen}
+use Rattle.steps.specs.Reading.{ReadFrame}
 use Rattle.steps.specs.Steps.{reads}
 use Rattle.steps.proofs.StepLemmas.{allowed_by, read_so}
 use Rattle.tree_canon.specs.Spelling.{spelling_of}
 use Rattle.tree_canon.specs.declared.node.Node.{Node}
-use Rattle.tree_store.specs.Answers.{BlamesWithin, Reads, cause_of, is_free}
+use Rattle.tree_store.specs.Answers.{BlamesAt, BlamesWithin, Reads, cause_of, is_free}
 use Rattle.tree_store.specs.Around.{LeavesAround}
 use Rattle.tree_store.specs.Overlay.{tree_laid}
 use Rattle.tree_store.specs.Reading.{tree_in}
@@ -35,50 +36,48 @@ answer_where : {T : Type 0} (result : Result T StoreFault) (o : Option Tree) (wa
 answer_where result None want h = tt
 answer_where result (Some files) want h = answer_of result (want files) h
 
-is_read_cause : {T : Type 0} (result : Result T StoreFault) → IfErr result (λ fault. IsReadCause (cause_of fault))
-is_read_cause (Ok value) = tt
-is_read_cause (Err (File path)) = tt
-is_read_cause (Err Memory) = tt
-is_read_cause (Err (OddFile path)) = tt
-is_read_cause (Err (Limit kind)) = tt
-is_read_cause (Err (NoTree digest)) = tt
-is_read_cause (Err (Damaged asked found bad)) = tt
-is_read_cause (Err (Clash digest)) = tt
-
 -- files that were read by calls of the right kind
 read_right : {W T : Type 0} (ghosts : world.Ghosts W) (want : Tree → Result T StoreFault) (result : Result T StoreFault) (old new : W)
-    → IfSome (ghosts.tree old) (λ files. Reads result (want files)) → ghosts.tree new ≡ ghosts.tree old → ghosts.runs new ≡ ghosts.runs old → ghosts.misused new ≡ ghosts.misused old
+    → IfSome (ghosts.tree old) (λ files. Reads result (want files)) → ReadFrame cause_of result (seen ghosts old) (seen ghosts new) → ghosts.misused new ≡ ghosts.misused old
     → reads cause_of (λ files. true) want (seen ghosts old) result (seen ghosts new)
-read_right ghosts want result old new answer files runs misused =
-    read_so ghosts cause_of (λ files. true) want result old new (answer_where result (ghosts.tree old) want answer) (is_read_cause result) files runs (allowed_by (λ files. true) (ghosts.tree old) _ _ misused)
+read_right ghosts want result old new answer frame misused =
+    read_so ghosts cause_of (λ files. true) want result old new (answer_where result (ghosts.tree old) want answer) frame.cause frame.files frame.runs (allowed_by (λ files. true) (ghosts.tree old) _ _ misused)
 
 pub tree_read : {W : Type 0} (ghosts : world.Ghosts W) (path : List ℕ) (result : Result Node StoreFault) (old new : W)
-    → IfSome (ghosts.tree old) (λ files. Reads result (tree_in path files)) → ghosts.tree new ≡ ghosts.tree old → ghosts.runs new ≡ ghosts.runs old → ghosts.misused new ≡ ghosts.misused old
+    → IfSome (ghosts.tree old) (λ files. Reads result (tree_in path files)) → ReadFrame cause_of result (seen ghosts old) (seen ghosts new) → ghosts.misused new ≡ ghosts.misused old
     → reads_tree path (seen ghosts old) result (seen ghosts new)
 unfolding reads_tree
-tree_read ghosts path result old new answer files runs misused = read_right ghosts (tree_in path) result old new answer files runs misused
+tree_read ghosts path result old new answer frame misused = read_right ghosts (tree_in path) result old new answer frame misused
 
 pub looked : {W : Type 0} (ghosts : world.Ghosts W) (store digest : List ℕ) (result : Result Bool StoreFault) (old new : W)
-    → IfSome (ghosts.tree old) (λ files. Reads result (Ok (is_file (item_at files (tree_path store digest))))) → ghosts.tree new ≡ ghosts.tree old → ghosts.runs new ≡ ghosts.runs old → ghosts.misused new ≡ ghosts.misused old
+    → IfSome (ghosts.tree old) (λ files. Reads result (Ok (is_file (item_at files (tree_path store digest))))) → ReadFrame cause_of result (seen ghosts old) (seen ghosts new) → ghosts.misused new ≡ ghosts.misused old
     → looks_for_tree store digest (seen ghosts old) result (seen ghosts new)
 unfolding looks_for_tree
-looked ghosts store digest result old new answer files runs misused = read_right ghosts (λ files. Ok (is_file (item_at files (tree_path store digest)))) result old new answer files runs misused
+looked ghosts store digest result old new answer frame misused = read_right ghosts (λ files. Ok (is_file (item_at files (tree_path store digest)))) result old new answer frame misused
 
-pub got_so : {W : Type 0} (ghosts : world.Ghosts W) (store digest : List ℕ) (result : Result Node StoreFault) (old new : W)
-    → IfSome (ghosts.tree old) (λ files. Gets digest (item_at files (tree_path store digest)) result) → ghosts.tree new ≡ ghosts.tree old → ghosts.runs new ≡ ghosts.runs old
+-- the file of a tree that was read
+pub got : {W : Type 0} (ghosts : world.Ghosts W) (store digest : List ℕ) (result : Result Node StoreFault) (old new : W)
+    → IfSome (ghosts.tree old) (λ files. Gets digest (item_at files (tree_path store digest)) result) → IfErr result (λ fault. IsReadCause (ghosts.failed_at new) (cause_of fault)) → IfErr result (BlamesAt (tree_path store digest))
+    → ghosts.tree new ≡ ghosts.tree old → ghosts.runs new ≡ ghosts.runs old
     → MayMisuse (option_map (λ files. is_file_or_absent (item_at files (tree_path store digest))) (ghosts.tree old)) (ghosts.misused old) (ghosts.misused new)
     → gets_tree store digest (seen ghosts old) result (seen ghosts new)
 unfolding gets_tree
-got_so ghosts store digest result old new answer files runs allows = record { same = record { files = files; runs = runs }; answer = answer; allows = allows }
+got ghosts store digest result old new answer cause blames files runs allows = record { same = record { files = files; runs = runs }; answer = answer; cause = cause; blames = blames; allows = allows }
+
+pub got_so : {W : Type 0} (ghosts : world.Ghosts W) (store digest : List ℕ) (result : Result Node StoreFault) (old new : W)
+    → IfSome (ghosts.tree old) (λ files. Gets digest (item_at files (tree_path store digest)) result) → IfErr result (BlamesAt (tree_path store digest)) → ReadFrame cause_of result (seen ghosts old) (seen ghosts new)
+    → MayMisuse (option_map (λ files. is_file_or_absent (item_at files (tree_path store digest))) (ghosts.tree old)) (ghosts.misused old) (ghosts.misused new)
+    → gets_tree store digest (seen ghosts old) result (seen ghosts new)
+got_so ghosts store digest result old new answer blames frame allows = got ghosts store digest result old new answer frame.cause blames frame.files frame.runs allows
 
 pub put_so : {W : Type 0} (ghosts : world.Ghosts W) (store : List ℕ) (tree : Node) (result : Result (List ℕ) StoreFault) (old new : W)
     → IfOk result (λ digest. digest ≡ sha256 (spelling_of tree)) → IfSome (ghosts.tree old) (λ files. Puts store tree files result) → OnOk result (ghosts.tree new ≡ option_map (tree_put store tree) (ghosts.tree old))
-    → IfErr result (λ fault. LeavesStore fault (tree_path store (sha256 (spelling_of tree))) (spelling_of tree) (ghosts.tree old) (ghosts.tree new)) → ghosts.runs new ≡ ghosts.runs old
+    → IfErr result (λ fault. LeavesStore fault (tree_path store (sha256 (spelling_of tree))) (spelling_of tree) (ghosts.tree old) (ghosts.tree new)) → IfErr result (BlamesAt (tree_path store (sha256 (spelling_of tree)))) → ghosts.runs new ≡ ghosts.runs old
     → MayMisuse (option_map (can_put store tree) (ghosts.tree old)) (ghosts.misused old) (ghosts.misused new)
     → puts_tree store tree (seen ghosts old) result (seen ghosts new)
 unfolding puts_tree
-put_so ghosts store tree (Ok digest) old new is answer ok err runs allows = record { answer = answer; leaves = (is, ok); runs = runs; allows = allows }
-put_so ghosts store tree (Err fault) old new is answer ok err runs allows = record { answer = answer; leaves = err; runs = runs; allows = allows }
+put_so ghosts store tree (Ok digest) old new is answer ok err blames runs allows = record { answer = answer; leaves = (is, ok); blames = blames; runs = runs; allows = allows }
+put_so ghosts store tree (Err fault) old new is answer ok err blames runs allows = record { answer = answer; leaves = err; blames = blames; runs = runs; allows = allows }
 
 cause_within : (root : List ℕ) (fault : StoreFault) → IsTrue (is_free fault) → BlamesWithin root fault → IsCauseWithin root (cause_of fault)
 cause_within root (File path) free within = within

@@ -1,6 +1,6 @@
 -- Checking a tree's file: what is hashed and scanned as it comes, and what that says of getting the tree.
 use Rattle.std.proofs.Common.{◌≡◌, ℕ, ◌+◌, ◌*◌, ◌/◌, ◌≤◌, ◌∙◌, List, [], ◌++◌, length, take, drop, refl, sym, ap, subst, arith, Option, Some, None, Bool, true, false, Result, Ok, Err}
-use Rattle.std.specs.Prelude.{IfSome, IsTrue, ◌↔◌}
+use Rattle.std.specs.Prelude.{IfErr, IfSome, IsTrue, ◌↔◌}
 use Rattle.std.specs.Option.{option_map}
 use Rattle.std.proofs.Math.Seq.{take-add}
 use Rattle.std.proofs.lemmas.List.{take_all}
@@ -12,6 +12,7 @@ use Rattle.cnb_world.specs.declared.world.Item.{Item}
 use Rattle.cnb_world.specs.declared.world.Item.TheVariants as item
 use Rattle.cnb_world.specs.declared.world.World as world
 use Rattle.steps.specs.Outside.{seen}
+use Rattle.steps.specs.Reading.{ReadFrame}
 use Rattle.steps.specs.Steps.{yields}
 use Rattle.steps.proofs.StepLemmas.{ended, went, yielded}
 use Rattle.tree_canon.specs.declared.fault.DecodeFault.{DecodeFault}
@@ -25,11 +26,12 @@ use Rattle.tree_canon.specs.Scans.{Scans, ScanFeeds, ScanEnds}
 use Rattle.tree_store.specs.declared.checking.Checking.{Checking}
 use Rattle.tree_store.specs.declared.fault.StoreFault.{StoreFault}
 use Rattle.tree_store.specs.declared.fault.StoreFault.TheVariants.{Damaged}
+use Rattle.tree_store.specs.Answers.{BlamesAt, cause_of}
 use Rattle.tree_store.specs.Checking.{Checks, ChecksOf, HasChecked}
 use Rattle.tree_store.specs.Judging.{IsFed}
 use Rattle.tree_store.specs.Steps.{checks_tree, gets_tree}
 use Rattle.tree_store.specs.Store.{tree_path, Gets}
-use Rattle.tree_store.proofs.CallSteps.{got_so}
+use Rattle.tree_store.proofs.CallSteps.{got}
 use Rattle.tree_store.proofs.Feeding.{fed_on, fed_broken, ended_badly}
 use Rattle.tree_store.proofs.Kept.{contents, next_number}
 
@@ -109,12 +111,12 @@ got_some None path digest h = (Link [], tt)
 got_some (Some files) path digest h = (h.0, h.1)
 
 pub checked_so : {W : Type 0} (ghosts : world.Ghosts W) (store digest : List ℕ) (result : Result (Unit {0}) StoreFault) (old new : W)
-    → IfSome (ghosts.tree old) (λ files. Checks digest (item_at files (tree_path store digest)) result) → ghosts.tree new ≡ ghosts.tree old → ghosts.runs new ≡ ghosts.runs old
+    → IfSome (ghosts.tree old) (λ files. Checks digest (item_at files (tree_path store digest)) result) → IfErr result (BlamesAt (tree_path store digest)) → ReadFrame cause_of result (seen ghosts old) (seen ghosts new)
     → MayMisuse (option_map (λ files. is_file_or_absent (item_at files (tree_path store digest))) (ghosts.tree old)) (ghosts.misused old) (ghosts.misused new)
     → checks_tree store digest (seen ghosts old) result (seen ghosts new)
 unfolding checks_tree
-checked_so ghosts store digest (Ok done) old new answer files runs allows =
+checked_so ghosts store digest (Ok done) old new answer blames frame allows =
     let root = got_some (ghosts.tree old) (tree_path store digest) digest answer in
-    went (gets_tree store digest) (λ tree. yields tt) (seen ghosts old) (seen ghosts new) (seen ghosts new) root.0 (Ok done) (got_so ghosts store digest (Ok root.0) old new root.1 files runs allows) (yielded StoreFault tt (seen ghosts new))
-checked_so ghosts store digest (Err fault) old new answer files runs allows =
-    ended (gets_tree store digest) (λ tree. yields tt) (seen ghosts old) (seen ghosts new) fault (got_so ghosts store digest (Err fault) old new answer files runs allows)
+    went (gets_tree store digest) (λ tree. yields tt) (seen ghosts old) (seen ghosts new) (seen ghosts new) root.0 (Ok done) (got ghosts store digest (Ok root.0) old new root.1 tt tt frame.files frame.runs allows) (yielded StoreFault tt (seen ghosts new))
+checked_so ghosts store digest (Err fault) old new answer blames frame allows =
+    ended (gets_tree store digest) (λ tree. yields tt) (seen ghosts old) (seen ghosts new) fault (got ghosts store digest (Err fault) old new answer frame.cause blames frame.files frame.runs allows)

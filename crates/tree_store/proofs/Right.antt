@@ -1,10 +1,10 @@
 -- Why laying makes calls of the right kind.
-use Rattle.std.proofs.Common.{◌≡◌, ◌≤◌, ◌<◌, ◌+◌, ◌∙◌, refl, sym, ap, subst, arith, ℕ, Bool, true, false, not, cond, ◌||◌, ◌&&◌, ◌==◌, ◌⊎◌, inl, inr, ◌++◌, List, [], ◌∷◌, length, length-append, append_assoc, nat_eq, Option, Some, None, is_some, Result, Ok, Err}
-use Rattle.std.specs.Prelude.{IfSome, IsTrue, OnOk}
+use Rattle.std.proofs.Common.{◌≡◌, ◌≤◌, ◌<◌, ◌+◌, ◌∙◌, refl, sym, ap, subst, arith, ℕ, Bool, true, false, not, cond, ◌||◌, ◌&&◌, ◌==◌, ◌⊎◌, inl, inr, ◌++◌, List, [], ◌∷◌, length, length-append, append_assoc, nat_eq, Option, Some, None, is_some, Result}
+use Rattle.std.specs.Prelude.{IfSome, IsTrue}
 use Rattle.std.specs.List.{list_all, list_any, starts_with}
 use Rattle.std.specs.Option.{option_map}
 use Rattle.std.specs.Str.{bytes_eq}
-use Rattle.std.specs.FinMap.{get, insert}
+use Rattle.std.specs.FinMap.{get}
 use Rattle.std.proofs.lemmas.Bool.{and_parts, false_from_ne_true}
 use Rattle.std.proofs.lemmas.List.Folds.{list_any-append}
 use Rattle.std.proofs.lemmas.Slice.Eq.{bytes_eq-Decides}
@@ -16,12 +16,12 @@ use Rattle.cnb_world.specs.declared.world.Item.{Item}
 use Rattle.cnb_world.specs.declared.world.Item.TheVariants as item
 use Rattle.cnb_world.specs.declared.world.Kind.{Kind}
 use Rattle.cnb_world.specs.declared.world.Kind.TheVariants as kind
-use Rattle.cnb_world.proofs.Folders.{folder_stands, get-with_folders, get-without, not_longer, parent_shorter}
+use Rattle.cnb_world.proofs.Folders.{folder_stands, get-with_folders, get-without, parent_shorter}
 use Rattle.cnb_world.proofs.Parents.{has_slash}
 use Rattle.cnb_world.proofs.Trees.{bytes_eq-other, bytes_eq-same, get-insert_bytes}
 use Rattle.tree_canon.specs.Names.{is_name}
 use Rattle.tree_canon.specs.declared.node.Node.{Node}
-use Rattle.tree_store.specs.Around.{IsMadeAbove, KeepsAround, KeptAround}
+use Rattle.tree_store.specs.Around.{IsMadeAbove, KeptAround}
 use Rattle.tree_store.specs.Laying.{file_set, folder_laid, folder_over}
 use Rattle.tree_store.specs.Right.{AreFolders, way_into, way_to}
 use Rattle.tree_store.specs.Overlay.{can_stand, parts_of}

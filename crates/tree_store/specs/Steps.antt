@@ -1,15 +1,15 @@
 -- What each call does, as a step: from what is seen before, by an answer, to what is seen after.
-use Rattle.std.specs.Prelude.{[], ◌∷◌, ◌&&◌, ℕ, Bool, true, ◌≡◌, List, Result, Ok, Err, IfSome, IsTrue}
+use Rattle.std.specs.Prelude.{[], ◌∷◌, ◌&&◌, ℕ, Bool, true, ◌≡◌, List, Result, Ok, Err, IfErr, IfSome, IsTrue}
 use Rattle.std.specs.Option.{option_map}
 use Rattle.sha2.specs.Sha256.{sha256}
 use Rattle.cnb_world.specs.Tree.{Tree, can_make_folder, item_at, is_file, is_file_or_absent, is_within}
 use Rattle.cnb_world.specs.Whole.{can_write}
-use Rattle.steps.specs.Causes.{Cause, FileFailed, ChildFailed, OutOfMemory, Decided}
+use Rattle.steps.specs.Causes.{Cause, FileFailed, ChildFailed, OutOfMemory, Decided, IsReadCause}
 use Rattle.steps.specs.Outside.{Seen}
 use Rattle.steps.specs.Steps.{◌>>=◌, Allows, Same, reads, yields}
 use Rattle.tree_canon.specs.Spelling.{spelling_of}
 use Rattle.tree_canon.specs.declared.node.Node.{Node}
-use Rattle.tree_store.specs.Answers.{cause_of}
+use Rattle.tree_store.specs.Answers.{BlamesAt, cause_of}
 use Rattle.tree_store.specs.Around.{LeavesAround}
 use Rattle.tree_store.specs.Overlay.{can_stand, parts_of, tree_laid}
 use Rattle.tree_store.specs.Reading.{tree_in}
@@ -25,10 +25,13 @@ unfoldable pub looks_for_tree : List ℕ → List ℕ → Seen → Result Bool S
 looks_for_tree store digest old result new =
     reads cause_of (λ files. true) (λ files. Ok (is_file (item_at files (tree_path store digest)))) old result new
 
--- The file of a tree is read, by calls of the right kind where it is a file or absent.
+-- The file of a tree is read, by calls of the right kind where it is a file or absent. A refusal for a failed call names that
+-- file.
 pub record GetsTree (store digest : List ℕ) (old : Seen) (result : Result Node StoreFault) (new : Seen) : Type 0 where
   pub same : Same old new
   pub answer : IfSome old.files (λ files. Gets digest (item_at files (tree_path store digest)) result)
+  pub cause : IfErr result (λ fault. IsReadCause new.failed_at (cause_of fault))
+  pub blames : IfErr result (BlamesAt (tree_path store digest))
   pub allows : Allows (λ files. is_file_or_absent (item_at files (tree_path store digest))) old new
 
 -- the tree that the store has under a digest
@@ -50,14 +53,16 @@ LeavesPut store tree old (Ok digest) new =
 LeavesPut store tree old (Err fault) new =
     LeavesStore fault (tree_path store (sha256 (spelling_of tree))) (spelling_of tree) old.files new.files
 
+-- The file of a tree is written, or has its bytes. A refusal for a failed call names that file.
 pub record PutsTree (store : List ℕ) (tree : Node) (old : Seen) (result : Result (List ℕ) StoreFault) (new : Seen)
     : Type 0 where
   pub answer : IfSome old.files (λ files. Puts store tree files result)
   pub leaves : LeavesPut store tree old result new
+  pub blames : IfErr result (BlamesAt (tree_path store (sha256 (spelling_of tree))))
   pub runs : new.runs ≡ old.runs
   pub allows : Allows (can_put store tree) old new
 
--- a tree is put into the store: its file is written, or has its bytes
+-- a tree is put into the store
 unfoldable pub puts_tree : List ℕ → Node → Seen → Result (List ℕ) StoreFault → Seen → Type 0
 puts_tree store tree old result new = PutsTree store tree old result new
 

@@ -4,6 +4,8 @@ ghost use Rattle.std.specs.Option.{option_map};
 ghost use Rattle.cnb_world.specs.Calls.{MayMisuse};
 ghost use Rattle.cnb_world.specs.Tree.{item_at, is_file, is_file_or_absent, bytes_of};
 ghost use Rattle.steps.specs.Causes.{CountsFiles};
+ghost use Rattle.steps.specs.Outside.{seen};
+ghost use Rattle.steps.specs.Reading.{ReadFrame};
 ghost use Rattle.tree_store.specs.Answers.{BlamesAt, cause_of};
 ghost use Rattle.tree_store.specs.Checking.{Checks, ChecksOf, HasChecked};
 ghost use Rattle.tree_store.specs.Store.{tree_path};
@@ -75,6 +77,7 @@ fn damaged(asked: &Digest, found: Digest, bad: Option<Reason>) -> StoreFault
 }
 
 // Checks the file at a path, which has so many bytes.
+#[tactic(auto, using(crate::proofs::Blames::names_none))]
 fn check_kept<W: World>(
     alloc: Global,
     world: &mut W,
@@ -86,10 +89,7 @@ fn check_kept<W: World>(
     requires stands { IfSome (W.tree world.old) (λ files. IsTrue (is_some (item_at files path.now))) }
     ensures checks { IfSome (W.tree world.old) (λ files. Checks digest.now (item_at files path.now) result) }
     ensures blames { IfErr result (BlamesAt path.now) }
-    ensures tree { W.tree world.new ≡ W.tree world.old }
-    ensures files { CountsFiles cause_of result (W.file_faults world.old) (W.file_faults world.new) }
-    ensures children { W.child_faults world.new ≡ W.child_faults world.old }
-    ensures runs { W.runs world.new ≡ W.runs world.old }
+    ensures frame { ReadFrame cause_of result (seen W.World world.old) (seen W.World world.new) }
     ensures misused { MayMisuse (option_map (λ t. is_file (item_at t path.now)) (W.tree world.old))
         (W.misused world.old)
         (W.misused world.new) }
@@ -113,10 +113,7 @@ pub(crate) fn check_file<W: World>(
     ensures checks { IfSome (W.tree world.old) (λ files. Checks digest.now
         (item_at files (tree_path store.now digest.now)) result) }
     ensures blames { IfErr result (BlamesAt (tree_path store.now digest.now)) }
-    ensures tree { W.tree world.new ≡ W.tree world.old }
-    ensures files { CountsFiles cause_of result (W.file_faults world.old) (W.file_faults world.new) }
-    ensures children { W.child_faults world.new ≡ W.child_faults world.old }
-    ensures runs { W.runs world.new ≡ W.runs world.old }
+    ensures frame { ReadFrame cause_of result (seen W.World world.old) (seen W.World world.new) }
     ensures misused { MayMisuse (option_map (λ t. is_file_or_absent (item_at t (tree_path store.now digest.now)))
         (W.tree world.old)) (W.misused world.old) (W.misused world.new) }
 {

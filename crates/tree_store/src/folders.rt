@@ -1,10 +1,9 @@
 // Folders that go into the store, and stored trees that are checked and laid.
-ghost use Rattle.std.specs.Prelude.{◌≡◌, ◌≤◌, IfErr, length};
+ghost use Rattle.std.specs.Prelude.{◌≡◌, ◌≤◌, length};
 ghost use Rattle.steps.specs.Causes.{CountsFiles};
 ghost use Rattle.steps.specs.Outside.{seen};
-ghost use Rattle.tree_store.specs.Answers.{BlamesAt, cause_of};
+ghost use Rattle.tree_store.specs.Answers.{cause_of};
 ghost use Rattle.tree_store.specs.Steps.{checks_tree, lays_stored, puts_folder};
-ghost use Rattle.tree_store.specs.Store.{tree_path};
 
 use crate::checking::check_file;
 use crate::fault::StoreFault;
@@ -44,7 +43,6 @@ pub fn check_tree<W: World>(
 ) -> Result<(), StoreFault>
     requires { length store.now ≤ 8192 }
     ensures steps { checks_tree store.now digest.now (seen W.World world.old) result (seen W.World world.new) }
-    ensures blames { IfErr result (BlamesAt (tree_path store.now digest.now)) }
     ensures files { CountsFiles cause_of result (W.file_faults world.old) (W.file_faults world.new) }
     ensures children { W.child_faults world.new ≡ W.child_faults world.old }
 {

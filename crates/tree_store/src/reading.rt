@@ -10,6 +10,7 @@ ghost use Rattle.tree_canon.specs.Names.{is_name};
 ghost use Rattle.tree_canon.specs.Spelling.{limit, entries_bytes};
 ghost use Rattle.steps.specs.Causes.{CountsFiles};
 ghost use Rattle.steps.specs.Outside.{seen};
+ghost use Rattle.steps.specs.Reading.{ReadFrame};
 ghost use Rattle.tree_store.specs.Answers.{BlamesAt, BlamesWithin, Reads, is_free, cause_of};
 ghost use Rattle.tree_store.specs.Steps.{reads_tree};
 ghost use Rattle.tree_store.specs.Reading.{room, link_of, node_at, node_of, in_order, tree_in, FitsFrom};
@@ -37,6 +38,7 @@ fn room(size: u64, head: u64, len: u64) -> Result<u64, StoreFault>
 }
 
 // What stands at a path.
+#[tactic(auto, using(crate::proofs::Blames::blamed_last))]
 pub(crate) fn kind_at<W: World>(
     alloc: Global,
     world: &mut W,
@@ -45,10 +47,7 @@ pub(crate) fn kind_at<W: World>(
     ensures told { IfSome (W.tree world.old) (λ files. IfOk result (λ k. k ≡ kind_of (item_at files path.now))) }
     ensures free { IfErr result (λ fault. IsTrue (is_free fault)) }
     ensures blames { IfErr result (BlamesAt path.now) }
-    ensures tree { W.tree world.new ≡ W.tree world.old }
-    ensures files { CountsFiles cause_of result (W.file_faults world.old) (W.file_faults world.new) }
-    ensures children { W.child_faults world.new ≡ W.child_faults world.old }
-    ensures runs { W.runs world.new ≡ W.runs world.old }
+    ensures frame { ReadFrame cause_of result (seen W.World world.old) (seen W.World world.new) }
     ensures misused { W.misused world.new ≡ W.misused world.old }
 {
     match world.kind(path) {
@@ -58,16 +57,14 @@ pub(crate) fn kind_at<W: World>(
 }
 
 // The names in a folder.
+#[tactic(auto, using(crate::proofs::Blames::blamed_last))]
 fn listed<W: World>(alloc: Global, world: &mut W, path: &Path) -> Result<List<Text>, StoreFault>
     requires kind { IfSome (W.tree world.old) (λ files. kind.Folder ≡ kind_of (item_at files path.now)) }
     ensures names { IfOk result AreNames }
     ensures told { IfSome (W.tree world.old) (λ files. IfOk result (λ names. names ≡ names_in files path.now)) }
     ensures free { IfErr result (λ fault. IsTrue (is_free fault)) }
     ensures blames { IfErr result (BlamesAt path.now) }
-    ensures tree { W.tree world.new ≡ W.tree world.old }
-    ensures files { CountsFiles cause_of result (W.file_faults world.old) (W.file_faults world.new) }
-    ensures children { W.child_faults world.new ≡ W.child_faults world.old }
-    ensures runs { W.runs world.new ≡ W.runs world.old }
+    ensures frame { ReadFrame cause_of result (seen W.World world.old) (seen W.World world.new) }
     ensures misused { W.misused world.new ≡ W.misused world.old }
 {
     match world.list(path) {
@@ -77,6 +74,7 @@ fn listed<W: World>(alloc: Global, world: &mut W, path: &Path) -> Result<List<Te
 }
 
 // The file at a path as a node.
+#[tactic(auto, using(crate::proofs::Blames::blamed_last))]
 fn read_file<W: World>(
     alloc: Global,
     world: &mut W,
@@ -92,10 +90,7 @@ fn read_file<W: World>(
     ensures fit { IfOk result (λ read. (depth : ℕ) → depth ≤ 64 → FitsFrom depth size read) }
     ensures few { IfOk result (λ read. read.1 ≤ limit) }
     ensures blames { IfErr result (BlamesAt path.now) }
-    ensures tree { W.tree world.new ≡ W.tree world.old }
-    ensures files { CountsFiles cause_of result (W.file_faults world.old) (W.file_faults world.new) }
-    ensures children { W.child_faults world.new ≡ W.child_faults world.old }
-    ensures runs { W.runs world.new ≡ W.runs world.old }
+    ensures frame { ReadFrame cause_of result (seen W.World world.old) (seen W.World world.new) }
     ensures misused { W.misused world.new ≡ W.misused world.old }
 {
     let size = room(size, 10, len)?;
@@ -144,7 +139,7 @@ fn link_node(
 }
 
 // The link at a path as a node, where so many levels may stand.
-#[tactic(auto, using(crate::proofs::Nodes::linked))]
+#[tactic(auto, using(crate::proofs::Nodes::linked, crate::proofs::Blames::blamed_last, crate::proofs::Blames::names_none))]
 fn read_link<W: World>(
     alloc: Global,
     world: &mut W,
@@ -159,10 +154,7 @@ fn read_link<W: World>(
     ensures fit { IfOk result (FitsFrom (65 - levels) size) }
     ensures few { IfOk result (λ read. read.1 ≤ limit) }
     ensures blames { IfErr result (BlamesAt path.now) }
-    ensures tree { W.tree world.new ≡ W.tree world.old }
-    ensures files { CountsFiles cause_of result (W.file_faults world.old) (W.file_faults world.new) }
-    ensures children { W.child_faults world.new ≡ W.child_faults world.old }
-    ensures runs { W.runs world.new ≡ W.runs world.old }
+    ensures frame { ReadFrame cause_of result (seen W.World world.old) (seen W.World world.new) }
     ensures misused { W.misused world.new ≡ W.misused world.old }
 {
     match world.read_link(path) {
@@ -207,10 +199,7 @@ fn read_entry<W: World>(
     ensures fit { IfOk result (FitsFrom (65 - levels) (size + (2 + length name.now))) }
     ensures few { IfOk result (λ read. read.1 ≤ limit) }
     ensures blames { IfErr result (BlamesWithin folder.now) }
-    ensures tree { W.tree world.new ≡ W.tree world.old }
-    ensures files { CountsFiles cause_of result (W.file_faults world.old) (W.file_faults world.new) }
-    ensures children { W.child_faults world.new ≡ W.child_faults world.old }
-    ensures runs { W.runs world.new ≡ W.runs world.old }
+    ensures frame { ReadFrame cause_of result (seen W.World world.old) (seen W.World world.new) }
     ensures misused { W.misused world.new ≡ W.misused world.old }
 {
     let head = head_length(name);
@@ -239,10 +228,7 @@ fn read_entries<W: World>(
     ensures bytes { IfOk result (λ read. read.1 ≡ size + length (entries_bytes read.0)) }
     ensures few { IfOk result (λ read. read.1 ≤ limit) }
     ensures blames { IfErr result (BlamesWithin folder.now) }
-    ensures tree { W.tree world.new ≡ W.tree world.old }
-    ensures files { CountsFiles cause_of result (W.file_faults world.old) (W.file_faults world.new) }
-    ensures children { W.child_faults world.new ≡ W.child_faults world.old }
-    ensures runs { W.runs world.new ≡ W.runs world.old }
+    ensures frame { ReadFrame cause_of result (seen W.World world.old) (seen W.World world.new) }
     ensures misused { W.misused world.new ≡ W.misused world.old }
 {
     let mut entries = Vec::new(alloc);
@@ -275,10 +261,7 @@ fn read_folder<W: World>(
     ensures fit { IfOk result (FitsFrom (64 - levels) size) }
     ensures few { IfOk result (λ read. read.1 ≤ limit) }
     ensures blames { IfErr result (BlamesWithin path.now) }
-    ensures tree { W.tree world.new ≡ W.tree world.old }
-    ensures files { CountsFiles cause_of result (W.file_faults world.old) (W.file_faults world.new) }
-    ensures children { W.child_faults world.new ≡ W.child_faults world.old }
-    ensures runs { W.runs world.new ≡ W.runs world.old }
+    ensures frame { ReadFrame cause_of result (seen W.World world.old) (seen W.World world.new) }
     ensures misused { W.misused world.new ≡ W.misused world.old }
 {
     let size = room(size, 5, 0)?;
@@ -304,10 +287,7 @@ fn read_node<W: World>(
     ensures fit { IfOk result (FitsFrom (65 - levels) size) }
     ensures few { IfOk result (λ read. read.1 ≤ limit) }
     ensures blames { IfErr result (BlamesWithin path.now) }
-    ensures tree { W.tree world.new ≡ W.tree world.old }
-    ensures files { CountsFiles cause_of result (W.file_faults world.old) (W.file_faults world.new) }
-    ensures children { W.child_faults world.new ≡ W.child_faults world.old }
-    ensures runs { W.runs world.new ≡ W.runs world.old }
+    ensures frame { ReadFrame cause_of result (seen W.World world.old) (seen W.World world.new) }
     ensures misused { W.misused world.new ≡ W.misused world.old }
 {
     match kind_at(alloc, world, path)? {
@@ -335,10 +315,7 @@ fn tree_at<W: World>(alloc: Global, world: &mut W, path: &Path) -> Result<Tree, 
     requires { length path.now ≤ 8192 }
     ensures reads { IfSome (W.tree world.old) (λ files. Reads result (tree_in path.now files)) }
     ensures blames { IfErr result (BlamesWithin path.now) }
-    ensures tree { W.tree world.new ≡ W.tree world.old }
-    ensures files { CountsFiles cause_of result (W.file_faults world.old) (W.file_faults world.new) }
-    ensures children { W.child_faults world.new ≡ W.child_faults world.old }
-    ensures runs { W.runs world.new ≡ W.runs world.old }
+    ensures frame { ReadFrame cause_of result (seen W.World world.old) (seen W.World world.new) }
     ensures misused { W.misused world.new ≡ W.misused world.old }
 {
     match kind_at(alloc, world, path)? {

@@ -9,6 +9,7 @@ ghost use Rattle.cnb_world.specs.Whole.{can_write, written, LeavesPart};
 ghost use Rattle.tree_canon.specs.Spelling.{spelling_of};
 ghost use Rattle.steps.specs.Causes.{CountsFiles};
 ghost use Rattle.steps.specs.Outside.{seen};
+ghost use Rattle.steps.specs.Reading.{ReadFrame};
 ghost use Rattle.tree_store.specs.Answers.{BlamesAt, Reads, is_free, is_file_kind, is_absent_kind, cause_of};
 ghost use Rattle.tree_store.specs.Steps.{gets_tree, looks_for_tree, puts_tree};
 ghost use Rattle.tree_store.specs.Store.{tree_path, tree_put, kept_or_written, Gets, IsJudgedTree, Keeps, Puts, LeavesStore};
@@ -72,10 +73,7 @@ fn stands<W: World>(
     ensures reads { IfSome (W.tree world.old) (λ files. Reads result
         (Ok (is_file (item_at files (tree_path store.now digest.now))))) }
     ensures blames { IfErr result (BlamesAt (tree_path store.now digest.now)) }
-    ensures tree { W.tree world.new ≡ W.tree world.old }
-    ensures files { CountsFiles cause_of result (W.file_faults world.old) (W.file_faults world.new) }
-    ensures children { W.child_faults world.new ≡ W.child_faults world.old }
-    ensures runs { W.runs world.new ≡ W.runs world.old }
+    ensures frame { ReadFrame cause_of result (seen W.World world.old) (seen W.World world.new) }
     ensures misused { W.misused world.new ≡ W.misused world.old }
 {
     let path = tree_file(alloc, store, digest)?;
@@ -101,6 +99,7 @@ pub fn has<W: World>(
 }
 
 // The bytes of the file at a path from a place on, at most as many as are read at once.
+#[tactic(auto, using(crate::proofs::Blames::blamed_last))]
 pub(crate) fn read_piece<W: World>(
     alloc: Global,
     world: &mut W,
@@ -112,10 +111,7 @@ pub(crate) fn read_piece<W: World>(
     ensures file { IfSome (W.tree world.old) (λ files. OnOk result (IsTrue (is_file (item_at files path.now)))) }
     ensures free { IfErr result (λ fault. IsTrue (is_free fault)) }
     ensures blames { IfErr result (BlamesAt path.now) }
-    ensures tree { W.tree world.new ≡ W.tree world.old }
-    ensures files { CountsFiles cause_of result (W.file_faults world.old) (W.file_faults world.new) }
-    ensures children { W.child_faults world.new ≡ W.child_faults world.old }
-    ensures runs { W.runs world.new ≡ W.runs world.old }
+    ensures frame { ReadFrame cause_of result (seen W.World world.old) (seen W.World world.new) }
     ensures misused { MayMisuse (option_map (λ t. is_file (item_at t path.now)) (W.tree world.old))
         (W.misused world.old)
         (W.misused world.new) }
@@ -151,10 +147,7 @@ fn has_bytes<W: World>(
     ensures file { IfSome (W.tree world.old) (λ files. OnOk result (IsTrue (is_file (item_at files path.now)))) }
     ensures free { IfErr result (λ fault. IsTrue (is_free fault)) }
     ensures blames { IfErr result (BlamesAt path.now) }
-    ensures tree { W.tree world.new ≡ W.tree world.old }
-    ensures files { CountsFiles cause_of result (W.file_faults world.old) (W.file_faults world.new) }
-    ensures children { W.child_faults world.new ≡ W.child_faults world.old }
-    ensures runs { W.runs world.new ≡ W.runs world.old }
+    ensures frame { ReadFrame cause_of result (seen W.World world.old) (seen W.World world.new) }
     ensures misused { MayMisuse (option_map (λ t. is_file (item_at t path.now)) (W.tree world.old))
         (W.misused world.old)
         (W.misused world.new) }
@@ -176,10 +169,7 @@ fn is_absent_at<W: World>(alloc: Global, world: &mut W, path: &Path) -> Result<b
         (λ absent. absent ≡ not (is_some (item_at files path.now)))) }
     ensures free { IfErr result (λ fault. IsTrue (is_free fault)) }
     ensures blames { IfErr result (BlamesAt path.now) }
-    ensures tree { W.tree world.new ≡ W.tree world.old }
-    ensures files { CountsFiles cause_of result (W.file_faults world.old) (W.file_faults world.new) }
-    ensures children { W.child_faults world.new ≡ W.child_faults world.old }
-    ensures runs { W.runs world.new ≡ W.runs world.old }
+    ensures frame { ReadFrame cause_of result (seen W.World world.old) (seen W.World world.new) }
     ensures misused { W.misused world.new ≡ W.misused world.old }
 {
     let kind = kind_at(alloc, world, path)?;
@@ -196,10 +186,7 @@ fn compare<W: World>(
 ) -> Result<(), StoreFault>
     ensures keeps { IfSome (W.tree world.old) (λ files. Keeps digest.now bytes.now (item_at files path.now) result) }
     ensures blames { IfErr result (BlamesAt path.now) }
-    ensures tree { W.tree world.new ≡ W.tree world.old }
-    ensures files { CountsFiles cause_of result (W.file_faults world.old) (W.file_faults world.new) }
-    ensures children { W.child_faults world.new ≡ W.child_faults world.old }
-    ensures runs { W.runs world.new ≡ W.runs world.old }
+    ensures frame { ReadFrame cause_of result (seen W.World world.old) (seen W.World world.new) }
     ensures misused { MayMisuse (option_map (λ t. is_file (item_at t path.now)) (W.tree world.old))
         (W.misused world.old)
         (W.misused world.new) }
@@ -304,7 +291,6 @@ pub fn put<W: World>(
 ) -> Result<Digest, StoreFault>
     requires { length store.now ≤ 8192 }
     ensures steps { puts_tree store.now tree.now (seen W.World world.old) result (seen W.World world.new) }
-    ensures blames { IfErr result (BlamesAt (tree_path store.now (sha256 (spelling_of tree.now)))) }
     ensures files { CountsFiles cause_of result (W.file_faults world.old) (W.file_faults world.new) }
     ensures children { W.child_faults world.new ≡ W.child_faults world.old }
 {
@@ -333,10 +319,7 @@ fn read_kept<W: World>(
     requires stands { IfSome (W.tree world.old) (λ files. IsTrue (is_some (item_at files path.now))) }
     ensures gets { IfSome (W.tree world.old) (λ files. Gets digest.now (item_at files path.now) result) }
     ensures blames { IfErr result (BlamesAt path.now) }
-    ensures tree { W.tree world.new ≡ W.tree world.old }
-    ensures files { CountsFiles cause_of result (W.file_faults world.old) (W.file_faults world.new) }
-    ensures children { W.child_faults world.new ≡ W.child_faults world.old }
-    ensures runs { W.runs world.new ≡ W.runs world.old }
+    ensures frame { ReadFrame cause_of result (seen W.World world.old) (seen W.World world.new) }
     ensures misused { MayMisuse (option_map (λ t. is_file (item_at t path.now)) (W.tree world.old))
         (W.misused world.old)
         (W.misused world.new) }
@@ -361,10 +344,7 @@ fn get_file<W: World>(
     ensures gets { IfSome (W.tree world.old) (λ files. Gets digest.now
         (item_at files (tree_path store.now digest.now)) result) }
     ensures blames { IfErr result (BlamesAt (tree_path store.now digest.now)) }
-    ensures tree { W.tree world.new ≡ W.tree world.old }
-    ensures files { CountsFiles cause_of result (W.file_faults world.old) (W.file_faults world.new) }
-    ensures children { W.child_faults world.new ≡ W.child_faults world.old }
-    ensures runs { W.runs world.new ≡ W.runs world.old }
+    ensures frame { ReadFrame cause_of result (seen W.World world.old) (seen W.World world.new) }
     ensures misused { MayMisuse (option_map (λ t. is_file_or_absent (item_at t (tree_path store.now digest.now)))
         (W.tree world.old)) (W.misused world.old) (W.misused world.new) }
 {
@@ -389,7 +369,6 @@ pub fn get<W: World>(
 ) -> Result<Tree, StoreFault>
     requires { length store.now ≤ 8192 }
     ensures steps { gets_tree store.now digest.now (seen W.World world.old) result (seen W.World world.new) }
-    ensures blames { IfErr result (BlamesAt (tree_path store.now digest.now)) }
     ensures files { CountsFiles cause_of result (W.file_faults world.old) (W.file_faults world.new) }
     ensures children { W.child_faults world.new ≡ W.child_faults world.old }
 {
