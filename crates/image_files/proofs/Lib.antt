@@ -3,4 +3,5 @@ pub mod ReadLemmas
 pub mod ReadableLaws
 pub mod RunPartLaws
 pub mod StandLaws
+pub mod ToldReads
 pub mod WriteLemmas

@@ -1,11 +1,11 @@
 -- Documents that are read by their forms.
 use Rattle.std.specs.Prelude.{ℕ, ◌≡◌, Bool, List, Option, Some, None, Result, Ok, Err}
-use Rattle.cnb_world.specs.Steps.{◌>>=◌}
 use Rattle.cnb_world.specs.Tree.{Tree, is_file_or_absent, item_at}
 use Rattle.cnb_toml.specs.Document.{document_of}
 use Rattle.cnb_toml.specs.Form.{TableForm}
 use Rattle.doc_files.specs.Reading.{document_at, read_at}
 use Rattle.doc_files.specs.declared.fault.ReadFault.{ReadFault}
+use Rattle.steps.specs.Results.{◌>>=◌}
 
 -- a value that is there
 abbrev pub some_of : {A E : Type 0} → Result A E → Result (Option A) E

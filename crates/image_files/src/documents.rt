@@ -2,8 +2,11 @@
 ghost use Rattle.std.specs.Prelude.{◌≡◌, ℕ, IfErr, IfOk, IfSome};
 ghost use Rattle.std.specs.Option.{option_map};
 ghost use Rattle.cnb_world.specs.Calls.{MayMisuse};
-ghost use Rattle.doc_files.specs.Counts.{CountsFiles};
-ghost use Rattle.doc_files.specs.Reading.{BlamesOnly, Reads};
+ghost use Rattle.steps.specs.Causes.{CountsFiles, IsAnswer};
+ghost use Rattle.steps.specs.Outside.{seen};
+ghost use Rattle.steps.specs.Reading.{ReadFrame};
+ghost use Rattle.doc_files.specs.Faults.{read_cause};
+ghost use Rattle.doc_files.specs.Reading.{BlamesOnly};
 ghost use Rattle.image_files.specs.Documents.{IsRead, document_in, found_of, is_fit_document};
 
 use cnb_toml::TableForm;
@@ -17,10 +20,10 @@ fn found_of<F: TableForm>(
     path: &Path,
     found: Option<Bytes>,
 ) -> Result<Option<F::Value>, ReadFault>
-    ensures reads { Reads result (found_of F.value_in path.now found) }
+    ensures reads { IsAnswer read_cause result (found_of F.value_in path.now found) }
     ensures read { IfOk result (λ found. IfSome found (IsRead F.value_in)) }
     ensures blames { IfErr result (BlamesOnly path.now) }
-    ensures files { (n : ℕ) → CountsFiles result n n }
+    ensures files { (n : ℕ) → CountsFiles read_cause result n n }
 {
     match found {
         Some(bytes) => {
@@ -36,19 +39,16 @@ fn found_of<F: TableForm>(
 }
 
 /// The document at a path, where one is there.
-#[tactic(auto, using(doc_files::proofs::Counts::counts_after))]
 pub fn find_document<W: World, F: TableForm>(
     alloc: Global,
     world: &mut W,
     path: &Path,
 ) -> Result<Option<F::Value>, ReadFault>
-    ensures reads { IfSome (W.tree world.old) (λ files. Reads result (document_in F.value_in path.now files)) }
+    ensures reads { IfSome (W.tree world.old) (λ files.
+        IsAnswer read_cause result (document_in F.value_in path.now files)) }
     ensures read { IfOk result (λ found. IfSome found (IsRead F.value_in)) }
     ensures blames { IfErr result (BlamesOnly path.now) }
-    ensures tree { W.tree world.new ≡ W.tree world.old }
-    ensures files { CountsFiles result (W.file_faults world.old) (W.file_faults world.new) }
-    ensures children { W.child_faults world.new ≡ W.child_faults world.old }
-    ensures runs { W.runs world.new ≡ W.runs world.old }
+    ensures frame { ReadFrame read_cause result (seen W.World world.old) (seen W.World world.new) }
     ensures misused { MayMisuse (option_map (is_fit_document path.now) (W.tree world.old))
         (W.misused world.old) (W.misused world.new) }
 {

@@ -1,6 +1,6 @@
 // The images of a store that are read.
 ghost use Rattle.std.specs.Prelude.{◌≡◌, ◌≤◌, ℕ, IfErr, IfOk, IsTrue, Some, length};
-ghost use Rattle.steps.specs.Causes.{CountsFiles, IsAnswer, IsReadCause};
+ghost use Rattle.steps.specs.Causes.{CountsFiles, IsAnswer, IsGivenCause};
 ghost use Rattle.steps.specs.Outside.{seen};
 ghost use Rattle.image_docs.specs.Image.{image_table_in, is_image_doc};
 ghost use Rattle.image_docs.specs.RunImage.{is_run_doc};
@@ -20,7 +20,7 @@ use std::alloc::Global;
 fn named<T: Drop>(alloc: Global, name: &ImageName, found: Option<T>) -> Result<T, ImageFault>
     ensures answer { IsAnswer cause_of result (named name.now found) }
     ensures same { IfOk result (λ image. found ≡ Some image) }
-    ensures cause { IfErr result (λ fault. IsReadCause (cause_of fault)) }
+    ensures cause { IfErr result (λ fault. IsGivenCause (cause_of fault)) }
     ensures files { (n : ℕ) → CountsFiles cause_of result n n }
 {
     match found {
