@@ -1,15 +1,15 @@
 -- Storing the layers that a cache keeps.
-use Rattle.std.proofs.Common.{◌≡◌, ◌∙◌, sym, ap, arith, ℕ, ◌+◌, ◌<◌, List, [], ◌∷◌, ◌++◌, length, map, take, get_or, Result, Ok, Err}
-use Rattle.std.specs.Prelude.{OnErr}
+use Rattle.std.proofs.Common.{◌≡◌, ◌∙◌, refl, sym, ap, inl, inr, arith, ℕ, Bool, ◌+◌, ◌<◌, List, [], ◌∷◌, ◌++◌, length, map, take, get_or, Result, Ok, Err}
+use Rattle.std.specs.Prelude.{IsTrue, OnErr}
 use Rattle.std.proofs.lemmas.List.{get_or-map, length-map, map-append, take_more}
 use Rattle.tree_canon.specs.Division.{Spells}
 use Rattle.tree_canon.specs.declared.node.Node.{Node}
+use Rattle.image_docs.specs.CacheRows.{cache_in}
 use Rattle.image_docs.specs.declared.layer_row.LayerRow.{LayerRow}
-use Rattle.shelf_set.specs.Caching.{digest_of_row, digest_of_tree, spelled, StoresSomeRows}
-use Rattle.shelf_set.specs.Dropping.{AreStanding}
+use Rattle.shelf_set.specs.Caching.{digest_of_row, digest_of_tree, spelled, StoresRows, StoresSomeRows}
 use Rattle.shelf_set.specs.ShelfState.{ShelfState}
+use Rattle.shelf_set.specs.Storing.{StoresSome}
 use Rattle.shelf_set.specs.declared.storing.TreeBytes.{TreeBytes}
-use Rattle.shelf_set.proofs.StoreLemmas.{unstored}
 
 -- rows and trees are as many
 pub as_many : (layers : List LayerRow) (trees : List Node) (i : ℕ) → map digest_of_row layers ≡ map digest_of_tree trees → i < length trees → i < length layers
@@ -29,6 +29,22 @@ spelled_more layers trees i layer tree bytes before now same lt within is spells
     pushed ∙ ap (λ l. l ++ record { digest = (get_or layers i layer).digest; bytes = bytes } ∷ []) done ∙ ap (λ x. map spelled (take i trees) ++ x ∷ []) one ∙ sym next
 
 -- where nothing was stored
-pub none_stored : {A E : Type 0} (result : Result A E) (layers : List LayerRow) (trees : List Node) (old : List ShelfState) (places : List ℕ) → AreStanding places old → OnErr result (StoresSomeRows layers trees old places old places)
-none_stored (Ok value) layers trees old places ready = tt
-none_stored (Err fault) layers trees old places ready = record { document = []; stores = unstored (map spelled trees) [] old places ready }
+pub none_stored : {A E : Type 0} (result : Result A E) (readable : Bool) (layers : List LayerRow) (trees : List Node) (old : List ShelfState) (places : List ℕ) → OnErr result (StoresSomeRows readable layers trees old places old places)
+none_stored (Ok value) readable layers trees old places = tt
+none_stored (Err fault) readable layers trees old places = inl (refl, refl)
+
+-- where a part was
+pub part_stored : {A E : Type 0} (result : Result A E) (readable : Bool) (layers : List LayerRow) (trees : List Node) (document : List ℕ) (old : List ShelfState) (places : List ℕ) (new : List ShelfState) (standing : List ℕ)
+    → (IsTrue readable → cache_in document ≡ Ok layers) → OnErr result (StoresSome (map spelled trees) document old places new standing) → OnErr result (StoresSomeRows readable layers trees old places new standing)
+part_stored (Ok value) readable layers trees document old places new standing reads h = tt
+part_stored (Err fault) readable layers trees document old places new standing reads h = inr (record { document = document; reads = reads; stores = h })
+
+-- rows that can be read where another fact holds, from which it follows
+pub stored_where : (readable given : Bool) (rows : List LayerRow) (trees : List Node) (old : List ShelfState) (places : List ℕ) (new : List ShelfState) (standing gone : List ℕ) → (IsTrue given → IsTrue readable)
+    → StoresRows readable rows trees old places new standing gone → StoresRows given rows trees old places new standing gone
+stored_where readable given rows trees old places new standing gone follows h = record { document = h.document; reads = λ known. h.reads (follows known); stores = h.stores }
+
+pub part_where : (readable given : Bool) (rows : List LayerRow) (trees : List Node) (old : List ShelfState) (places : List ℕ) (new : List ShelfState) (standing : List ℕ) → (IsTrue given → IsTrue readable)
+    → StoresSomeRows readable rows trees old places new standing → StoresSomeRows given rows trees old places new standing
+part_where readable given rows trees old places new standing follows (inl none) = inl none
+part_where readable given rows trees old places new standing follows (inr part) = inr (record { document = part.document; reads = λ known. part.reads (follows known); stores = part.stores })

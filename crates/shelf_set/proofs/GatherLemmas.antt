@@ -1,6 +1,6 @@
 -- Gathering the rows of one shelf after another.
-use Rattle.std.proofs.Common.{◌≡◌, ℕ, ◌+◌, ◌-◌, ◌<◌, ◌≤◌, List, [], ◌∷◌, ◌++◌, map, length, take, drop, get_or, refl, sym, ap, subst, ◌∙◌, arith, suc, zero, Result, Ok, Err, Option, append-nil}
-use Rattle.std.specs.Prelude.{Some, None, IfSome, IfOk, is_some, fold, flat_map, filter, unwrap_or}
+use Rattle.std.proofs.Common.{◌≡◌, ℕ, ◌+◌, ◌-◌, ◌<◌, List, [], ◌∷◌, ◌++◌, map, length, take, drop, get_or, refl, sym, ap, subst, ◌∙◌, arith, Result, Ok, Err, Option, append-nil}
+use Rattle.std.specs.Prelude.{Some, None, IfSome, is_some}
 use Rattle.std.specs.List.{AllByRecursion}
 use Rattle.std.specs.FinMap.{get}
 use Rattle.std.proofs.lemmas.List.{length-append, length-map}
@@ -17,7 +17,7 @@ use Rattle.shelf_set.specs.Dropping.{Turn, number_of, left_of, failed_of, Drops,
 use Rattle.shelf_set.specs.Turns.{Goes, TakesTurn, is_failed}
 use Rattle.shelf_set.specs.Finding.{TellsSame, LeavesSame}
 use Rattle.shelf_set.specs.Gathering.{held_rows, given_by, HasGiven, HaveGiven, all_rows, first_rows, unread_of, Gathers}
-use Rattle.shelf_set.specs.Giving.{Answered, KeepsRow, Keeping, KeepsRows, GivesMore, Giving, GivesEach}
+use Rattle.shelf_set.specs.Giving.{KeepsRow, Keeping, KeepsRows, GivesMore, Giving, GivesEach}
 use Rattle.shelf_set.specs.declared.giving.Given.{Given}
 use Rattle.shelf_set.proofs.Lists.{all_both, map-last, onto}
 use Rattle.shelf_set.proofs.TurnLemmas.{counted, OneMore, one_more, left-kept, left-dropped, still, all_still, none_yet, finish, ends_at, standing_again}

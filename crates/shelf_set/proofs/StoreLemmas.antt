@@ -14,11 +14,11 @@ use Rattle.cnb_world.specs.declared.values.Memory.{Memory}
 use Rattle.shelf_set.specs.ShelfState.{ShelfState}
 use Rattle.shelf_set.specs.Dropping.{Turn, has_failed, Drops, AreStanding}
 use Rattle.shelf_set.specs.Turns.{TakesTurn, is_failed}
-use Rattle.shelf_set.specs.Storing.{with_trees, HasEither, IsStored, MayBeStored, StoresSome}
+use Rattle.shelf_set.specs.Storing.{with_trees, HasEither, IsStored, MayBeStored}
 use Rattle.shelf_set.specs.StoringEach.{Puts, SetsRows, Putting, Stores, Storing, StoresEach}
 use Rattle.shelf_set.specs.declared.storing.TreeBytes.{TreeBytes}
 use Rattle.shelf_set.proofs.Lists.{all_both}
-use Rattle.shelf_set.proofs.TurnLemmas.{counted, OneMore, one_more, still, all_still, none_yet, finish, ends_at, standing_again, standing_of}
+use Rattle.shelf_set.proofs.TurnLemmas.{counted, OneMore, one_more, still, all_still, none_yet, finish, ends_at, standing_again}
 
 -- ---- one shelf
 
@@ -180,16 +180,3 @@ pub again : (trees : List TreeBytes) (rows : List ℕ) (old : List ShelfState) (
 again trees rows old given memory new numbers standing n s left =
     let d : Drops s.turns old new given standing (drop n numbers) = subst (λ x. Drops s.turns old new given x (drop n numbers)) (sym left) s.drops in
     standing_again s.turns old new given standing (drop n numbers) d
-
--- where nothing was stored, each shelf has what it had
-pub unstored : (trees : List TreeBytes) (rows : List ℕ) (old : List ShelfState) (places : List ℕ) → AreStanding places old → StoresSome trees rows old places old places
-unstored trees rows old places ready =
-    let g = none_yet old places ready in
-    let stands : length places ≡ 0 + length g.later = let e = standing_of [] old old places places 0 g in omega (arith, e) in
-    let all : take (length places) places ≡ places = take_all (length places) places (omega arith) in
-    record {
-      turns = still g.rest g.later;
-      gone = drop (length places) places;
-      drops = subst (λ left. Drops (still g.rest g.later) old old places left (drop (length places) places)) all (finish [] old old places places 0 (length places) g stands);
-      may_be = untouched trees rows g.rest g.later;
-    }

@@ -1,5 +1,5 @@
 -- Gathering the rows of caches.
-use Rattle.std.specs.Prelude.{ℕ, ◌≡◌, List, [], ◌∷◌, ◌++◌, length, map, fold, filter, flat_map, nat_lt, Option, Some, None, is_some, is_none, unwrap_or, IfSome, Result, if◌then◌else◌}
+use Rattle.std.specs.Prelude.{ℕ, ◌≡◌, List, [], ◌∷◌, ◌++◌, length, map, fold, filter, flat_map, nat_lt, Option, None, is_some, is_none, unwrap_or, IfSome, if◌then◌else◌}
 use Rattle.std.specs.List.{AllByRecursion}
 use Rattle.std.specs.Option.{option_map}
 use Rattle.std.specs.Result.{result_ok}

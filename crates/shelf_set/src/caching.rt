@@ -1,5 +1,6 @@
 // Storing the layers that a cache keeps.
 ghost use Rattle.std.specs.Prelude.{◌≡◌, IfOk, OnErr, map};
+ghost use Rattle.image_docs.specs.CacheRows.{is_cache_doc};
 ghost use Rattle.shelf_set.specs.Caching.{digest_of_row, digest_of_tree, spelled, StoresRows, StoresSomeRows};
 ghost use Rattle.shelf_set.specs.Dropping.{AreStanding};
 ghost use Rattle.shelf_set.specs.ShelfState.{state_of};
@@ -39,10 +40,10 @@ pub fn store_all(
     requires standing { AreStanding places.old
         (map (λ s. state_of (held s) (rows s) (faults s)) shelves.old.items) }
     requires trees { map digest_of_row layers.now ≡ map digest_of_tree trees.now }
-    ensures stores { IfOk result (λ gone. StoresRows layers.now trees.now
+    ensures stores { IfOk result (λ gone. StoresRows (is_cache_doc layers.now) layers.now trees.now
         (map (λ s. state_of (held s) (rows s) (faults s)) shelves.old.items) places.old
         (map (λ s. state_of (held s) (rows s) (faults s)) shelves.new.items) places.new gone) }
-    ensures memory { OnErr result (StoresSomeRows layers.now trees.now
+    ensures memory { OnErr result (StoresSomeRows (is_cache_doc layers.now) layers.now trees.now
         (map (λ s. state_of (held s) (rows s) (faults s)) shelves.old.items) places.old
         (map (λ s. state_of (held s) (rows s) (faults s)) shelves.new.items) places.new) }
     ensures again { AreStanding places.new (map (λ s. state_of (held s) (rows s) (faults s)) shelves.new.items) }
