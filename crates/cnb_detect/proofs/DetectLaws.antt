@@ -4,6 +4,7 @@ use Rattle.std.specs.Prelude.{IfSome}
 use Rattle.cnb_world.specs.Tree.{Tree}
 use Rattle.cnb_world.specs.declared.env.Variable.{Variable}
 use Rattle.cnb_words.specs.declared.detect.DetectWords.{DetectWords}
+use Rattle.doc_files.specs.Faults.{read_cause}
 use Rattle.doc_files.specs.declared.fault.ReadFault.{ReadFault}
 use Rattle.doc_files.specs.declared.fault.ReadFault.TheVariants as read
 use Rattle.order_files.specs.Catalog.{catalog_in, is_fit_catalog}
@@ -26,7 +27,7 @@ use Rattle.cnb_detect.specs.Detects.{chooses, detects}
 use Rattle.cnb_detect.specs.declared.preparation.Prepared.{Prepared}
 use Rattle.cnb_detect.specs.Outcome.{prepared_in}
 use Rattle.cnb_detect.specs.Preparation.{frame_of, is_fit_preparation, prepares}
-use Rattle.cnb_detect.specs.Refusals.{cause_of, of_order_fault, of_read_fault, order_cause, read_cause}
+use Rattle.cnb_detect.specs.Refusals.{cause_of, of_order_fault, of_read_fault, order_cause}
 
 any_files : (o : Option Tree) → IfSome o (λ files. Unit {0})
 any_files None = tt

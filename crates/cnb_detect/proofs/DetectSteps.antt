@@ -1,14 +1,13 @@
 -- What the calls of the layers below say, as steps.
 use Rattle.std.proofs.Common.{◌≡◌, refl, sym, ap, ℕ, Bool, List, map, Option, Some, None, Result, Ok, Err, arith}
-use Rattle.std.specs.Prelude.{IfErr, IfSome}
+use Rattle.std.specs.Prelude.{IfSome}
 use Rattle.std.specs.Option.{option_map}
 use Rattle.cnb_world.specs.Calls.{MayMisuse, Rose}
 use Rattle.cnb_world.specs.Runs.{Ran}
 use Rattle.cnb_world.specs.Tree.{Tree}
 use Rattle.cnb_toml.specs.declared.names.Key.{Key}
+use Rattle.doc_files.specs.Faults.{read_cause}
 use Rattle.doc_files.specs.declared.fault.ReadFault.{ReadFault}
-use Rattle.doc_files.specs.declared.fault.ReadFault.TheVariants as read
-use Rattle.doc_files.specs.Reading as reading
 use Rattle.order_expand.specs.Check.{ChecksAs}
 use Rattle.order_expand.specs.declared.order.OrderFault.{OrderFault}
 use Rattle.order_expand.specs.declared.order.OrderFault.TheVariants as order
@@ -19,40 +18,22 @@ use Rattle.detect_core.specs.declared.chosen.DetectEnd.{DetectEnd}
 use Rattle.detect_core.specs.declared.chosen.DetectEnd.TheVariants as end
 use Rattle.detect_core.specs.declared.chosen.Chosen.{Chosen}
 use Rattle.steps.specs.Asking.{AreSome, AskedBy, AsksBy, asks}
-use Rattle.steps.specs.Causes.{Cause, FileFailed, ChildFailed, OutOfMemory, Decided, FilesBy, IsAnswer, IsReadCause, WhereDecided}
+use Rattle.steps.specs.Causes.{Cause, FileFailed, ChildFailed, OutOfMemory, Decided, FilesBy, IsAnswer, WhereDecided}
 use Rattle.cnb_world.specs.declared.world.World as world
 use Rattle.steps.specs.Outside.{SpawnerSeen, seen}
+use Rattle.steps.specs.Reading.{ReadFrame}
 use Rattle.steps.specs.Steps.{gives, reads}
 use Rattle.steps.proofs.StepLemmas.{given_fault, read_so}
 use Rattle.cnb_detect.specs.declared.preparation.Prepared.{Prepared}
 use Rattle.cnb_detect.specs.Choice.{as_choice, choice_by, choice_in, choice_of, jobs_of, listed_jobs}
 use Rattle.cnb_detect.specs.declared.refusal.DetectRefusal.TheVariants.{NoGroup}
-use Rattle.cnb_detect.specs.Refusals.{cause_of, of_detect_end, order_cause, read_cause}
-
-answer_of : {T : Type 0} (result want : Result T ReadFault) → reading.Reads result want → IsAnswer read_cause result want
-answer_of (Ok value) want h = h
-answer_of (Err (read.File path)) want h = tt
-answer_of (Err (read.Document path fault)) want h = h
-answer_of (Err (read.Limit kind)) want h = h
-answer_of (Err read.Memory) want h = tt
-
-answer_where : {T : Type 0} (result : Result T ReadFault) (o : Option Tree) (want : Tree → Result T ReadFault) → IfSome o (λ files. reading.Reads result (want files)) → IfSome o (λ files. IsAnswer read_cause result (want files))
-answer_where result None want h = tt
-answer_where result (Some files) want h = answer_of result (want files) h
-
-is_read_cause : {T : Type 0} (result : Result T ReadFault) → IfErr result (λ fault. IsReadCause (read_cause fault))
-is_read_cause (Ok value) = tt
-is_read_cause (Err (read.File path)) = tt
-is_read_cause (Err (read.Document path fault)) = tt
-is_read_cause (Err (read.Limit kind)) = tt
-is_read_cause (Err read.Memory) = tt
+use Rattle.cnb_detect.specs.Refusals.{cause_of, of_detect_end, order_cause}
 
 -- files that were read
 pub read_step : {W T : Type 0} (ghosts : world.Ghosts W) (fits : Tree → Bool) (want : Tree → Result T ReadFault) (result : Result T ReadFault) (old new : W)
-    → IfSome (ghosts.tree old) (λ files. reading.Reads result (want files)) → ghosts.tree new ≡ ghosts.tree old → ghosts.runs new ≡ ghosts.runs old
+    → IfSome (ghosts.tree old) (λ files. IsAnswer read_cause result (want files)) → ReadFrame read_cause result (seen ghosts old) (seen ghosts new)
     → MayMisuse (option_map fits (ghosts.tree old)) (ghosts.misused old) (ghosts.misused new) → reads read_cause fits want (seen ghosts old) result (seen ghosts new)
-read_step ghosts fits want result old new answer files runs allows =
-    read_so ghosts read_cause fits want result old new (answer_where result (ghosts.tree old) want answer) (is_read_cause result) files runs allows
+read_step ghosts fits want result old new answer frame allows = read_so ghosts read_cause fits want result old new answer frame.cause frame.files frame.runs allows
 
 -- an order that was refused
 pub check_step : {S : Type 0} (fault : OrderFault) (want : Result ℕ OrderFault) (old : S) → ChecksAs (Err fault) want → gives order_cause want old (Err fault) old

@@ -1,8 +1,9 @@
 -- What a detection is made of, by the files.
-use Rattle.std.specs.Prelude.{ℕ, Bool, ◌&&◌, List, Result, Ok, Err}
+use Rattle.std.specs.Prelude.{Bool, ◌&&◌, List, Result, Ok}
 use Rattle.cnb_world.specs.declared.env.Variable.{Variable}
 use Rattle.cnb_world.specs.Tree.{Tree}
 use Rattle.cnb_words.specs.declared.detect.DetectWords.{DetectWords}
+use Rattle.doc_files.specs.Faults.{read_cause}
 use Rattle.order_files.specs.Catalog.{catalog_in, is_fit_catalog}
 use Rattle.order_files.specs.OrderFile.{order_file_in, is_fit_order_file}
 use Rattle.cnb_env.specs.declared.files.EnvFile.{EnvFile}
@@ -13,7 +14,7 @@ use Rattle.steps.specs.Outside.{Seen}
 use Rattle.steps.specs.Steps.{◌>>=◌, gives, map_err, reads}
 use Rattle.cnb_detect.specs.declared.preparation.Prepared.{Prepared}
 use Rattle.cnb_detect.specs.declared.refusal.DetectRefusal.{DetectRefusal}
-use Rattle.cnb_detect.specs.Refusals.{cause_of, of_read_fault, of_order_fault, order_cause, read_cause}
+use Rattle.cnb_detect.specs.Refusals.{cause_of, of_read_fault, of_order_fault, order_cause}
 
 -- what all detect children have in common
 abbrev pub frame_of : DetectWords → List Variable → List EnvFile → DetectFrame

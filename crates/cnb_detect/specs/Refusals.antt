@@ -27,12 +27,6 @@ of_read_fault (read.Document path fault) = Document path fault
 of_read_fault (read.Limit kind) = Limit kind
 of_read_fault read.Memory = Memory
 
-abbrev pub read_cause : ReadFault → Cause
-read_cause (read.File path) = FileFailed path
-read_cause (read.Document path fault) = Decided
-read_cause (read.Limit kind) = Decided
-read_cause read.Memory = OutOfMemory
-
 abbrev pub of_order_fault : OrderFault → DetectRefusal
 of_order_fault (order.Absent id) = Order id false
 of_order_fault (order.Ambiguous id) = Order id true
