@@ -2,7 +2,7 @@
 use Rattle.std.proofs.Common.{◌≡◌, ap, refl, sym, subst, arith, ℕ, Bool, List, Option, Some, None, Result, Ok, Err, inl, inr}
 use Rattle.std.specs.Prelude.{IfSome}
 use Rattle.std.specs.Option.{option_map}
-use Rattle.cnb_world.specs.Calls.{MayMisuse, Rose}
+use Rattle.cnb_world.specs.Calls.{LastFailed, MayMisuse, Rose}
 use Rattle.cnb_world.specs.Tree.{Tree}
 use Rattle.cnb_world.specs.declared.world.FileFault.{FileFault}
 use Rattle.cnb_world.specs.declared.world.FileFault.TheVariants as file_fault
@@ -10,51 +10,62 @@ use Rattle.cnb_world.specs.declared.world.World as world
 use Rattle.cnb_toml.specs.Reading.{Answers}
 use Rattle.cnb_toml.specs.declared.fault.DocFault.{DocFault}
 use Rattle.cnb_toml.specs.declared.fault.DocFault.TheVariants as doc_fault
-use Rattle.doc_files.specs.Counts.{CountsFiles as FileCounts}
-use Rattle.doc_files.specs.Reading as reading
+use Rattle.doc_files.proofs.Blame.{blamed_last}
+use Rattle.doc_files.specs.Faults.{read_cause}
+use Rattle.doc_files.specs.Reading.{Blames}
 use Rattle.doc_files.specs.declared.fault.ReadFault.{ReadFault}
 use Rattle.doc_files.specs.declared.fault.ReadFault.TheVariants as read
-use Rattle.steps.specs.Causes.{FilesBy, IsAnswer, IsGivenCause, IsReadCause, IsWriteCause}
+use Rattle.steps.specs.Causes.{CountsFiles, FilesBy, IsAnswer, IsGivenCause, IsReadCause, IsWriteCause}
 use Rattle.steps.specs.Each.{for_each}
 use Rattle.steps.specs.Outside.{Seen, seen}
+use Rattle.steps.specs.Reading.{ReadFrame}
 use Rattle.steps.specs.Results.{with_fault}
 use Rattle.steps.specs.Steps.{LeavesSome, reads, writes}
-use Rattle.steps.proofs.StepLemmas.{allowed_by, read_so}
+use Rattle.steps.proofs.StepLemmas.{allowed_by, cause_told, read_so}
 use Rattle.cnb_build.specs.declared.fault.BuildFault.{BuildFault}
 use Rattle.cnb_build.specs.declared.fault.BuildFault.TheVariants as build
 use Rattle.cnb_build.specs.Reading.{reads_files, value_at}
 use Rattle.cnb_build.specs.Refusals.{cause_of, of_read_fault}
 
-answer_of : {T : Type 0} (result want : Result T ReadFault) → reading.Reads result want → IsAnswer cause_of (with_fault of_read_fault result) (with_fault of_read_fault want)
+answer_of : {T : Type 0} (result want : Result T ReadFault) → IsAnswer read_cause result want → IsAnswer cause_of (with_fault of_read_fault result) (with_fault of_read_fault want)
 answer_of (Ok value) want h = ap (with_fault of_read_fault) h
 answer_of (Err (read.File path)) want h = tt
 answer_of (Err (read.Document path fault)) want h = ap (with_fault of_read_fault) h
 answer_of (Err (read.Limit kind)) want h = ap (with_fault of_read_fault) h
 answer_of (Err read.Memory) want h = tt
 
-answer_where : {T : Type 0} (result : Result T ReadFault) (o : Option Tree) (want : Tree → Result T ReadFault) → IfSome o (λ files. reading.Reads result (want files))
+answer_where : {T : Type 0} (result : Result T ReadFault) (o : Option Tree) (want : Tree → Result T ReadFault) → IfSome o (λ files. IsAnswer read_cause result (want files))
     → IfSome o (λ files. IsAnswer cause_of (with_fault of_read_fault result) (with_fault of_read_fault (want files)))
 answer_where result None want h = tt
 answer_where result (Some files) want h = answer_of result (want files) h
 
-is_read_cause : (fault : ReadFault) → IsReadCause (cause_of (of_read_fault fault))
-is_read_cause (read.File path) = tt
-is_read_cause (read.Document path fault) = tt
-is_read_cause (read.Limit kind) = tt
-is_read_cause read.Memory = tt
+-- a fault of reading has the same cause as a refusal
+same_cause : (fault : ReadFault) → cause_of (of_read_fault fault) ≡ read_cause fault
+same_cause (read.File path) = refl
+same_cause (read.Document path fault) = refl
+same_cause (read.Limit kind) = refl
+same_cause read.Memory = refl
+
+pub is_read_cause : (last : Option (List ℕ)) (fault : ReadFault) → IsReadCause last (read_cause fault) → IsReadCause last (cause_of (of_read_fault fault))
+is_read_cause last fault h = cause_told read_cause cause_of of_read_fault last fault (same_cause fault) h
+
+-- a call that failed is told with its path
+pub read_fails : (T : Type 0) (path : List ℕ) (fault : FileFault) (refusal : ReadFault) (given : BuildFault) (before now : Option (List ℕ)) → LastFailed {T = T} path (Err fault) before now → Blames path fault refusal → given ≡ of_read_fault refusal → IsReadCause now (cause_of given)
+read_fails T path fault refusal given before now last blames is =
+    subst (λ f. IsReadCause now (cause_of f)) (sym is) (is_read_cause now refusal (blamed_last T path fault refusal before now last blames))
 
 -- files that were read, and files whose reading was refused
 pub read_done : {W T : Type 0} (ghosts : world.Ghosts W) (fits : Tree → Bool) (want : Tree → Result T ReadFault) (value : T) (old new : W)
-    → IfSome (ghosts.tree old) (λ files. reading.Reads (Ok value) (want files)) → ghosts.tree new ≡ ghosts.tree old → ghosts.runs new ≡ ghosts.runs old
+    → IfSome (ghosts.tree old) (λ files. IsAnswer read_cause (Ok value) (want files)) → ReadFrame read_cause (Ok value) (seen ghosts old) (seen ghosts new)
     → MayMisuse (option_map fits (ghosts.tree old)) (ghosts.misused old) (ghosts.misused new) → reads_files fits want (seen ghosts old) (Ok value) (seen ghosts new)
-read_done ghosts fits want value old new answer files runs allows =
-    read_so ghosts cause_of fits (λ files. with_fault of_read_fault (want files)) (Ok value) old new (answer_where (Ok value) (ghosts.tree old) want answer) tt files runs allows
+read_done ghosts fits want value old new answer frame allows =
+    read_so ghosts cause_of fits (λ files. with_fault of_read_fault (want files)) (Ok value) old new (answer_where (Ok value) (ghosts.tree old) want answer) tt frame.files frame.runs allows
 
 pub read_refused : {W T : Type 0} (ghosts : world.Ghosts W) (fits : Tree → Bool) (want : Tree → Result T ReadFault) (fault : ReadFault) (old new : W)
-    → IfSome (ghosts.tree old) (λ files. reading.Reads {T = T} (Err fault) (want files)) → ghosts.tree new ≡ ghosts.tree old → ghosts.runs new ≡ ghosts.runs old
+    → IfSome (ghosts.tree old) (λ files. IsAnswer {A = T} read_cause (Err fault) (want files)) → ReadFrame {A = T} read_cause (Err fault) (seen ghosts old) (seen ghosts new)
     → MayMisuse (option_map fits (ghosts.tree old)) (ghosts.misused old) (ghosts.misused new) → reads_files {A = T} fits want (seen ghosts old) (Err (of_read_fault fault)) (seen ghosts new)
-read_refused ghosts fits want fault old new answer files runs allows =
-    read_so ghosts cause_of fits (λ files. with_fault of_read_fault (want files)) (Err (of_read_fault fault)) old new (answer_where (Err fault) (ghosts.tree old) want answer) (is_read_cause fault) files runs allows
+read_refused ghosts fits want fault old new answer frame allows =
+    read_so ghosts cause_of fits (λ files. with_fault of_read_fault (want files)) (Err (of_read_fault fault)) old new (answer_where (Err fault) (ghosts.tree old) want answer) (is_read_cause (ghosts.failed_at new) fault frame.cause) frame.files frame.runs allows
 
 free_where : (o : Option Tree) → IfSome o (λ files. Unit {0})
 free_where None = tt
@@ -87,16 +98,16 @@ writes_as path Says Means means (Ok done) old new h = record { bytes = h.bytes; 
 writes_as path Says Means means (Err fault) old new h = (h.0, record { files = more_left path Says Means means old.files new.files h.1.files; runs = h.1.runs; allows = h.1.allows })
 
 -- what is known of a document that was read costs no call
-no_call : (path : List ℕ) → ((n : ℕ) → FileCounts {T = Unit {0}} (Err (read.File path)) n n) → ⊥
+no_call : (path : List ℕ) → ((n : ℕ) → CountsFiles {A = Unit {0}} read_cause (Err (read.File path)) n n) → ⊥
 no_call path h = let rose : Rose 0 0 = h 0 in let up = rose.up in omega arith
 
-pub given_cause : (T : Type 0) (fault : ReadFault) → ((n : ℕ) → FileCounts {T = T} (Err fault) n n) → IsGivenCause (cause_of (of_read_fault fault))
+pub given_cause : (T : Type 0) (fault : ReadFault) → ((n : ℕ) → CountsFiles {A = T} read_cause (Err fault) n n) → IsGivenCause (cause_of (of_read_fault fault))
 given_cause T (read.File path) h = no_call path h
 given_cause T (read.Document path fault) h = tt
 given_cause T (read.Limit kind) h = tt
 given_cause T read.Memory h = tt
 
-pub given_files : (T : Type 0) (fault : ReadFault) → ((n : ℕ) → FileCounts {T = T} (Err fault) n n) → (n : ℕ) → FilesBy (cause_of (of_read_fault fault)) n n
+pub given_files : (T : Type 0) (fault : ReadFault) → ((n : ℕ) → CountsFiles {A = T} read_cause (Err fault) n n) → (n : ℕ) → FilesBy (cause_of (of_read_fault fault)) n n
 given_files T (read.File path) h n = h n
 given_files T (read.Document path fault) h n = h n
 given_files T (read.Limit kind) h n = h n
@@ -130,10 +141,10 @@ pub all_same : {X A : Type 0} (step : X → A → Seen → Result A BuildFault �
 all_same step xs ys value result old new same h = subst (λ zs. for_each step zs value old result new) same h
 
 -- a write that failed is told with its path
-pub write_cause : (path : List ℕ) (fault : FileFault) (refusal : ReadFault) (given : BuildFault) → reading.Blames path fault refusal → given ≡ of_read_fault refusal → IsWriteCause path (cause_of given)
+pub write_cause : (path : List ℕ) (fault : FileFault) (refusal : ReadFault) (given : BuildFault) → Blames path fault refusal → given ≡ of_read_fault refusal → IsWriteCause path (cause_of given)
 write_cause path fault refusal given blames is = subst (λ f. IsWriteCause path (cause_of f)) (sym is) (by fault refusal blames)
   where
-    by : (f : FileFault) (r : ReadFault) → reading.Blames path f r → IsWriteCause path (cause_of (of_read_fault r))
+    by : (f : FileFault) (r : ReadFault) → Blames path f r → IsWriteCause path (cause_of (of_read_fault r))
     by file_fault.Failed (read.File failed) h = h
     by file_fault.Failed read.Memory h = tt
     by file_fault.Failed (read.Document at fault) h = absurd h

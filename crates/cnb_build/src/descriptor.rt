@@ -1,5 +1,5 @@
 // The descriptor of a buildpack that is built.
-ghost use Rattle.std.specs.Prelude.{◌≡◌, ℕ, IfErr};
+ghost use Rattle.std.specs.Prelude.{ℕ, IfErr};
 ghost use Rattle.steps.specs.Causes.{CountsChildren, CountsFiles, IsAnswer, IsGivenCause};
 ghost use Rattle.steps.specs.Outside.{seen};
 ghost use Rattle.cnb_build.specs.Descriptor.{clears_in, clears_of, reads_descriptor};

@@ -1,5 +1,5 @@
 // What a build is given by files.
-ghost use Rattle.std.specs.Prelude.{◌≡◌, ◌≤◌, ℕ, IfErr, IfOk, IsTrue, codes, length};
+ghost use Rattle.std.specs.Prelude.{◌≡◌, ◌≤◌, ℕ, IfErr, IfOk, IsTrue, length};
 ghost use Rattle.std.specs.Option.{option_copied};
 ghost use Rattle.cnb_words.specs.Build.{KeepsLimits as WithinLimits};
 ghost use Rattle.cnb_env.specs.Files.{is_fit_platform, platform_files_in};

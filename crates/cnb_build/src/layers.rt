@@ -23,7 +23,7 @@ use layer_paths::{contents_path, layer_document, layers_among};
 use run_docs::{LayerDoc, read_layer};
 use std::alloc::Global;
 
-#[tactic(auto, unfolding(steps::specs::Steps::reads), using(steps::proofs::StepLemmas::allowed_by))]
+#[tactic(auto, unfolding(steps::specs::Steps::reads), using(steps::proofs::StepLemmas::allowed_by, crate::proofs::BuildSteps::read_fails))]
 fn kind_at<W: World>(alloc: Global, world: &mut W, path: &Path) -> Result<Kind, BuildFault>
     ensures step { reads_files (λ files. true) (λ files. Ok (kind_of (item_at files path.now)))
         (seen W.World world.old) result (seen W.World world.new) }

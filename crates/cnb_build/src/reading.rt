@@ -1,6 +1,5 @@
 // Reading documents.
-ghost use Rattle.std.specs.Prelude.{◌≡◌, ℕ, IfErr, IfOk, unwrap_or, []};
-ghost use Rattle.cnb_world.specs.Tree.{is_file_or_absent, item_at};
+ghost use Rattle.std.specs.Prelude.{◌≡◌, ℕ, IfErr, unwrap_or, []};
 ghost use Rattle.steps.specs.Causes.{CountsChildren, CountsFiles, IsAnswer, IsGivenCause};
 ghost use Rattle.steps.specs.Outside.{seen};
 ghost use Rattle.cnb_build.specs.Reading.{reads_document, value_at};
