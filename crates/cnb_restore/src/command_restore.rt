@@ -4,7 +4,7 @@ ghost use Rattle.cnb_words.specs.Restore.{KeepsLimits};
 ghost use Rattle.shelf_set.specs.ShelfState.{state_of};
 ghost use Rattle.shelf_set.specs.Caches.{caches_of, world_and_caches};
 ghost use Rattle.shelf_set.specs.Dropping.{AreStanding};
-ghost use Rattle.steps.specs.Causes.{CountsFiles, IsAnswer, IsGivenCause, IsReadCause};
+ghost use Rattle.steps.specs.Causes.{CountsFiles, IsAnswer, IsGivenCause};
 ghost use Rattle.steps.specs.Outside.{seen};
 ghost use Rattle.steps.specs.Steps.{reads};
 ghost use Rattle.cnb_restore.specs.Commands.{analyzed_at, analyzed_document, group_at, group_document, needed, refusal_cause, restores_command, served};
@@ -28,7 +28,7 @@ use std::alloc::Global;
 // A document that must be there.
 fn needed<T: Drop>(alloc: Global, path: &Path, found: Option<T>) -> Result<T, RestoreFault>
     ensures answer { IsAnswer cause_of result (needed path.now found) }
-    ensures cause { IfErr result (λ fault. IsReadCause (cause_of fault)) }
+    ensures cause { IfErr result (λ fault. IsGivenCause (cause_of fault)) }
     ensures files { (n : ℕ) → CountsFiles cause_of result n n }
 {
     match found {

@@ -1,7 +1,7 @@
 // The images that a command names.
 ghost use Rattle.std.specs.Prelude.{◌≡◌, ◌≤◌, ℕ, IfErr, Some, length};
 ghost use Rattle.std.specs.Option.{option_copied};
-ghost use Rattle.steps.specs.Causes.{CountsFiles, IsAnswer, IsReadCause};
+ghost use Rattle.steps.specs.Causes.{CountsFiles, IsAnswer, IsGivenCause};
 ghost use Rattle.steps.specs.Outside.{seen};
 ghost use Rattle.steps.specs.Steps.{reads};
 ghost use Rattle.cnb_restore.specs.Analyzes.{is_fit_image, known_in, name_of, named, previous_in, run_image_in, some_named};
@@ -19,7 +19,7 @@ use std::alloc::Global;
 // An image that must be there.
 fn named<T: Drop>(alloc: Global, name: &ImageName, found: Option<T>) -> Result<T, RestoreFault>
     ensures answer { IsAnswer cause_of result (named name.now found) }
-    ensures cause { IfErr result (λ fault. IsReadCause (cause_of fault)) }
+    ensures cause { IfErr result (λ fault. IsGivenCause (cause_of fault)) }
     ensures files { (n : ℕ) → CountsFiles cause_of result n n }
 {
     match found {
@@ -34,7 +34,7 @@ fn some_named(
     found: Option<ImageDoc>,
 ) -> Result<Option<ImageDoc>, RestoreFault>
     ensures answer { IsAnswer cause_of result (some_named name.now found) }
-    ensures cause { IfErr result (λ fault. IsReadCause (cause_of fault)) }
+    ensures cause { IfErr result (λ fault. IsGivenCause (cause_of fault)) }
     ensures files { (n : ℕ) → CountsFiles cause_of result n n }
 {
     match found {
@@ -50,7 +50,7 @@ fn name_of(
     found: Option<ImageDoc>,
 ) -> Result<Option<ImageName>, RestoreFault>
     ensures answer { IsAnswer cause_of result (name_of name.now found) }
-    ensures cause { IfErr result (λ fault. IsReadCause (cause_of fault)) }
+    ensures cause { IfErr result (λ fault. IsGivenCause (cause_of fault)) }
     ensures files { (n : ℕ) → CountsFiles cause_of result n n }
 {
     match found {
