@@ -1,5 +1,5 @@
 -- No child is the cause where an image is not laid out.
-use Rattle.std.proofs.Common.{◌≡◌, ◌≢◌}
+use Rattle.std.proofs.Common.{◌≢◌}
 use Rattle.doc_files.specs.declared.fault.ReadFault.{ReadFault}
 use Rattle.doc_files.specs.declared.fault.ReadFault.TheVariants as read
 use Rattle.image_files.specs.declared.fault.ImageFault.{ImageFault}

@@ -1,5 +1,5 @@
 -- What is wanted of folders: lengths, and how far a loop has come.
-use Rattle.std.proofs.Common.{◌≡◌, ◌∙◌, refl, sym, ap, subst, ℕ, ◌+◌, ◌≤◌, ◌<◌, nat_le, nat_lt, Bool, true, false, not, IsTrue, List, [], ◌∷◌, ◌++◌, append_assoc, append-nil, length, codes, get_or, arith, length-append, Option, Some, None, Result, Ok, Err}
+use Rattle.std.proofs.Common.{◌≡◌, ◌≢◌, ◌∙◌, refl, sym, ap, subst, ℕ, ◌+◌, ◌≤◌, ◌<◌, nat_le, nat_lt, Bool, true, false, not, IsTrue, List, [], ◌∷◌, ◌++◌, append_assoc, append-nil, length, codes, get_or, arith, length-append, Option, Some, None, Result, Ok, Err}
 use Rattle.std.specs.Prelude.{◌&&◌, if◌then◌else◌, IfSome}
 use Rattle.std.specs.List.{All, list_all}
 use Rattle.std.specs.Str.{bytes_eq}
@@ -7,9 +7,13 @@ use Rattle.std.proofs.lemmas.Bool.{and_parts, leb-true}
 use Rattle.std.proofs.lemmas.List.Elements.{All-push}
 use Rattle.cnb_world.specs.Path.{is_part, is_part_byte, joined}
 use Rattle.cnb_world.specs.Tree.{Tree}
+use Rattle.cnb_world.specs.declared.world.FileFault.{FileFault}
+use Rattle.cnb_world.specs.declared.world.FileFault.TheVariants as file_fault
 use Rattle.cnb_toml.specs.Names.{is_process_type}
 use Rattle.cnb_env.proofs.TypeLemmas.{type_is_part}
-use Rattle.doc_files.specs.Reading.{Reads}
+use Rattle.steps.specs.Causes.{Decided, IsAnswer}
+use Rattle.doc_files.specs.Faults.{read_cause}
+use Rattle.doc_files.specs.Reading.{Blames}
 use Rattle.doc_files.specs.declared.fault.ReadFault.{ReadFault}
 use Rattle.doc_files.specs.declared.fault.ReadFault.TheVariants.{File, Document, Limit, Memory}
 use Rattle.cnb_launch.specs.Folders.{AreWithin, all_in, in_front, wanted_in}
@@ -68,6 +72,23 @@ within_more room folders i folder lt is all paths new pushed fit here before =
     let wider : AreWithin (room + 256) paths = λ k d h. let fits = here k d h in omega arith in
     subst (All (AreWithin (room + 256))) (sym pushed) (All-push (AreWithin (room + 256)) all paths before wider)
 
+-- ---- a call that failed
+
+pub blamed_fails : (path : List ℕ) (fault : FileFault) (refusal : ReadFault) → Blames path fault refusal → read_cause refusal ≢ Decided
+blamed_fails path fault Memory h = λ is. absurd (cc)
+blamed_fails path fault (File blamed) h = λ is. absurd (cc)
+blamed_fails path file_fault.Failed (Document blamed why) h = absurd h
+blamed_fails path file_fault.Memory (Document blamed why) h = absurd h
+blamed_fails path file_fault.Failed (Limit kind) h = absurd h
+blamed_fails path file_fault.Memory (Limit kind) h = absurd h
+
+-- it may come in place of any answer
+pub fails_free : {T : Type 0} (fault : ReadFault) (want : Result T ReadFault) → read_cause fault ≢ Decided → IsAnswer {A = T} read_cause (Err fault) want
+fails_free (File path) want h = tt
+fails_free Memory want h = tt
+fails_free (Document path fault) want h = absurd (h refl)
+fails_free (Limit kind) want h = absurd (h refl)
+
 -- ---- one folder after another
 
 abbrev Found : Type 0
@@ -102,18 +123,18 @@ module _ (wanted : Wanted) (folder : List ℕ) (later whole all : List (List ℕ
       ∙ ap (λ x. behind done (in_front x (all_in wanted later files))) (sym (subst P e read))
       ∙ left_as files left
 
-  stops_at : (files : Tree) (fault : ReadFault) → Reads {T = List (List ℕ)} (Err fault) (wanted_in wanted files folder) → behind done (in_front (wanted_in wanted files folder) (all_in wanted later files)) ≡ all_in wanted all files
-      → Reads {T = List (List (List ℕ))} (Err fault) (all_in wanted all files)
+  stops_at : (files : Tree) (fault : ReadFault) → IsAnswer {A = List (List ℕ)} read_cause (Err fault) (wanted_in wanted files folder) → behind done (in_front (wanted_in wanted files folder) (all_in wanted later files)) ≡ all_in wanted all files
+      → IsAnswer {A = List (List (List ℕ))} read_cause (Err fault) (all_in wanted all files)
   stops_at files (File path) read left = tt
   stops_at files Memory read left = tt
   stops_at files (Document path fault) read left = sym left ∙ ap (λ x. behind done (in_front x (all_in wanted later files))) read
   stops_at files (Limit kind) read left = sym left ∙ ap (λ x. behind done (in_front x (all_in wanted later files))) read
 
-  pub stops : (o o1 : Option Tree) (fault : ReadFault) → o1 ≡ o → IfSome o1 (λ files. Reads {T = List (List ℕ)} (Err fault) (wanted_in wanted files folder)) → Leaves wanted o done whole all
-      → IfSome o (λ files. Reads {T = List (List (List ℕ))} (Err fault) (all_in wanted all files))
+  pub stops : (o o1 : Option Tree) (fault : ReadFault) → o1 ≡ o → IfSome o1 (λ files. IsAnswer {A = List (List ℕ)} read_cause (Err fault) (wanted_in wanted files folder)) → Leaves wanted o done whole all
+      → IfSome o (λ files. IsAnswer {A = List (List (List ℕ))} read_cause (Err fault) (all_in wanted all files))
   stops None o1 fault e read left = tt
   stops (Some files) o1 fault e read left =
-      let P : Option Tree → Type 0 = λ x. IfSome x (λ t. Reads {T = List (List ℕ)} (Err fault) (wanted_in wanted t folder)) in
+      let P : Option Tree → Type 0 = λ x. IfSome x (λ t. IsAnswer {A = List (List ℕ)} read_cause (Err fault) (wanted_in wanted t folder)) in
       stops_at files fault (subst P e read) (left_as files left)
 
 pub nothing_found : (wanted : Wanted) (o : Option Tree) (done : List (List (List ℕ))) (all : List (List ℕ)) → done ≡ [] → Leaves wanted o done all all

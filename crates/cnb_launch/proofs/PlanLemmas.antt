@@ -1,6 +1,6 @@
 -- The steps that say what is run.
-use Rattle.std.proofs.Common.{◌≡◌, refl, sym, subst, ℕ, ◌≤◌, arith, Bool, List, Option, Some, None, Result, Ok, Err}
-use Rattle.std.specs.Prelude.{IfErr, IfSome, length}
+use Rattle.std.proofs.Common.{◌≡◌, subst, ℕ, ◌≤◌, arith, Bool, List, Option, Result, Err}
+use Rattle.std.specs.Prelude.{IfSome, length}
 use Rattle.std.specs.List.{All}
 use Rattle.std.specs.Option.{option_map}
 use Rattle.std.proofs.lemmas.List.Elements.{All-weaker}
@@ -10,16 +10,16 @@ use Rattle.cnb_world.specs.declared.env.Variable.{Variable}
 use Rattle.cnb_world.specs.declared.world.World as world
 use Rattle.cnb_toml.specs.declared.names.Key.{Key}
 use Rattle.cnb_env.specs.Layers.{AreShort, IsShort, are_fit_launch_sets, launch_env}
-use Rattle.doc_files.specs.Counts as counts
-use Rattle.doc_files.specs.Reading as reading
+use Rattle.doc_files.specs.Faults.{read_cause}
 use Rattle.doc_files.specs.declared.fault.ReadFault.{ReadFault}
 use Rattle.doc_files.specs.declared.fault.ReadFault.TheVariants as read
-use Rattle.steps.specs.Causes.{Cause, ChildrenBy, FileFailed, ChildFailed, OutOfMemory, Decided, FilesBy, IsAnswer, IsGivenCause, IsReadCause}
+use Rattle.steps.specs.Causes.{Cause, ChildrenBy, FileFailed, ChildFailed, OutOfMemory, Decided, FilesBy, IsAnswer, IsGivenCause}
 use Rattle.steps.specs.Outside.{Seen, seen}
+use Rattle.steps.specs.Reading.{ReadFrame}
 use Rattle.steps.specs.Steps.{reads}
 use Rattle.steps.proofs.StepLemmas.{read_so}
 use Rattle.cnb_launch.specs.Exec.{runs_all, runs_execs}
-use Rattle.cnb_launch.specs.Faults.{cause_of, of_read_fault, read_cause}
+use Rattle.cnb_launch.specs.Faults.{cause_of, of_read_fault}
 use Rattle.cnb_launch.specs.Folders.{AreWithin, all_exec_folders, all_in, set_folders}
 use Rattle.cnb_launch.specs.Planning.{execs_in, sets_in}
 use Rattle.cnb_launch.specs.declared.fault.LaunchFault.{LaunchFault}
@@ -27,63 +27,44 @@ use Rattle.cnb_launch.specs.declared.folders.Wanted.TheVariants.{Folders, Files}
 
 -- ---- files that were read
 
-answer_of : {T : Type 0} (result want : Result T ReadFault) → reading.Reads result want → IsAnswer read_cause result want
-answer_of (Ok value) want h = h
-answer_of (Err (read.File path)) want h = tt
-answer_of (Err (read.Document path fault)) want h = h
-answer_of (Err (read.Limit kind)) want h = h
-answer_of (Err read.Memory) want h = tt
-
-answer_where : {T : Type 0} (result : Result T ReadFault) (o : Option Tree) (want : Tree → Result T ReadFault) → IfSome o (λ files. reading.Reads result (want files)) → IfSome o (λ files. IsAnswer read_cause result (want files))
-answer_where result None want h = tt
-answer_where result (Some files) want h = answer_of result (want files) h
-
-is_read_cause : {T : Type 0} (result : Result T ReadFault) → IfErr result (λ fault. IsReadCause (read_cause fault))
-is_read_cause (Ok value) = tt
-is_read_cause (Err (read.File path)) = tt
-is_read_cause (Err (read.Document path fault)) = tt
-is_read_cause (Err (read.Limit kind)) = tt
-is_read_cause (Err read.Memory) = tt
-
 pub read_step : {W T : Type 0} (ghosts : world.Ghosts W) (fits : Tree → Bool) (want : Tree → Result T ReadFault) (result : Result T ReadFault) (old new : W)
-    → IfSome (ghosts.tree old) (λ files. reading.Reads result (want files)) → ghosts.tree new ≡ ghosts.tree old → ghosts.runs new ≡ ghosts.runs old
+    → IfSome (ghosts.tree old) (λ files. IsAnswer read_cause result (want files)) → ReadFrame read_cause result (seen ghosts old) (seen ghosts new)
     → MayMisuse (option_map fits (ghosts.tree old)) (ghosts.misused old) (ghosts.misused new) → reads read_cause fits want (seen ghosts old) result (seen ghosts new)
-read_step ghosts fits want result old new answer files runs allows =
-    read_so ghosts read_cause fits want result old new (answer_where result (ghosts.tree old) want answer) (is_read_cause result) files runs allows
+read_step ghosts fits want result old new answer frame allows = read_so ghosts read_cause fits want result old new answer frame.cause frame.files frame.runs allows
 
 -- the environment, by the type that was handed on
 pub env_step : {W : Type 0} (ghosts : world.Ghosts W) (kind handed : Option (List ℕ)) (sets : List (List (List ℕ))) (base : List Variable) (result : Result (List Variable) ReadFault) (old new : W) → handed ≡ kind
-    → IfSome (ghosts.tree old) (λ files. reading.Reads result (launch_env sets handed base files)) → ghosts.tree new ≡ ghosts.tree old → ghosts.runs new ≡ ghosts.runs old
+    → IfSome (ghosts.tree old) (λ files. IsAnswer read_cause result (launch_env sets handed base files)) → ReadFrame read_cause result (seen ghosts old) (seen ghosts new)
     → MayMisuse (option_map (λ files. are_fit_launch_sets handed files sets) (ghosts.tree old)) (ghosts.misused old) (ghosts.misused new)
     → reads read_cause (λ files. are_fit_launch_sets kind files sets) (launch_env sets kind base) (seen ghosts old) result (seen ghosts new)
-env_step ghosts kind handed sets base result old new same answer files runs allows =
+env_step ghosts kind handed sets base result old new same answer frame allows =
     let P : Option (List ℕ) → Type 0 = λ k. reads read_cause (λ files. are_fit_launch_sets k files sets) (launch_env sets k base) (seen ghosts old) result (seen ghosts new) in
-    subst P same (read_step ghosts (λ files. are_fit_launch_sets handed files sets) (launch_env sets handed base) result old new answer files runs allows)
+    subst P same (read_step ghosts (λ files. are_fit_launch_sets handed files sets) (launch_env sets handed base) result old new answer frame allows)
 
 pub env_refused : {W : Type 0} (ghosts : world.Ghosts W) (kind handed : Option (List ℕ)) (sets : List (List (List ℕ))) (base : List Variable) (fault : ReadFault) (old new : W) → handed ≡ kind
-    → IfSome (ghosts.tree old) (λ files. reading.Reads {T = List Variable} (Err fault) (launch_env sets handed base files)) → ghosts.tree new ≡ ghosts.tree old → ghosts.runs new ≡ ghosts.runs old
+    → IfSome (ghosts.tree old) (λ files. IsAnswer {A = List Variable} read_cause (Err fault) (launch_env sets handed base files)) → ReadFrame {A = List Variable} read_cause (Err fault) (seen ghosts old) (seen ghosts new)
     → MayMisuse (option_map (λ files. are_fit_launch_sets handed files sets) (ghosts.tree old)) (ghosts.misused old) (ghosts.misused new)
     → reads read_cause (λ files. are_fit_launch_sets kind files sets) (launch_env sets kind base) (seen ghosts old) (Err fault) (seen ghosts new)
-env_refused ghosts kind handed sets base fault old new same answer files runs allows = env_step ghosts kind handed sets base (Err fault) old new same answer files runs allows
+env_refused ghosts kind handed sets base fault old new same answer frame allows = env_step ghosts kind handed sets base (Err fault) old new same answer frame allows
 
 -- ---- folders that were computed
 
 pub sets_read : (root : List ℕ) (keys : List Key) (folders : List (List ℕ)) (o : Option Tree) (result : Result (List (List (List ℕ))) ReadFault) → folders ≡ set_folders root keys
-    → IfSome o (λ files. reading.Reads result (all_in Folders folders files)) → IfSome o (λ files. reading.Reads result (sets_in root keys files))
+    → IfSome o (λ files. IsAnswer read_cause result (all_in Folders folders files)) → IfSome o (λ files. IsAnswer read_cause result (sets_in root keys files))
 unfolding sets_in
-sets_read root keys folders o result same h = let P : List (List ℕ) → Type 0 = λ fs. IfSome o (λ files. reading.Reads result (all_in Folders fs files)) in subst P same h
+sets_read root keys folders o result same h = let P : List (List ℕ) → Type 0 = λ fs. IfSome o (λ files. IsAnswer read_cause result (all_in Folders fs files)) in subst P same h
 
 pub sets_refused : (root : List ℕ) (keys : List Key) (folders : List (List ℕ)) (o : Option Tree) (fault : ReadFault) → folders ≡ set_folders root keys
-    → IfSome o (λ files. reading.Reads {T = List (List (List ℕ))} (Err fault) (all_in Folders folders files)) → IfSome o (λ files. reading.Reads {T = List (List (List ℕ))} (Err fault) (sets_in root keys files))
+    → IfSome o (λ files. IsAnswer {A = List (List (List ℕ))} read_cause (Err fault) (all_in Folders folders files)) → IfSome o (λ files. IsAnswer {A = List (List (List ℕ))} read_cause (Err fault) (sets_in root keys files))
 sets_refused root keys folders o fault same h = sets_read root keys folders o (Err fault) same h
 
 pub execs_read : (kind : Option (List ℕ)) (sets : List (List (List ℕ))) (folders : List (List ℕ)) (o : Option Tree) (result : Result (List (List (List ℕ))) ReadFault) → folders ≡ all_exec_folders kind sets
-    → IfSome o (λ files. reading.Reads result (all_in Files folders files)) → IfSome o (λ files. reading.Reads result (execs_in kind sets files))
+    → IfSome o (λ files. IsAnswer read_cause result (all_in Files folders files)) → IfSome o (λ files. IsAnswer read_cause result (execs_in kind sets files))
 unfolding execs_in
-execs_read kind sets folders o result same h = let P : List (List ℕ) → Type 0 = λ fs. IfSome o (λ files. reading.Reads result (all_in Files fs files)) in subst P same h
+execs_read kind sets folders o result same h = let P : List (List ℕ) → Type 0 = λ fs. IfSome o (λ files. IsAnswer read_cause result (all_in Files fs files)) in subst P same h
 
 pub execs_refused : (kind : Option (List ℕ)) (sets : List (List (List ℕ))) (folders : List (List ℕ)) (o : Option Tree) (fault : ReadFault) → folders ≡ all_exec_folders kind sets
-    → IfSome o (λ files. reading.Reads {T = List (List (List ℕ))} (Err fault) (all_in Files folders files)) → IfSome o (λ files. reading.Reads {T = List (List (List ℕ))} (Err fault) (execs_in kind sets files))
+    → IfSome o (λ files. IsAnswer {A = List (List (List ℕ))} read_cause (Err fault) (all_in Files folders files)) → IfSome o (λ files. IsAnswer {A = List (List (List ℕ))} read_cause (Err fault) (execs_in kind sets files))
 execs_refused kind sets folders o fault same h = execs_read kind sets folders o (Err fault) same h
 
 -- layers of an image leave room for what stands in them
@@ -104,11 +85,11 @@ given_children ChildFailed x y h same = absurd h
 given_children OutOfMemory x y h same = omega arith
 given_children Decided x y h same = same
 
-pub read_files : (A : Type 0) (fault : ReadFault) (x y z : ℕ) → y ≡ x → counts.CountsFiles {T = A} (Err fault) y z → FilesBy (cause_of (of_read_fault fault)) x z
-read_files A (read.File path) x y z same h = subst (λ n. FilesBy (FileFailed path) n z) same h
-read_files A (read.Document path fault) x y z same h = subst (λ n. FilesBy Decided n z) same h
-read_files A (read.Limit kind) x y z same h = subst (λ n. FilesBy Decided n z) same h
-read_files A read.Memory x y z same h = omega arith
+pub read_files : (fault : ReadFault) (x y z : ℕ) → y ≡ x → FilesBy (read_cause fault) y z → FilesBy (cause_of (of_read_fault fault)) x z
+read_files (read.File path) x y z same h = subst (λ n. FilesBy (FileFailed path) n z) same h
+read_files (read.Document path fault) x y z same h = subst (λ n. FilesBy Decided n z) same h
+read_files (read.Limit kind) x y z same h = subst (λ n. FilesBy Decided n z) same h
+read_files read.Memory x y z same h = omega arith
 
 pub read_children : (fault : ReadFault) (x y : ℕ) → y ≡ x → ChildrenBy (cause_of (of_read_fault fault)) x y
 read_children (read.File path) x y same = same

@@ -1,12 +1,11 @@
 -- A launch document that was read has processes that can be read.
 use Rattle.std.proofs.Common.{◌≡◌, ◌∙◌, refl, sym, ap, ℕ, ◌+◌, Bool, true, false, cond, IsTrue, List, [], ◌∷◌, ◌++◌, codes, Option, Some, None, Result, Ok, Err}
-use Rattle.std.specs.Prelude.{◌&&◌}
 use Rattle.std.specs.Fmt.{decimal}
 use Rattle.std.specs.List.{list_all}
 use Rattle.std.specs.Str.{bytes_eq}
 use Rattle.std.proofs.lemmas.Bool.{and_from}
 use Rattle.std.proofs.lemmas.List.Folds.{list_all-append}
-use Rattle.toml.specs.Data.{Data, Items, no_items, item, Members, as_array, as_str, as_table, get_member}
+use Rattle.toml.specs.Data.{Data, Items, no_items, item, Members, as_array, as_table, get_member}
 use Rattle.cnb_world.specs.Path.{is_short_path}
 use Rattle.cnb_toml.specs.declared.fault.DocFault.{DocFault}
 use Rattle.cnb_toml.specs.declared.fault.DocFault.TheVariants as fault

@@ -1,12 +1,11 @@
 -- An image that is laid out.
-use Rattle.std.proofs.Common.{◌≡◌, ◌∙◌, refl, sym, ap, subst, ℕ, ◌<◌, ◌≤◌, nat_le, true, List, length, get_or, Bool, IsTrue, Result, Ok, Err}
+use Rattle.std.proofs.Common.{◌≡◌, ◌∙◌, refl, ap, subst, ℕ, ◌<◌, ◌≤◌, nat_le, List, length, get_or, IsTrue, Result, Ok, Err}
 use Rattle.std.specs.List.{list_all}
 use Rattle.std.proofs.lemmas.Bool.{and_parts, leb-true}
 use Rattle.std.proofs.lemmas.List.Sums.{AllPass-from_list_all}
 use Rattle.cnb_world.specs.Path.{is_path}
 use Rattle.image_docs.specs.Row.{is_row}
 use Rattle.image_docs.specs.declared.row.Row.{Row}
-use Rattle.steps.specs.Causes.{OutOfMemory}
 use Rattle.steps.specs.Each.{for_each}
 use Rattle.steps.specs.Outside.{Seen}
 use Rattle.tree_canon.specs.declared.node.Node.{Node}

@@ -1,6 +1,5 @@
 -- The document that says how an image is launched.
 use Rattle.std.specs.Prelude.{ℕ, Bool, List, Option, Some, None, Result, Err}
-use Rattle.cnb_world.specs.Steps.{◌>>=◌}
 use Rattle.cnb_world.specs.Tree.{Tree, is_file_or_absent, item_at}
 use Rattle.cnb_toml.specs.declared.fault.DocFault.TheVariants.{Absent}
 use Rattle.doc_files.specs.Reading.{document_at, read_at}
@@ -8,6 +7,7 @@ use Rattle.doc_files.specs.declared.fault.ReadFault.{ReadFault}
 use Rattle.doc_files.specs.declared.fault.ReadFault.TheVariants.{Document}
 use Rattle.image_docs.specs.LaunchDoc.{launch_doc_in}
 use Rattle.image_docs.specs.declared.launch_doc.LaunchDoc.{LaunchDoc}
+use Rattle.steps.specs.Results.{◌>>=◌}
 use Rattle.cnb_launch.specs.Places.{launch_doc_path}
 
 -- the document must be there

@@ -1,5 +1,5 @@
 -- The programs in `exec.d`, one after another (buildpack.md, "exec.d").
-use Rattle.std.specs.Prelude.{ℕ, Bool, true, List, [], if◌then◌else◌, Option, Some, None, Result, Ok, Err}
+use Rattle.std.specs.Prelude.{ℕ, true, List, [], if◌then◌else◌, Option, Some, None, Result, Ok, Err}
 use Rattle.cnb_world.specs.Runs.{is_code}
 use Rattle.cnb_world.specs.declared.child.ChildJob.{ChildJob}
 use Rattle.cnb_world.specs.declared.child.End.{End}

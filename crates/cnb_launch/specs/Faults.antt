@@ -8,7 +8,7 @@ use Rattle.image_files.specs.declared.fault.ImageFault.TheVariants as image
 use Rattle.tree_store.specs.Answers.{cause_of as store_cause}
 use Rattle.tree_store.specs.declared.fault.StoreFault.{StoreFault}
 use Rattle.tree_store.specs.declared.fault.StoreFault.TheVariants as store
-use Rattle.steps.specs.Causes.{Cause, FileFailed, ChildFailed, OutOfMemory, Decided}
+use Rattle.steps.specs.Causes.{Cause, ChildFailed, OutOfMemory, Decided}
 use Rattle.cnb_launch.specs.declared.fault.LaunchFault.{LaunchFault}
 use Rattle.cnb_launch.specs.declared.fault.LaunchFault.TheVariants.{NoImage, Exists, ShellProcess, NoProcess, ExecFailed, BadExecOutput, Child, Document, Store, Memory}
 
@@ -23,12 +23,6 @@ cause_of Child = ChildFailed
 cause_of (Document path fault) = Decided
 cause_of (Store fault) = store_cause fault
 cause_of Memory = OutOfMemory
-
-abbrev pub read_cause : ReadFault → Cause
-read_cause (read.File path) = FileFailed path
-read_cause (read.Document path fault) = Decided
-read_cause (read.Limit kind) = Decided
-read_cause read.Memory = OutOfMemory
 
 abbrev pub of_read_fault : ReadFault → LaunchFault
 of_read_fault (read.File path) = Store (store.File path)

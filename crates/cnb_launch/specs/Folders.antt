@@ -1,8 +1,7 @@
 -- What stands in folders: the layers of buildpacks, and the programs in `exec.d`.
-use Rattle.std.specs.Prelude.{ℕ, ◌+◌, ◌≤◌, Bool, true, false, List, [], ◌∷◌, codes, filter, length, map, Option, Some, None, Result, Ok, Err}
+use Rattle.std.specs.Prelude.{ℕ, ◌≤◌, Bool, true, false, List, [], ◌∷◌, codes, filter, length, map, Option, Some, None, Result, Ok, Err}
 use Rattle.std.specs.List.{All, flat_map, list_all}
 use Rattle.cnb_world.specs.Path.{joined}
-use Rattle.cnb_world.specs.Steps.{◌>>=◌}
 use Rattle.cnb_world.specs.Tree.{Tree, item_at, kind_of}
 use Rattle.cnb_world.specs.declared.world.Item.{Item}
 use Rattle.cnb_world.specs.declared.world.Kind.{Kind}
@@ -13,6 +12,7 @@ use Rattle.cnb_env.specs.Files.{is_fit_folder}
 use Rattle.cnb_env.specs.Layers.{type_folders}
 use Rattle.doc_files.specs.Reading.{names_at}
 use Rattle.doc_files.specs.declared.fault.ReadFault.{ReadFault}
+use Rattle.steps.specs.Results.{◌>>=◌}
 use Rattle.cnb_launch.specs.Places.{layers_folder}
 use Rattle.cnb_launch.specs.declared.folders.Wanted.{Wanted}
 use Rattle.cnb_launch.specs.declared.folders.Wanted.TheVariants.{Folders, Files}

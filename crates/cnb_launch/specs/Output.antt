@@ -4,7 +4,7 @@ use Rattle.std.specs.Prelude.{ℕ, ◌==◌, ◌&&◌, Bool, not, List, length, 
 use Rattle.std.specs.List.{list_any}
 use Rattle.std.specs.Option.{option_and_then}
 use Rattle.std.specs.Result.{result_ok}
-use Rattle.toml.specs.Data.{Data, Members, no_members, member, as_str}
+use Rattle.toml.specs.Data.{Members, no_members, member, as_str}
 use Rattle.cnb_world.specs.Env.{with_value}
 use Rattle.cnb_world.specs.declared.env.Variable.{Variable}
 use Rattle.cnb_toml.specs.Document.{document_in}

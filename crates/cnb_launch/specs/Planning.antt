@@ -6,13 +6,14 @@ use Rattle.cnb_world.specs.declared.child.End.{End}
 use Rattle.cnb_world.specs.declared.env.Variable.{Variable}
 use Rattle.cnb_toml.specs.declared.names.Key.{Key}
 use Rattle.cnb_env.specs.Layers.{are_fit_launch_sets, launch_env}
+use Rattle.doc_files.specs.Faults.{read_cause}
 use Rattle.doc_files.specs.declared.fault.ReadFault.{ReadFault}
 use Rattle.steps.specs.Outside.{Seen}
 use Rattle.steps.specs.Steps.{◌>>=◌, gives, map_err, reads, runs_child, yields}
 use Rattle.cnb_launch.specs.Choosing.{chosen_in}
 use Rattle.cnb_launch.specs.Documents.{is_fit_doc, launch_doc_under}
 use Rattle.cnb_launch.specs.Exec.{runs_all}
-use Rattle.cnb_launch.specs.Faults.{cause_of, of_read_fault, read_cause}
+use Rattle.cnb_launch.specs.Faults.{cause_of, of_read_fault}
 use Rattle.cnb_launch.specs.Folders.{all_exec_folders, all_in, are_fit, set_folders}
 use Rattle.cnb_launch.specs.Places.{dir_in}
 use Rattle.cnb_words.specs.declared.launch.Call.{Call}

@@ -1,9 +1,10 @@
 -- How an image is laid out under a root (platform.md, "exporter": its layers; the overlay and the document of the launch are
 -- this project's own).
 use Rattle.std.specs.Prelude.{ℕ, ◌≡◌, Bool, true, false, List, codes, if◌then◌else◌, Result, Ok, Err}
-use Rattle.cnb_world.specs.Tree.{Tree, item_at, kind_of}
+use Rattle.cnb_world.specs.Tree.{item_at, kind_of}
 use Rattle.cnb_world.specs.declared.limits.LimitKind.TheVariants as limit
 use Rattle.cnb_env.specs.Files.{is_absent}
+use Rattle.doc_files.specs.Faults.{read_cause}
 use Rattle.image_docs.specs.LaunchDoc.{launch_doc_in}
 use Rattle.image_docs.specs.declared.launch_doc.LaunchDoc.{LaunchDoc}
 use Rattle.image_docs.specs.declared.row.Row.{Row}
@@ -17,7 +18,7 @@ use Rattle.tree_canon.specs.declared.node.Node.{Node}
 use Rattle.tree_canon.specs.declared.node.Node.TheVariants as node
 use Rattle.tree_store.specs.Steps.{lays_stored, lays_tree}
 use Rattle.tree_store.specs.declared.fault.StoreFault.TheVariants as store
-use Rattle.cnb_launch.specs.Faults.{cause_of, of_image_fault, of_read_fault, of_store_fault, read_cause}
+use Rattle.cnb_launch.specs.Faults.{cause_of, of_image_fault, of_read_fault, of_store_fault}
 use Rattle.cnb_launch.specs.declared.fault.LaunchFault.{LaunchFault}
 use Rattle.cnb_launch.specs.declared.fault.LaunchFault.TheVariants.{Exists, Store}
 

@@ -5,8 +5,10 @@ ghost use Rattle.std.specs.Option.{option_map};
 ghost use Rattle.cnb_world.specs.Calls.{MayMisuse};
 ghost use Rattle.cnb_world.specs.Tree.{is_file_or_absent, item_at};
 ghost use Rattle.cnb_toml.specs.Process.{is_process};
-ghost use Rattle.doc_files.specs.Counts.{CountsFiles};
-ghost use Rattle.doc_files.specs.Reading.{Reads};
+ghost use Rattle.steps.specs.Causes.{CountsFiles, IsAnswer};
+ghost use Rattle.steps.specs.Outside.{seen};
+ghost use Rattle.steps.specs.Reading.{ReadFrame};
+ghost use Rattle.doc_files.specs.Faults.{read_cause};
 ghost use Rattle.cnb_launch.specs.Documents.{is_fit_doc, launch_doc_at, launch_doc_of, launch_doc_under};
 
 use crate::places::launch_doc_path;
@@ -18,9 +20,9 @@ use std::alloc::Global;
 
 #[tactic(auto, using(crate::proofs::SoundLemmas::answer_is_sound))]
 fn launch_doc_of(alloc: Global, path: &Path, found: Option<Bytes>) -> Result<LaunchDoc, ReadFault>
-    ensures reads { Reads result (launch_doc_of path.now found) }
+    ensures reads { IsAnswer read_cause result (launch_doc_of path.now found) }
     ensures sound { IfOk result (λ doc. IsTrue (list_all is_process doc.processes)) }
-    ensures files { (n : ℕ) → CountsFiles result n n }
+    ensures files { (n : ℕ) → CountsFiles read_cause result n n }
 {
     match found {
         Some(bytes) => {
@@ -31,18 +33,14 @@ fn launch_doc_of(alloc: Global, path: &Path, found: Option<Bytes>) -> Result<Lau
     }
 }
 
-#[tactic(auto, using(doc_files::proofs::Counts::counts_after))]
 fn launch_doc_at<W: World>(
     alloc: Global,
     world: &mut W,
     path: &Path,
 ) -> Result<LaunchDoc, ReadFault>
-    ensures reads { IfSome (W.tree world.old) (λ files. Reads result (launch_doc_at path.now files)) }
+    ensures reads { IfSome (W.tree world.old) (λ files. IsAnswer read_cause result (launch_doc_at path.now files)) }
     ensures sound { IfOk result (λ doc. IsTrue (list_all is_process doc.processes)) }
-    ensures tree { W.tree world.new ≡ W.tree world.old }
-    ensures files { CountsFiles result (W.file_faults world.old) (W.file_faults world.new) }
-    ensures children { W.child_faults world.new ≡ W.child_faults world.old }
-    ensures runs { W.runs world.new ≡ W.runs world.old }
+    ensures frame { ReadFrame read_cause result (seen W.World world.old) (seen W.World world.new) }
     ensures misused { MayMisuse (option_map (λ files. is_file_or_absent (item_at files path.now)) (W.tree world.old))
         (W.misused world.old) (W.misused world.new) }
 {
@@ -58,12 +56,9 @@ pub(crate) fn read_launch<W: World>(
     root: &Path,
 ) -> Result<LaunchDoc, ReadFault>
     requires { length root.now ≤ 4096 }
-    ensures reads { IfSome (W.tree world.old) (λ files. Reads result (launch_doc_under root.now files)) }
+    ensures reads { IfSome (W.tree world.old) (λ files. IsAnswer read_cause result (launch_doc_under root.now files)) }
     ensures sound { IfOk result (λ doc. IsTrue (list_all is_process doc.processes)) }
-    ensures tree { W.tree world.new ≡ W.tree world.old }
-    ensures files { CountsFiles result (W.file_faults world.old) (W.file_faults world.new) }
-    ensures children { W.child_faults world.new ≡ W.child_faults world.old }
-    ensures runs { W.runs world.new ≡ W.runs world.old }
+    ensures frame { ReadFrame read_cause result (seen W.World world.old) (seen W.World world.new) }
     ensures misused { MayMisuse (option_map (is_fit_doc root.now) (W.tree world.old))
         (W.misused world.old) (W.misused world.new) }
 {

@@ -1,13 +1,15 @@
 // What stands in folders: the layers of buildpacks, and the programs in `exec.d`.
-ghost use Rattle.std.specs.Prelude.{◌≡◌, ◌≤◌, ◌++◌, ◌∷◌, [], ◌+◌, ℕ, IfErr, IfOk, IfSome, IsTrue, OnOk, length};
+ghost use Rattle.std.specs.Prelude.{◌≡◌, ◌≢◌, ◌≤◌, ◌++◌, ◌∷◌, [], ◌+◌, ℕ, IfErr, IfOk, IfSome, IsTrue, OnOk, length};
 ghost use Rattle.std.specs.List.{All};
 ghost use Rattle.std.specs.Option.{option_map};
 ghost use Rattle.cnb_world.specs.Calls.{AreNames, MayMisuse};
 ghost use Rattle.cnb_world.specs.Path.{is_part};
 ghost use Rattle.cnb_world.specs.Tree.{can_list};
 ghost use Rattle.cnb_env.specs.Files.{is_fit_folder};
-ghost use Rattle.doc_files.specs.Counts.{CountsFiles};
-ghost use Rattle.doc_files.specs.Reading.{Reads, is_free};
+ghost use Rattle.steps.specs.Causes.{Decided, IsAnswer};
+ghost use Rattle.steps.specs.Outside.{seen};
+ghost use Rattle.steps.specs.Reading.{ReadFrame};
+ghost use Rattle.doc_files.specs.Faults.{read_cause};
 ghost use Rattle.cnb_launch.specs.Folders.{AreWithin, all_in, are_fit, is_wanted, listed, wanted_among, wanted_in};
 
 use cnb_world::{Kind, List, Path, Text, World};
@@ -31,7 +33,7 @@ fn is_wanted(wanted: Wanted, kind: Kind) -> bool
 }
 
 // The paths with that of a name behind them, where such a thing stands there.
-#[tactic(auto, using(crate::proofs::FolderLemmas::below_within, crate::proofs::FolderLemmas::push_within))]
+#[tactic(auto, using(crate::proofs::FolderLemmas::below_within, crate::proofs::FolderLemmas::push_within, crate::proofs::FolderLemmas::blamed_fails, doc_files::proofs::Blame::blamed_last))]
 fn push_wanted<W: World>(
     alloc: Global,
     world: &mut W,
@@ -46,11 +48,8 @@ fn push_wanted<W: World>(
         (paths.new ≡ paths.old ++ wanted_among wanted files folder.now (name.now ∷ []))) }
     ensures within { AreWithin (length folder.now + 256) paths.old
         → OnOk result (AreWithin (length folder.now + 256) paths.new) }
-    ensures free { IfErr result (λ fault. IsTrue (is_free fault)) }
-    ensures tree { W.tree world.new ≡ W.tree world.old }
-    ensures files { CountsFiles result (W.file_faults world.old) (W.file_faults world.new) }
-    ensures children { W.child_faults world.new ≡ W.child_faults world.old }
-    ensures runs { W.runs world.new ≡ W.runs world.old }
+    ensures fails { IfErr result (λ fault. read_cause fault ≢ Decided) }
+    ensures frame { ReadFrame read_cause result (seen W.World world.old) (seen W.World world.new) }
     ensures misused { W.misused world.new ≡ W.misused world.old }
 {
     let path = folder.below(alloc, name.as_str())?;
@@ -74,11 +73,8 @@ fn wanted_among<W: World>(
     ensures found { IfSome (W.tree world.old) (λ files. IfOk result (λ paths.
         paths ≡ wanted_among wanted files folder.now names.now)) }
     ensures within { IfOk result (AreWithin (length folder.now + 256)) }
-    ensures free { IfErr result (λ fault. IsTrue (is_free fault)) }
-    ensures tree { W.tree world.new ≡ W.tree world.old }
-    ensures files { CountsFiles result (W.file_faults world.old) (W.file_faults world.new) }
-    ensures children { W.child_faults world.new ≡ W.child_faults world.old }
-    ensures runs { W.runs world.new ≡ W.runs world.old }
+    ensures fails { IfErr result (λ fault. read_cause fault ≢ Decided) }
+    ensures frame { ReadFrame read_cause result (seen W.World world.old) (seen W.World world.new) }
     ensures misused { W.misused world.new ≡ W.misused world.old }
 {
     let mut paths = List::new(alloc);
@@ -89,6 +85,7 @@ fn wanted_among<W: World>(
 }
 
 // What is wanted of a folder that stands there.
+#[tactic(auto, using(crate::proofs::FolderLemmas::fails_free))]
 fn listed<W: World>(
     alloc: Global,
     world: &mut W,
@@ -96,12 +93,9 @@ fn listed<W: World>(
     wanted: Wanted,
 ) -> Result<List<Path>, ReadFault>
     requires { length folder.now ≤ 8448 }
-    ensures reads { IfSome (W.tree world.old) (λ files. Reads result (listed wanted files folder.now)) }
+    ensures reads { IfSome (W.tree world.old) (λ files. IsAnswer read_cause result (listed wanted files folder.now)) }
     ensures within { IfOk result (AreWithin (length folder.now + 256)) }
-    ensures tree { W.tree world.new ≡ W.tree world.old }
-    ensures files { CountsFiles result (W.file_faults world.old) (W.file_faults world.new) }
-    ensures children { W.child_faults world.new ≡ W.child_faults world.old }
-    ensures runs { W.runs world.new ≡ W.runs world.old }
+    ensures frame { ReadFrame read_cause result (seen W.World world.old) (seen W.World world.new) }
     ensures misused { MayMisuse (option_map (λ files. can_list files folder.now) (W.tree world.old))
         (W.misused world.old) (W.misused world.new) }
 {
@@ -111,6 +105,7 @@ fn listed<W: World>(
 }
 
 // What is wanted of a folder, ascending by name; nothing where nothing stands there.
+#[tactic(auto, using(doc_files::proofs::Blame::blamed_last))]
 fn wanted_in<W: World>(
     alloc: Global,
     world: &mut W,
@@ -118,12 +113,10 @@ fn wanted_in<W: World>(
     wanted: Wanted,
 ) -> Result<List<Path>, ReadFault>
     requires { length folder.now ≤ 8448 }
-    ensures reads { IfSome (W.tree world.old) (λ files. Reads result (wanted_in wanted files folder.now)) }
+    ensures reads { IfSome (W.tree world.old) (λ files.
+        IsAnswer read_cause result (wanted_in wanted files folder.now)) }
     ensures within { IfOk result (AreWithin (length folder.now + 256)) }
-    ensures tree { W.tree world.new ≡ W.tree world.old }
-    ensures files { CountsFiles result (W.file_faults world.old) (W.file_faults world.new) }
-    ensures children { W.child_faults world.new ≡ W.child_faults world.old }
-    ensures runs { W.runs world.new ≡ W.runs world.old }
+    ensures frame { ReadFrame read_cause result (seen W.World world.old) (seen W.World world.new) }
     ensures misused { MayMisuse (option_map (is_fit_folder folder.now) (W.tree world.old))
         (W.misused world.old) (W.misused world.new) }
 {
@@ -142,12 +135,9 @@ pub(crate) fn all_in<W: World>(
     wanted: Wanted,
 ) -> Result<List<List<Path>>, ReadFault>
     requires { AreWithin 8448 folders.now }
-    ensures reads { IfSome (W.tree world.old) (λ files. Reads result (all_in wanted folders.now files)) }
+    ensures reads { IfSome (W.tree world.old) (λ files. IsAnswer read_cause result (all_in wanted folders.now files)) }
     ensures within { (room : ℕ) → AreWithin room folders.now → IfOk result (All (AreWithin (room + 256))) }
-    ensures tree { W.tree world.new ≡ W.tree world.old }
-    ensures files { CountsFiles result (W.file_faults world.old) (W.file_faults world.new) }
-    ensures children { W.child_faults world.new ≡ W.child_faults world.old }
-    ensures runs { W.runs world.new ≡ W.runs world.old }
+    ensures frame { ReadFrame read_cause result (seen W.World world.old) (seen W.World world.new) }
     ensures misused { MayMisuse (option_map (are_fit folders.now) (W.tree world.old))
         (W.misused world.old) (W.misused world.new) }
 {

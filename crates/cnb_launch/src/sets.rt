@@ -3,10 +3,12 @@ ghost use Rattle.std.specs.Prelude.{◌≡◌, ◌≤◌, ◌++◌, IfErr, IfOk,
 ghost use Rattle.std.specs.List.{All, flat_map};
 ghost use Rattle.std.specs.Option.{option_map};
 ghost use Rattle.cnb_world.specs.Calls.{MayMisuse};
-ghost use Rattle.doc_files.specs.Counts.{CountsFiles};
-ghost use Rattle.doc_files.specs.Reading.{Reads};
 ghost use Rattle.cnb_world.specs.Path.{joined};
 ghost use Rattle.cnb_toml.specs.Names.{folder_of};
+ghost use Rattle.steps.specs.Causes.{IsAnswer};
+ghost use Rattle.steps.specs.Outside.{seen};
+ghost use Rattle.steps.specs.Reading.{ReadFrame};
+ghost use Rattle.doc_files.specs.Faults.{read_cause};
 ghost use Rattle.cnb_launch.specs.Folders.{AreWithin, all_exec_folders, exec_folders, set_folders};
 ghost use Rattle.cnb_launch.specs.Planning.{are_fit_execs, are_fit_layers, execs_in, sets_in};
 
@@ -49,12 +51,10 @@ pub(crate) fn sets_in<W: World>(
     doc: &LaunchDoc,
 ) -> Result<List<LayerSet>, ReadFault>
     requires { length root.now ≤ 4096 }
-    ensures reads { IfSome (W.tree world.old) (λ files. Reads result (sets_in root.now doc.now.buildpacks files)) }
+    ensures reads { IfSome (W.tree world.old) (λ files.
+        IsAnswer read_cause result (sets_in root.now doc.now.buildpacks files)) }
     ensures short { IfOk result (All (AreWithin 4615)) }
-    ensures tree { W.tree world.new ≡ W.tree world.old }
-    ensures files { CountsFiles result (W.file_faults world.old) (W.file_faults world.new) }
-    ensures children { W.child_faults world.new ≡ W.child_faults world.old }
-    ensures runs { W.runs world.new ≡ W.runs world.old }
+    ensures frame { ReadFrame read_cause result (seen W.World world.old) (seen W.World world.new) }
     ensures misused { MayMisuse (option_map (are_fit_layers root.now doc.now.buildpacks) (W.tree world.old))
         (W.misused world.old) (W.misused world.new) }
 {
@@ -127,11 +127,8 @@ pub(crate) fn execs_in<W: World>(
     kind: &Option<ProcType>,
 ) -> Result<List<List<Path>>, ReadFault>
     requires { All (AreWithin 4615) sets.now }
-    ensures reads { IfSome (W.tree world.old) (λ files. Reads result (execs_in kind.now sets.now files)) }
-    ensures tree { W.tree world.new ≡ W.tree world.old }
-    ensures files { CountsFiles result (W.file_faults world.old) (W.file_faults world.new) }
-    ensures children { W.child_faults world.new ≡ W.child_faults world.old }
-    ensures runs { W.runs world.new ≡ W.runs world.old }
+    ensures reads { IfSome (W.tree world.old) (λ files. IsAnswer read_cause result (execs_in kind.now sets.now files)) }
+    ensures frame { ReadFrame read_cause result (seen W.World world.old) (seen W.World world.new) }
     ensures misused { MayMisuse (option_map (are_fit_execs kind.now sets.now) (W.tree world.old))
         (W.misused world.old) (W.misused world.new) }
 {

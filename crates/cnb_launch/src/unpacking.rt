@@ -3,13 +3,13 @@ ghost use Rattle.std.specs.Prelude.{◌≡◌, ◌≢◌, ◌≤◌, IfErr, IfOk
 ghost use Rattle.std.specs.List.{list_all};
 ghost use Rattle.cnb_world.specs.Tree.{item_at, kind_of};
 ghost use Rattle.cnb_env.specs.Files.{is_absent};
-ghost use Rattle.doc_files.specs.Counts as reading;
-ghost use Rattle.doc_files.specs.Reading.{Reads};
+ghost use Rattle.doc_files.specs.Faults.{read_cause};
 ghost use Rattle.image_docs.specs.LaunchDoc.{is_launch_doc};
 ghost use Rattle.image_docs.specs.Row.{is_row};
 ghost use Rattle.steps.specs.Causes.{ChildFailed, CountsFiles, IsAnswer, IsGivenCause};
 ghost use Rattle.steps.specs.Each.{for_each};
 ghost use Rattle.steps.specs.Outside.{seen};
+ghost use Rattle.steps.specs.Reading.{ReadFrame};
 ghost use Rattle.cnb_launch.specs.Faults.{cause_of};
 ghost use Rattle.cnb_launch.specs.Unpacking.{ReadsAs, file_tree, if_absent, launch_doc_place, lays_launch, lays_row, unpacks};
 
@@ -23,13 +23,11 @@ use std::alloc::Global;
 use tree_canon::{Node, Tree, TreeFault};
 use tree_store::{StoreFault, lay_stored, write_tree};
 
+#[tactic(auto, using(doc_files::proofs::Blame::blamed_last))]
 fn is_absent<W: World>(alloc: Global, world: &mut W, path: &Path) -> Result<bool, ReadFault>
-    ensures reads { IfSome (W.tree world.old) (λ files. Reads result
+    ensures reads { IfSome (W.tree world.old) (λ files. IsAnswer read_cause result
         (Ok (is_absent (kind_of (item_at files path.now))))) }
-    ensures tree { W.tree world.new ≡ W.tree world.old }
-    ensures files { reading.CountsFiles result (W.file_faults world.old) (W.file_faults world.new) }
-    ensures children { W.child_faults world.new ≡ W.child_faults world.old }
-    ensures runs { W.runs world.new ≡ W.runs world.old }
+    ensures frame { ReadFrame read_cause result (seen W.World world.old) (seen W.World world.new) }
     ensures misused { W.misused world.new ≡ W.misused world.old }
 {
     match world.kind(path) {

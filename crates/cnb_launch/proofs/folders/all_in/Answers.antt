@@ -1,5 +1,4 @@
-use Rattle.std.proofs.Common.{◌∙◌, ◌+◌, [], ℕ, List, Ok, drop, refl, sym, subst}
-use Rattle.std.specs.List.{list_all}
+use Rattle.std.proofs.Common.{◌∙◌, ◌+◌, [], ℕ, List, drop, refl, sym, subst}
 use Rattle.std.proofs.lemmas.List.{drop_all}
 use Rattle.std.proofs.lemmas.List.Elements.{All-nil, All-same}
 use Rattle.std.proofs.lemmas.Result.{err_from_is_err_and}
@@ -28,10 +27,10 @@ loop-folder-preserved g c =
     let next = next_item c.args.folders.now c.loop-folder.folder-index c.folder-item.result c.loop-folder-test.true c.folder-item.is in
     let P : List (List (List ℕ)) → Type 0 = λ all. Leaves c.args.wanted (g.W.World.tree c.args.world.now) all later c.args.folders.now in
     record {
-      tree = c.in_ok-paths.ensures.tree ∙ c.loop-folder.invariant.tree;
-      files = c.in_ok-paths.ensures.files ∙ c.loop-folder.invariant.files;
-      children = c.in_ok-paths.ensures.children ∙ c.loop-folder.invariant.children;
-      runs = c.in_ok-paths.ensures.runs ∙ c.loop-folder.invariant.runs;
+      tree = c.in_ok-paths.ensures.frame.files ∙ c.loop-folder.invariant.tree;
+      files = c.in_ok-paths.ensures.frame.counts ∙ c.loop-folder.invariant.files;
+      children = c.in_ok-paths.ensures.frame.children ∙ c.loop-folder.invariant.children;
+      runs = c.in_ok-paths.ensures.frame.runs ∙ c.loop-folder.invariant.runs;
       misused = λ now h. c.loop-folder.invariant.misused now (rest_fits (λ (files : Tree) (folder : List ℕ). is_fit_folder folder files) c.folder-item.result later _ next _ _ c.loop-folder.invariant.tree _ _ now c.in_ok-paths.ensures.misused h);
       within = λ room h. within_more room c.args.folders.now c.loop-folder.folder-index c.folder-item.result c.loop-folder-test.true c.folder-item.is c.loop-folder.all c.in_ok-paths.paths _ c.in_ok-push.ensures.ok h c.in_ok-paths.ensures.within (c.loop-folder.invariant.within room h);
       left = subst P (sym c.in_ok-push.ensures.ok) (moves c.args.wanted c.folder-item.result later _ c.args.folders.now next c.loop-folder.all _ _ c.in_ok-paths.paths c.loop-folder.invariant.tree c.in_ok-paths.ensures.reads c.loop-folder.invariant.left);

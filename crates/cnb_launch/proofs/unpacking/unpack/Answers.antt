@@ -1,4 +1,4 @@
-use Rattle.std.proofs.Common.{◌∙◌, Bool, List, Ok, Err, subst, sym, true}
+use Rattle.std.proofs.Common.{◌∙◌, List, Ok, Err, subst, sym, true}
 use Rattle.std.specs.List.{list_all}
 use Rattle.std.specs.Prelude.{IsTrue}
 use Rattle.std.proofs.lemmas.Result.{err_from_is_err_and}
@@ -30,39 +30,39 @@ pub returns-in_err-absent-clause-steps : goal.returns-in_err-absent-clause-steps
 unfolding unpacks
 returns-in_err-absent-clause-steps g c =
     let exit = err_from_is_err_and c.from_residual-in_err-absent.result c.from_residual-in_err-absent.ensures.1 in
-    rw (exit.1, exit.2) (went _ _ _ _ _ _ _ (mapped _ _ _ _ _ c.in_ok-doc.ensures.step) (ended _ _ _ _ _ (mapped_fault _ _ _ _ _ (read_step g.W.World (λ files. true) _ _ _ _ c.in_err-absent.ensures.reads c.in_err-absent.ensures.tree c.in_err-absent.ensures.runs (allowed_by (λ files. true) (g.W.World.tree c.read_image.new.world) _ _ c.in_err-absent.ensures.misused)))))
+    rw (exit.1, exit.2) (went _ _ _ _ _ _ _ (mapped _ _ _ _ _ c.in_ok-doc.ensures.step) (ended _ _ _ _ _ (mapped_fault _ _ _ _ _ (read_step g.W.World (λ files. true) _ _ _ _ c.in_err-absent.ensures.reads c.in_err-absent.ensures.frame (allowed_by (λ files. true) (g.W.World.tree c.read_image.new.world) _ _ c.in_err-absent.ensures.misused)))))
 
 pub returns-in_err-if_absent-clause-steps : goal.returns-in_err-if_absent-clause-steps
 unfolding unpacks
 returns-in_err-if_absent-clause-steps g c =
     let exit = err_from_is_err_and c.from_residual-in_err-if_absent.result c.from_residual-in_err-if_absent.ensures.1 in
-    rw (exit.1, exit.2) (went _ _ _ _ _ _ _ (mapped _ _ _ _ _ c.in_ok-doc.ensures.step) (went _ _ _ _ _ _ _ (mapped _ _ _ _ _ (read_step g.W.World (λ files. true) _ _ _ _ c.in_ok-absent.ensures.reads c.in_ok-absent.ensures.tree c.in_ok-absent.ensures.runs (allowed_by (λ files. true) (g.W.World.tree c.read_image.new.world) _ _ c.in_ok-absent.ensures.misused))) (ended _ _ _ _ _ (given_fault _ _ _ _ c.in_err-if_absent.ensures.answer c.in_err-if_absent.ensures.given))))
+    rw (exit.1, exit.2) (went _ _ _ _ _ _ _ (mapped _ _ _ _ _ c.in_ok-doc.ensures.step) (went _ _ _ _ _ _ _ (mapped _ _ _ _ _ (read_step g.W.World (λ files. true) _ _ _ _ c.in_ok-absent.ensures.reads c.in_ok-absent.ensures.frame (allowed_by (λ files. true) (g.W.World.tree c.read_image.new.world) _ _ c.in_ok-absent.ensures.misused))) (ended _ _ _ _ _ (given_fault _ _ _ _ c.in_err-if_absent.ensures.answer c.in_err-if_absent.ensures.given))))
 
 pub returns-in_err-lay_rows-clause-steps : goal.returns-in_err-lay_rows-clause-steps
 unfolding unpacks
 returns-in_err-lay_rows-clause-steps g c =
     let exit = err_from_is_err_and c.from_residual-in_err-lay_rows.result c.from_residual-in_err-lay_rows.ensures.1 in
-    rw (exit.1, exit.2) (went _ _ _ _ _ _ _ (mapped _ _ _ _ _ c.in_ok-doc.ensures.step) (went _ _ _ _ _ _ _ (mapped _ _ _ _ _ (read_step g.W.World (λ files. true) _ _ _ _ c.in_ok-absent.ensures.reads c.in_ok-absent.ensures.tree c.in_ok-absent.ensures.runs (allowed_by (λ files. true) (g.W.World.tree c.read_image.new.world) _ _ c.in_ok-absent.ensures.misused))) (went _ _ _ _ _ _ _ (given _ _ _ _ c.in_ok-if_absent.ensures.answer) (ended _ _ _ _ _ (rows_as _ _ _ _ _ _ (Err _) c.as_slice.ensures c.in_err-lay_rows.ensures.step)))))
+    rw (exit.1, exit.2) (went _ _ _ _ _ _ _ (mapped _ _ _ _ _ c.in_ok-doc.ensures.step) (went _ _ _ _ _ _ _ (mapped _ _ _ _ _ (read_step g.W.World (λ files. true) _ _ _ _ c.in_ok-absent.ensures.reads c.in_ok-absent.ensures.frame (allowed_by (λ files. true) (g.W.World.tree c.read_image.new.world) _ _ c.in_ok-absent.ensures.misused))) (went _ _ _ _ _ _ _ (given _ _ _ _ c.in_ok-if_absent.ensures.answer) (ended _ _ _ _ _ (rows_as _ _ _ _ _ _ (Err _) c.as_slice.ensures c.in_err-lay_rows.ensures.step)))))
 
 pub returns-in_err-lay_launch-clause-steps : goal.returns-in_err-lay_launch-clause-steps
 unfolding unpacks
 returns-in_err-lay_launch-clause-steps g c =
     let exit = err_from_is_err_and c.from_residual-in_err-lay_launch.result c.from_residual-in_err-lay_launch.ensures.1 in
-    rw (exit.1, exit.2) (went _ _ _ _ _ _ _ (mapped _ _ _ _ _ c.in_ok-doc.ensures.step) (went _ _ _ _ _ _ _ (mapped _ _ _ _ _ (read_step g.W.World (λ files. true) _ _ _ _ c.in_ok-absent.ensures.reads c.in_ok-absent.ensures.tree c.in_ok-absent.ensures.runs (allowed_by (λ files. true) (g.W.World.tree c.read_image.new.world) _ _ c.in_ok-absent.ensures.misused))) (went _ _ _ _ _ _ _ (given _ _ _ _ c.in_ok-if_absent.ensures.answer) (went _ _ _ _ _ _ _ (rows_as _ _ _ _ _ _ (Ok _) c.as_slice.ensures c.in_ok-lay_rows.ensures.step) c.in_err-lay_launch.ensures.step))))
+    rw (exit.1, exit.2) (went _ _ _ _ _ _ _ (mapped _ _ _ _ _ c.in_ok-doc.ensures.step) (went _ _ _ _ _ _ _ (mapped _ _ _ _ _ (read_step g.W.World (λ files. true) _ _ _ _ c.in_ok-absent.ensures.reads c.in_ok-absent.ensures.frame (allowed_by (λ files. true) (g.W.World.tree c.read_image.new.world) _ _ c.in_ok-absent.ensures.misused))) (went _ _ _ _ _ _ _ (given _ _ _ _ c.in_ok-if_absent.ensures.answer) (went _ _ _ _ _ _ _ (rows_as _ _ _ _ _ _ (Ok _) c.as_slice.ensures c.in_ok-lay_rows.ensures.step) c.in_err-lay_launch.ensures.step))))
 
 pub returns-clause-steps : goal.returns-clause-steps
 unfolding unpacks
-returns-clause-steps g c = went _ _ _ _ _ _ _ (mapped _ _ _ _ _ c.in_ok-doc.ensures.step) (went _ _ _ _ _ _ _ (mapped _ _ _ _ _ (read_step g.W.World (λ files. true) _ _ _ _ c.in_ok-absent.ensures.reads c.in_ok-absent.ensures.tree c.in_ok-absent.ensures.runs (allowed_by (λ files. true) (g.W.World.tree c.read_image.new.world) _ _ c.in_ok-absent.ensures.misused))) (went _ _ _ _ _ _ _ (given _ _ _ _ c.in_ok-if_absent.ensures.answer) (went _ _ _ _ _ _ _ (rows_as _ _ _ _ _ _ (Ok _) c.as_slice.ensures c.in_ok-lay_rows.ensures.step) c.in_ok-lay_launch.ensures.step)))
+returns-clause-steps g c = went _ _ _ _ _ _ _ (mapped _ _ _ _ _ c.in_ok-doc.ensures.step) (went _ _ _ _ _ _ _ (mapped _ _ _ _ _ (read_step g.W.World (λ files. true) _ _ _ _ c.in_ok-absent.ensures.reads c.in_ok-absent.ensures.frame (allowed_by (λ files. true) (g.W.World.tree c.read_image.new.world) _ _ c.in_ok-absent.ensures.misused))) (went _ _ _ _ _ _ _ (given _ _ _ _ c.in_ok-if_absent.ensures.answer) (went _ _ _ _ _ _ _ (rows_as _ _ _ _ _ _ (Ok _) c.as_slice.ensures c.in_ok-lay_rows.ensures.step) c.in_ok-lay_launch.ensures.step)))
 
 pub returns-in_err-absent-clause-files : goal.returns-in_err-absent-clause-files
 returns-in_err-absent-clause-files g c =
     let exit = err_from_is_err_and c.from_residual-in_err-absent.result c.from_residual-in_err-absent.ensures.1 in
-    rw (exit.1, exit.2) (read_files Bool _ _ _ _ c.in_ok-doc.ensures.files c.in_err-absent.ensures.files)
+    rw (exit.1, exit.2) (read_files _ _ _ _ c.in_ok-doc.ensures.files c.in_err-absent.ensures.frame.counts)
 
 pub returns-in_err-if_absent-clause-files : goal.returns-in_err-if_absent-clause-files
 returns-in_err-if_absent-clause-files g c =
     let exit = err_from_is_err_and c.from_residual-in_err-if_absent.result c.from_residual-in_err-if_absent.ensures.1 in
-    rw (exit.1, exit.2) (given_files _ _ _ c.in_err-if_absent.ensures.given (c.in_ok-absent.ensures.files ∙ c.in_ok-doc.ensures.files))
+    rw (exit.1, exit.2) (given_files _ _ _ c.in_err-if_absent.ensures.given (c.in_ok-absent.ensures.frame.counts ∙ c.in_ok-doc.ensures.files))
 
 pub returns-in_err-doc-clause-cause : goal.returns-in_err-doc-clause-cause
 returns-in_err-doc-clause-cause g c =
