@@ -218,10 +218,10 @@ refused_save words image text old new fault (inl h) =
     refused_told (λ (s : Seen). s) _ Export _ (refused_told (λ (s : Seen). s) _ exporting.of_image_fault _ (refused_write words.store words.image image)) old.world new.world fault h.0
 refused_save words image text old new fault (inr (saved, mid, h, k)) = absurd k
 
-keeps_image_export : (words : CreateWords) (analyzed : Analyzed) (group : List GroupRow) → KeepsIn cached_world (image_document words) (exports_image words analyzed group)
+keeps_image_export : (words : CreateWords) (analyzed : Analyzed) (group : List GroupRow) → KeepsIn cached_world (image_document words) (exports_image true words analyzed group)
 unfolding exports_image
 keeps_image_export words analyzed group =
-    in_known cached_world (image_document words) exporting.cause_of (export_frame words) _ (keeps_exports (export_frame words) (image_document words) (free_of_trees words.store words.image) group analyzed)
+    in_known cached_world (image_document words) exporting.cause_of (export_frame words) _ (keeps_exports (export_frame words) (image_document words) (free_of_trees words.store words.image) true group analyzed)
 
 refused_leaving : (words : CreateWords) (phases : Phases) → KeepsRefused cached_world (image_document words) (leaves_image words phases)
 unfolding leaves_image

@@ -206,8 +206,8 @@ module _ (frame : ExportFrame) (path : List ℕ) (free : (digest : List ℕ) →
       (λ gathered. keeps_bind path _ _ (kept_trees _)
       (λ digests. keeps_bind path _ _ (keeps_gives path cause_of _) (λ image. keeps_bind path _ _ (keeps_gives path cause_of _) (λ rows. keeps_yields path _))))))
 
-  pub keeps_exports : (group : List GroupRow) (analyzed : Analyzed) → KeepsIn cached_world path (exports frame group analyzed)
+  pub keeps_exports : (readable : Bool) (group : List GroupRow) (analyzed : Analyzed) → KeepsIn cached_world path (exports readable frame group analyzed)
   unfolding exports
-  keeps_exports group analyzed =
+  keeps_exports readable group analyzed =
       in_bind cached_world path _ _ (cached_in_world path _ (kept_gained group analyzed))
       (λ gained. in_bind cached_world path _ _ (cached_in_caches path _) (λ gone. in_yields cached_world path _))

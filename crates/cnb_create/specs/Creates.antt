@@ -1,5 +1,5 @@
 -- What the command `create` does, in the order of its work (platform.md, "creator").
-use Rattle.std.specs.Prelude.{ℕ, List, length, Some, Result, Ok, unwrap_or}
+use Rattle.std.specs.Prelude.{ℕ, Bool, true, List, length, Some, Result, Ok, unwrap_or}
 use Rattle.cnb_build.specs.Builds.{builds}
 use Rattle.cnb_build.specs.Reading.{reads_files}
 use Rattle.cnb_build.specs.Refusals as building
@@ -84,16 +84,17 @@ builds_group words env choice = do
 abbrev pub export_frame : CreateWords → ExportFrame
 export_frame words = record { store = words.store; layers = words.layers; app = words.detect.app; launcher = words.launcher }
 
--- trees go into the store and the caches, and make the image
-unfoldable pub exports_image : CreateWords → Analyzed → List GroupRow → WorldAndCaches → Result Exported ExportFault → WorldAndCaches → Type 0
-exports_image words analyzed group = do
+-- trees go into the store and the caches, whose documents read as their rows where this is told, and make the image
+unfoldable pub exports_image : Bool → CreateWords → Analyzed → List GroupRow → WorldAndCaches → Result Exported ExportFault → WorldAndCaches → Type 0
+exports_image readable words analyzed group = do
   frame ← gives exporting.cause_of (Ok (export_frame words))
-  exports frame group analyzed
+  exports readable frame group analyzed
 
--- the image is exported, the text is made, and the image's document is written last, with bytes that read as the image
+-- the image is exported, with documents of the caches that read as their rows, the text is made, and the image's document is
+-- written last, with bytes that read as the image
 unfoldable pub leaves_image : CreateWords → Phases → WorldAndCaches → Result (List ℕ) CreateRefusal → WorldAndCaches → Type 0
 leaves_image words phases = do
-  exported ← map_err Export (exports_image words phases.analyzed phases.group)
+  exported ← map_err Export (exports_image true words phases.analyzed phases.group)
   text ← gives cause_of (Ok (created_text words.image phases exported))
   saved ← in_world (map_err Export (saves_readable_image words.store words.image exported.image))
   yields text

@@ -49,7 +49,7 @@ fn export_image<W: World>(
 ) -> Result<Exported, ExportFault>
     requires limits { KeepsLimits options.now }
     requires standing { AreStanding places.old (map (λ s. state_of (held s) (rows s) (faults s)) shelves.old.items) }
-    ensures steps { exports_image options.now phases.now.analyzed phases.now.group
+    ensures steps { exports_image (is_group_doc phases.now.group) options.now phases.now.analyzed phases.now.group
         (world_and_caches (seen W.World world.old)
         (caches_of (map (λ s. state_of (held s) (rows s) (faults s)) shelves.old.items) places.old)) result
         (world_and_caches (seen W.World world.new)

@@ -2,14 +2,19 @@
 use Rattle.std.proofs.Common.{◌≡◌, ap, subst, sym, ℕ, true, IsTrue, List, Option, Some, None, Result, Ok, Err}
 use Rattle.cnb_words.specs.declared.export.ExportWords.{ExportWords}
 use Rattle.image_docs.specs.Image.{is_image_doc}
+use Rattle.image_docs.specs.declared.analyzed.Analyzed.{Analyzed}
 use Rattle.image_docs.specs.declared.image.ImageDoc.{ImageDoc}
 use Rattle.image_files.proofs.ReadableLaws.{written_readable}
 use Rattle.run_docs.specs.Group.{group_in, is_group_doc}
 use Rattle.run_docs.specs.declared.group.GroupRow.{GroupRow}
+use Rattle.shelf_set.specs.Caches.{WorldAndCaches}
 use Rattle.steps.specs.Outside.{Seen}
 use Rattle.steps.specs.Steps.{◌>>=◌, gives, map_err, yields}
 use Rattle.cnb_export.specs.Command.{saves_image, saves_readable_image}
 use Rattle.cnb_export.specs.Given.{frame_of, needed_at, reads_given, reads_group, reads_needed}
+use Rattle.cnb_export.specs.Exports.{exports}
+use Rattle.cnb_export.specs.declared.exported.Exported.{Exported}
+use Rattle.cnb_export.specs.declared.exported.ExportFrame.{ExportFrame}
 use Rattle.cnb_export.specs.declared.fault.ExportFault.{ExportFault}
 use Rattle.cnb_export.specs.declared.given.ExportGiven.{ExportGiven}
 use Rattle.cnb_export.proofs.FormLaws.{group_readable, value_read}
@@ -20,6 +25,11 @@ pub saved_readable : (store name : List ℕ) (image : ImageDoc) (old : Seen) (re
 unfolding map_err
 saved_readable store name image old (Ok done) new readable h = written_readable store name image old (Ok done) new readable h
 saved_readable store name image old (Err refusal) new readable (fault, is, h) = (fault, is, written_readable store name image old (Err fault) new readable h)
+
+-- where no buildpack of the group stands twice, the caches' documents read as their rows
+pub exports_readable : (frame : ExportFrame) (group : List GroupRow) (analyzed : Analyzed) (old : WorldAndCaches) (result : Result Exported ExportFault) (new : WorldAndCaches) → is_group_doc group ≡ true
+    → exports (is_group_doc group) frame group analyzed old result new → exports true frame group analyzed old result new
+exports_readable frame group analyzed old result new distinct h = subst (λ readable. exports readable frame group analyzed old result new) distinct h
 
 needed_group : (path : List ℕ) (found : Option (List ℕ)) (group : List GroupRow) → needed_at group_in path found ≡ Ok group → is_group_doc group ≡ true
 needed_group path None group h = absurd (cc)

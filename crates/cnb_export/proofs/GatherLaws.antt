@@ -1,6 +1,6 @@
--- What a group left, gathered layer by layer, can be read again once it is an image's: no layer and no row of the store
--- stands twice, since no buildpack of a group does.
-use Rattle.std.proofs.Common.{◌≡◌, ◌∙◌, refl, sym, ap, subst, ℕ, Bool, true, false, not, ◌||◌, List, [], ◌∷◌, ◌++◌, map, Option, Some, None, Ok}
+-- What a group left, gathered layer by layer, can be read again once it is an image's or a cache's: no layer and no row of the
+-- store stands twice, since no buildpack of a group does.
+use Rattle.std.proofs.Common.{◌≡◌, ◌∙◌, refl, sym, ap, subst, ℕ, Bool, true, false, not, ◌&&◌, ◌||◌, List, [], ◌∷◌, ◌++◌, map, Option, Some, None, Ok}
 use Rattle.std.specs.List.{list_all, list_any}
 use Rattle.std.specs.Str.{bytes_eq}
 use Rattle.std.proofs.lemmas.Bool.{and_from, and_left, and_parts, and_right, false≢true, not-true, or_from, or_left, or_parts, or_right}
@@ -12,6 +12,7 @@ use Rattle.cnb_toml.specs.DistinctLaws.{bytes_eq-symmetric}
 use Rattle.cnb_toml.specs.Label.{is_label}
 use Rattle.cnb_toml.specs.Meta.{is_kept}
 use Rattle.cnb_toml.specs.Process.{is_process}
+use Rattle.image_docs.specs.CacheRows.{is_cache_doc}
 use Rattle.image_docs.specs.LayerRow.{are_layers, is_layer_row, layer_key, same_layer}
 use Rattle.image_docs.specs.LayerRowLaws.{same_layer-symmetric}
 use Rattle.image_docs.specs.StoreRow.{is_kept_row, is_store, store_id}
@@ -26,15 +27,16 @@ use Rattle.run_docs.specs.declared.store.StoreToml.{StoreToml}
 use Rattle.steps.specs.Each.{for_each}
 use Rattle.steps.specs.Outside.{Seen}
 use Rattle.steps.specs.Steps.{◌>>=◌, gives, yields}
+use Rattle.tree_canon.specs.declared.node.Node.{Node}
 use Rattle.cnb_export.specs.Buildpack.{exports_buildpack, exports_documents, exports_group, exports_layers, with_documents, with_store}
-use Rattle.cnb_export.specs.Gathering.{exports_layer, nothing_gathered, with_image, with_kept}
+use Rattle.cnb_export.specs.Gathering.{exports_layer, nothing_gathered, with_image, with_kept, with_row}
 use Rattle.cnb_export.specs.Image.{layer_of}
 use Rattle.cnb_export.specs.declared.exported.ExportFrame.{ExportFrame}
 use Rattle.cnb_export.specs.declared.exported.Gathered.{Gathered}
 use Rattle.cnb_export.specs.declared.exported.ImageLayer.{ImageLayer}
 use Rattle.cnb_export.specs.declared.settling.Kept.{Kept}
 use Rattle.cnb_export.proofs.DistinctLaws.{same_name}
-use Rattle.cnb_export.proofs.LeftLaws.{Keeps, is_store_left, launch_left, layer_exported, names_left, store_left}
+use Rattle.cnb_export.proofs.LeftLaws.{IsCached, Keeps, is_store_left, launch_left, layer_exported, names_left, store_left}
 
 -- ---- keys that no row has
 
@@ -49,74 +51,83 @@ itself : (a : List ℕ) (later : Bool) → (bytes_eq a a || later) ≡ true
 itself a later = or_left (bytes_eq a a) later ((bytes_eq-Decides a a).1 refl)
 
 -- whether one of the layers is this buildpack's
-abbrev pub has_owner : List ImageLayer → List ℕ → Bool
-has_owner layers id = list_any (λ (layer : ImageLayer). bytes_eq layer.row.id id) layers
+abbrev pub has_owner : List LayerRow → List ℕ → Bool
+has_owner rows id = list_any (λ (row : LayerRow). bytes_eq row.id id) rows
 
 -- whether this layer of this buildpack is one of them
-abbrev has_layer : List ImageLayer → List ℕ → List ℕ → Bool
-has_layer layers id name = has_key same_layer layer_key (map layer_of layers) (record { id = id; layer = name })
+abbrev has_layer : List LayerRow → List ℕ → List ℕ → Bool
+has_layer rows id name = has_key same_layer layer_key rows (record { id = id; layer = name })
 
-no_layers : (layers : List ImageLayer) (id name : List ℕ) → has_owner layers id ≡ false → has_layer layers id name ≡ false
+no_layers : (rows : List LayerRow) (id name : List ℕ) → has_owner rows id ≡ false → has_layer rows id name ≡ false
 no_layers [] id name h = refl
-no_layers (layer ∷ layers) id name h =
-    let parts = or_parts (bytes_eq layer.row.id id) (has_owner layers id) h in
-    or_from (same_layer (layer_key layer.row) (record { id = id; layer = name })) (has_layer layers id name)
-    (and_left (bytes_eq layer.row.id id) (bytes_eq layer.row.layer name) parts.0) (no_layers layers id name parts.1)
+no_layers (row ∷ rows) id name h =
+    let parts = or_parts (bytes_eq row.id id) (has_owner rows id) h in
+    or_from (same_layer (layer_key row) (record { id = id; layer = name })) (has_layer rows id name)
+    (and_left (bytes_eq row.id id) (bytes_eq row.layer name) parts.0) (no_layers rows id name parts.1)
 
--- ---- the layers of one buildpack
+-- ---- the layers of one buildpack, of an image or of a cache
 
--- layers that can be read, of which none has a name that is still to come, and none is of a buildpack that is still to come
-pub record AreApart (id : List ℕ) (names : List (List ℕ)) (rest : List GroupRow) (layers : List ImageLayer) : Type 0 where
-  pub sound : are_layers false (map layer_of layers) ≡ true
-  pub fresh : (name : List ℕ) → has_key bytes_eq same_name names name ≡ true → has_layer layers id name ≡ false
-  pub others : (other : List ℕ) → is_listed rest other ≡ true → has_owner layers other ≡ false
+-- rows that can be read, of which none has a name that is still to come, and none is of a buildpack that is still to come
+pub record AreApart (cached : Bool) (id : List ℕ) (names : List (List ℕ)) (rest : List GroupRow) (rows : List LayerRow) : Type 0 where
+  pub sound : are_layers cached rows ≡ true
+  pub fresh : (name : List ℕ) → has_key bytes_eq same_name names name ≡ true → has_layer rows id name ≡ false
+  pub others : (other : List ℕ) → is_listed rest other ≡ true → has_owner rows other ≡ false
 
 module _ (id : List ℕ) (rest : List GroupRow) (apart : (other : List ℕ) → is_listed rest other ≡ true → bytes_eq id other ≡ false) where
-  fewer : (name : List ℕ) (names : List (List ℕ)) (layers : List ImageLayer) → AreApart id (name ∷ names) rest layers → AreApart id names rest layers
-  fewer name names layers h = record { sound = h.sound; fresh = λ other listed. h.fresh other (or_right (bytes_eq name other) (has_key bytes_eq same_name names other) listed); others = h.others }
+  fewer : (cached : Bool) (name : List ℕ) (names : List (List ℕ)) (rows : List LayerRow) → AreApart cached id (name ∷ names) rest rows → AreApart cached id names rest rows
+  fewer cached name names rows h = record { sound = h.sound; fresh = λ other listed. h.fresh other (or_right (bytes_eq name other) (has_key bytes_eq same_name names other) listed); others = h.others }
 
   module _ (name : List ℕ) (names : List (List ℕ)) (new : has_key bytes_eq same_name names name ≡ false) where
-    with_one : (layers : List ImageLayer) (row : LayerRow) (reused : Bool) → AreApart id (name ∷ names) rest layers → row.id ≡ id → row.layer ≡ name → is_kept row.meta ≡ true
-        → AreApart id names rest (layers ++ record { row = row; reused = reused } ∷ [])
-    with_one layers row reused h e f kept =
-        let none : has_key same_layer layer_key (map layer_of layers) (layer_key row) ≡ false =
-        ap (λ i. has_layer layers i row.layer) e ∙ ap (has_layer layers id) f ∙ h.fresh name (itself name (has_key bytes_eq same_name names name)) in
+    with_one : (cached : Bool) (rows : List LayerRow) (row : LayerRow) → AreApart cached id (name ∷ names) rest rows → row.id ≡ id → row.layer ≡ name → is_layer_row cached row ≡ true → AreApart cached id names rest (rows ++ row ∷ [])
+    with_one cached rows row h e f kept =
+        let none : has_key same_layer layer_key rows (layer_key row) ≡ false =
+        ap (λ i. has_layer rows i row.layer) e ∙ ap (has_layer rows id) f ∙ h.fresh name (itself name (has_key bytes_eq same_name names name)) in
         record {
-          sound =
-              ap (are_layers false) (map-append layer_of layers (record { row = row; reused = reused } ∷ []))
-              ∙ longer same_layer layer_key same_layer-symmetric (is_layer_row false) (map layer_of layers) row h.sound (and_from (is_layer_row false row) (is_new same_layer layer_key (map layer_of layers) row) kept (ap not none));
+          sound = longer same_layer layer_key same_layer-symmetric (is_layer_row cached) rows row h.sound (and_from (is_layer_row cached row) (is_new same_layer layer_key rows row) kept (ap not none));
           fresh = λ other listed.
-              ap (λ rows. has_key same_layer layer_key rows (record { id = id; layer = other })) (map-append layer_of layers (record { row = row; reused = reused } ∷ []))
-              ∙ list_any-append (λ (r : LayerRow). same_layer (layer_key r) (record { id = id; layer = other })) (map layer_of layers) (row ∷ [])
-              ∙ or_from (has_layer layers id other) (same_layer (layer_key row) (record { id = id; layer = other }) || false)
+              list_any-append (λ (r : LayerRow). same_layer (layer_key r) (record { id = id; layer = other })) rows (row ∷ [])
+              ∙ or_from (has_layer rows id other) (same_layer (layer_key row) (record { id = id; layer = other }) || false)
               (h.fresh other (or_right (bytes_eq name other) (has_key bytes_eq same_name names other) listed))
               (or_from (same_layer (layer_key row) (record { id = id; layer = other })) false
               (and_right (bytes_eq row.id id) (bytes_eq row.layer other) (ap (λ l. bytes_eq l other) f ∙ other_key same_name names name other new listed)) refl);
           others = λ other listed.
-              list_any-append (λ (layer : ImageLayer). bytes_eq layer.row.id other) layers (record { row = row; reused = reused } ∷ [])
-              ∙ or_from (has_owner layers other) (bytes_eq row.id other || false) (h.others other listed)
+              list_any-append (λ (r : LayerRow). bytes_eq r.id other) rows (row ∷ [])
+              ∙ or_from (has_owner rows other) (bytes_eq row.id other || false) (h.others other listed)
               (or_from (bytes_eq row.id other) false (ap (λ i. bytes_eq i other) e ∙ apart other listed) refl);
         }
 
-    with_reused : (layers : List ImageLayer) (row : LayerRow) (reused : Option Bool) → AreApart id (name ∷ names) rest layers → row.id ≡ id → row.layer ≡ name → is_kept row.meta ≡ true → AreApart id names rest (with_image layers row reused)
-    with_reused layers row None h e f kept = fewer name names layers h
-    with_reused layers row (Some reused) h e f kept = with_one layers row reused h e f kept
+    with_reused : (layers : List ImageLayer) (row : LayerRow) (reused : Option Bool) → AreApart false id (name ∷ names) rest (map layer_of layers) → row.id ≡ id → row.layer ≡ name → is_kept row.meta ≡ true
+        → AreApart false id names rest (map layer_of (with_image layers row reused))
+    with_reused layers row None h e f kept = fewer false name names (map layer_of layers) h
+    with_reused layers row (Some reused) h e f kept =
+        subst (AreApart false id names rest) (sym (map-append layer_of layers (record { row = row; reused = reused } ∷ []))) (with_one false (map layer_of layers) row h e f kept)
 
-    after_one : (gathered : Gathered) (kept : Option Kept) → AreApart id (name ∷ names) rest gathered.layers → Keeps id name kept → AreApart id names rest (with_kept gathered kept).layers
-    after_one gathered None h k = fewer name names gathered.layers h
-    after_one gathered (Some kept) h k = with_reused gathered.layers kept.row kept.reused h k.of_buildpack k.of_layer k.meta
+    with_cached : (rows : List LayerRow) (row : LayerRow) (tree : Option Node) → AreApart true id (name ∷ names) rest rows → row.id ≡ id → row.layer ≡ name → IsCached row tree → is_kept row.meta ≡ true
+        → AreApart true id names rest (with_row rows row tree)
+    with_cached rows row None h e f cached kept = fewer true name names rows h
+    with_cached rows row (Some tree) h e f cached kept =
+        with_one true rows row h e f (and_from (not (true && not row.flags.cache)) (is_kept row.meta) (ap (λ cache. not (true && not cache)) cached) kept)
+
+    image_after : (gathered : Gathered) (kept : Option Kept) → AreApart false id (name ∷ names) rest (map layer_of gathered.layers) → Keeps id name kept → AreApart false id names rest (map layer_of (with_kept gathered kept).layers)
+    image_after gathered None h k = fewer false name names (map layer_of gathered.layers) h
+    image_after gathered (Some kept) h k = with_reused gathered.layers kept.row kept.reused h k.of_buildpack k.of_layer k.meta
+
+    cached_after : (gathered : Gathered) (kept : Option Kept) → AreApart true id (name ∷ names) rest gathered.cached → Keeps id name kept → AreApart true id names rest (with_kept gathered kept).cached
+    cached_after gathered None h k = fewer true name names gathered.cached h
+    cached_after gathered (Some kept) h k = with_cached gathered.cached kept.row kept.tree h k.of_buildpack k.of_layer k.cached k.meta
 
   -- only the layers are others
   pub record After (start all : Gathered) (names : List (List ℕ)) : Type 0 where
     pub labels : all.labels ≡ start.labels
     pub processes : all.processes ≡ start.processes
     pub store : all.store ≡ start.store
-    pub layers : AreApart id names rest all.layers
+    pub layers : AreApart false id names rest (map layer_of all.layers)
+    pub cached : AreApart true id names rest all.cached
 
   kept_after : (start gathered : Gathered) (kept : Option Kept) (names : List (List ℕ)) → gathered.labels ≡ start.labels → gathered.processes ≡ start.processes → gathered.store ≡ start.store
-      → AreApart id names rest (with_kept gathered kept).layers → After start (with_kept gathered kept) names
-  kept_after start gathered None names a b c d = record { labels = a; processes = b; store = c; layers = d }
-  kept_after start gathered (Some kept) names a b c d = record { labels = a; processes = b; store = c; layers = d }
+      → AreApart false id names rest (map layer_of (with_kept gathered kept).layers) → AreApart true id names rest (with_kept gathered kept).cached → After start (with_kept gathered kept) names
+  kept_after start gathered None names a b c d e = record { labels = a; processes = b; store = c; layers = d; cached = e }
+  kept_after start gathered (Some kept) names a b c d e = record { labels = a; processes = b; store = c; layers = d; cached = e }
 
   layers_after : (store : List ℕ) (previous : List LayerRow) (folder : List ℕ) (names : List (List ℕ)) (start gathered all : Gathered) (old new : Seen) → are_distinct bytes_eq same_name names ≡ true
       → After start gathered names → for_each (exports_layer store previous id folder) names gathered old (Ok all) new → After start all []
@@ -126,7 +137,7 @@ module _ (id : List ℕ) (rest : List GroupRow) (apart : (other : List ℕ) → 
       let parts = and_parts (not (has_key bytes_eq same_name names name)) (are_distinct bytes_eq same_name names) distinct in
       let fresh = not-true (has_key bytes_eq same_name names name) parts.0 in
       let (kept, k, is) = layer_exported store previous id folder name gathered more old mid one in
-      let after : After start (with_kept gathered kept) names = kept_after start gathered kept names h.labels h.processes h.store (after_one name names fresh gathered kept h.layers k) in
+      let after : After start (with_kept gathered kept) names = kept_after start gathered kept names h.labels h.processes h.store (image_after name names fresh gathered kept h.layers k) (cached_after name names fresh gathered kept h.cached k) in
       layers_after store previous folder names start more all mid new parts.1 (subst (λ g. After start g names) (sym is) after) later
 
 -- ---- the documents of one buildpack
@@ -137,8 +148,10 @@ pub record Gathers (rest : List GroupRow) (gathered : Gathered) : Type 0 where
   pub processes : list_all is_process gathered.processes ≡ true
   pub store : is_store gathered.store ≡ true
   pub layers : are_layers false (map layer_of gathered.layers) ≡ true
+  pub cached : is_cache_doc gathered.cached ≡ true
   pub stores : (other : List ℕ) → is_listed rest other ≡ true → has_key bytes_eq store_id gathered.store other ≡ false
-  pub owners : (other : List ℕ) → is_listed rest other ≡ true → has_owner gathered.layers other ≡ false
+  pub owners : (other : List ℕ) → is_listed rest other ≡ true → has_owner (map layer_of gathered.layers) other ≡ false
+  pub cached_owners : (other : List ℕ) → is_listed rest other ≡ true → has_owner gathered.cached other ≡ false
 
 module _ (row : GroupRow) (rest : List GroupRow) (new : is_listed rest row.key.id ≡ false) where
   apart_from : (other : List ℕ) → is_listed rest other ≡ true → bytes_eq row.key.id other ≡ false
@@ -168,8 +181,10 @@ module _ (row : GroupRow) (rest : List GroupRow) (new : is_listed rest row.key.i
         processes = list_all-append is_process gathered.processes launch.processes ∙ and_from (list_all is_process gathered.processes) (list_all is_process launch.processes) h.processes parts.1;
         store = store_sound gathered.store store h.store (h.stores row.key.id (itself row.key.id (is_listed rest row.key.id))) left;
         layers = h.layers;
+        cached = h.cached;
         stores = λ other listed. store_apart gathered.store store other (h.stores other (later_listed other listed)) (apart_from other listed);
         owners = λ other listed. h.owners other (later_listed other listed);
+        cached_owners = λ other listed. h.cached_owners other (later_listed other listed);
       }
 
   layers_gather : (start all : Gathered) → Gathers rest start → After row.key.id rest apart_from start all [] → Gathers rest all
@@ -178,20 +193,29 @@ module _ (row : GroupRow) (rest : List GroupRow) (new : is_listed rest row.key.i
     processes = ap (list_all is_process) after.processes ∙ h.processes;
     store = ap is_store after.store ∙ h.store;
     layers = after.layers.sound;
+    cached = after.cached.sound;
     stores = λ other listed. ap (λ rows. has_key bytes_eq store_id rows other) after.store ∙ h.stores other listed;
     owners = after.layers.others;
+    cached_owners = after.cached.others;
   }
 
-  start_after : (gathered documents : Gathered) (names : List (List ℕ)) → documents.layers ≡ gathered.layers → Gathers (row ∷ rest) gathered → Gathers rest documents → After row.key.id rest apart_from documents documents names
-  start_after gathered documents names same before h = record {
+  start_after : (gathered documents : Gathered) (names : List (List ℕ)) → documents.layers ≡ gathered.layers → documents.cached ≡ gathered.cached → Gathers (row ∷ rest) gathered → Gathers rest documents
+      → After row.key.id rest apart_from documents documents names
+  start_after gathered documents names same same_cached before h = record {
     labels = refl;
     processes = refl;
     store = refl;
     layers = record {
       sound = h.layers;
-      fresh = λ name listed. no_layers documents.layers row.key.id name
-          (ap (λ layers. has_owner layers row.key.id) same ∙ before.owners row.key.id (itself row.key.id (is_listed rest row.key.id)));
+      fresh = λ name listed. no_layers (map layer_of documents.layers) row.key.id name
+          (ap (λ layers. has_owner (map layer_of layers) row.key.id) same ∙ before.owners row.key.id (itself row.key.id (is_listed rest row.key.id)));
       others = h.owners;
+    };
+    cached = record {
+      sound = h.cached;
+      fresh = λ name listed. no_layers documents.cached row.key.id name
+          (ap (λ rows. has_owner rows row.key.id) same_cached ∙ before.cached_owners row.key.id (itself row.key.id (is_listed rest row.key.id)));
+      others = h.cached_owners;
     };
   }
 
@@ -200,7 +224,7 @@ module _ (row : GroupRow) (rest : List GroupRow) (new : is_listed rest row.key.i
   buildpack_gathers frame previous gathered all old new h (folder, m1, at, (documents, m2, (launch, m3, rl, (store, m4, rs, (same, is, cause))), (names, m5, listed, layers))) =
       let e : with_documents gathered row.key.id launch store ≡ documents = cc in
       let read : Gathers rest documents = subst (Gathers rest) e (documents_gather gathered launch store h (launch_left folder row.key.id m1 m3 launch rl) (store_left folder m3 m4 store rs)) in
-      let start : After row.key.id rest apart_from documents documents names = start_after gathered documents names (ap (λ (g : Gathered). g.layers) (sym e)) h read in
+      let start : After row.key.id rest apart_from documents documents names = start_after gathered documents names (ap (λ (g : Gathered). g.layers) (sym e)) (ap (λ (g : Gathered). g.cached) (sym e)) h read in
       layers_gather documents all read
       (layers_after row.key.id rest apart_from frame.store previous folder names documents documents all m5 new (names_left folder m2 m5 names listed) start layers)
 
@@ -217,4 +241,4 @@ each_gathers frame previous (row ∷ rest) gathered all old new distinct h (more
 
 pub group_gathers : (frame : ExportFrame) (previous : List LayerRow) (group : List GroupRow) (all : Gathered) (old new : Seen) → is_group_doc group ≡ true → exports_group frame previous group old (Ok all) new → Gathers [] all
 group_gathers frame previous group all old new distinct h =
-    each_gathers frame previous group nothing_gathered all old new distinct (record { labels = refl; processes = refl; store = refl; layers = refl; stores = λ other listed. refl; owners = λ other listed. refl }) h
+    each_gathers frame previous group nothing_gathered all old new distinct (record { labels = refl; processes = refl; store = refl; layers = refl; cached = refl; stores = λ other listed. refl; owners = λ other listed. refl; cached_owners = λ other listed. refl }) h

@@ -16,16 +16,18 @@ use Rattle.run_docs.specs.declared.layer.LayerDoc.{LayerDoc}
 use Rattle.run_docs.specs.declared.store.StoreToml.{StoreToml}
 use Rattle.steps.specs.Outside.{Seen}
 use Rattle.steps.specs.Steps.{◌>>=◌, gives, yields}
+use Rattle.tree_canon.specs.declared.node.Node.{Node}
 use Rattle.cnb_export.specs.Buildpack.{defaults_of, one_default, reads_launch, reads_store}
 use Rattle.cnb_export.specs.Gathering.{exports_found, exports_layer, exports_some, with_kept}
 use Rattle.cnb_export.specs.Layer.{finds_contents, finds_layer, finds_some, reads_layer, takes_found}
 use Rattle.layer_paths.specs.Names.{layers_among, stem_of}
 use Rattle.cnb_export.specs.Names.{reads_layer_names}
 use Rattle.cnb_export.specs.Reading.{reads_as, reads_some}
-use Rattle.cnb_export.specs.Settling.{decision_of, digest_of_contents, digest_or, kept_of, reuses, row_of, settles_by}
+use Rattle.cnb_export.specs.Settling.{decision_of, digest_of_contents, digest_or, kept_of, kept_tree, reuses, row_of, settles_by}
 use Rattle.cnb_export.specs.declared.exported.Gathered.{Gathered}
 use Rattle.cnb_export.specs.declared.fault.ExportFault.TheVariants.{TwoDefaults}
 use Rattle.cnb_export.specs.declared.layer.FoundLayer.{FoundLayer}
+use Rattle.cnb_export.specs.declared.layer.LayerTree.{LayerTree}
 use Rattle.cnb_export.specs.declared.settling.Kept.{Kept}
 use Rattle.std.specs.List.{filter_map}
 use Rattle.cnb_export.proofs.DistinctLaws.{ascending_distinct, same_name}
@@ -89,18 +91,28 @@ unfolding finds_layer ◌>>=◌
 layer_left store folder layer old new found (document, m1, at, (doc, m2, read, contents)) =
     contents_left store folder layer doc m2 new found (doc_left document m1 m2 doc read) contents
 
+-- a layer whose tree is kept is one that is cached
+abbrev pub IsCached : LayerRow → Option Node → Type 0
+IsCached row tree = IfSome tree (λ _. row.flags.cache ≡ true)
+
 -- a row of this layer, with metadata that can be read
 pub record IsKeptLayer (id layer : List ℕ) (kept : Kept) : Type 0 where
   pub of_buildpack : kept.row.id ≡ id
   pub of_layer : kept.row.layer ≡ layer
   pub meta : is_kept kept.row.meta ≡ true
+  pub cached : IsCached kept.row kept.tree
 
 abbrev pub Keeps : List ℕ → List ℕ → Option Kept → Type 0
 Keeps id layer kept = IfSome kept (IsKeptLayer id layer)
 
+tree_cached : (cache : Bool) (contents : Option LayerTree) → IfSome (kept_tree cache contents) (λ _. cache ≡ true)
+tree_cached true None = tt
+tree_cached true (Some contents) = refl
+tree_cached false contents = tt
+
 kept_is : (id layer : List ℕ) (found : FoundLayer) (reused : Option Bool) (digest : Option (List ℕ)) (kept : Option Kept) → is_kept found.meta ≡ true → kept_of id layer found reused digest ≡ kept → Keeps id layer kept
 kept_is id layer found reused None kept meta e = subst (Keeps id layer) e tt
-kept_is id layer found reused (Some digest) kept meta e = subst (Keeps id layer) e (record { of_buildpack = refl; of_layer = refl; meta = meta })
+kept_is id layer found reused (Some digest) kept meta e = subst (Keeps id layer) e (record { of_buildpack = refl; of_layer = refl; meta = meta; cached = tree_cached found.flags.cache found.contents })
 
 settled : (row : ExportRow) (store id layer : List ℕ) (found : FoundLayer) (before : Option LayerRow) (old new : Seen) (kept : Option Kept) → is_kept found.meta ≡ true
     → settles_by row store id layer found before old (Ok kept) new → Keeps id layer kept

@@ -1,5 +1,5 @@
 -- What the command `export` does, in the order of its work (platform.md, "exporter").
-use Rattle.std.specs.Prelude.{ℕ, List, Result, Ok}
+use Rattle.std.specs.Prelude.{ℕ, true, List, Result, Ok}
 use Rattle.cnb_words.specs.declared.export.ExportWords.{ExportWords}
 use Rattle.image_docs.specs.declared.image.ImageDoc.{ImageDoc}
 use Rattle.image_files.specs.Images.{writes_image, writes_readable_image}
@@ -22,12 +22,12 @@ saves_image store name image = map_err of_image_fault (writes_image store name i
 abbrev pub saves_readable_image : List ℕ → List ℕ → ImageDoc → Seen → Result (Unit {0}) ExportFault → Seen → Type 0
 saves_readable_image store name image = map_err of_image_fault (writes_readable_image store name image)
 
--- The group and what was analyzed are read, the image is exported, the text is made, and the image's document is written last,
--- with bytes that read as the image.
+-- The group and what was analyzed are read, the image is exported, with documents of the caches that read as their rows, the
+-- text is made, and the image's document is written last, with bytes that read as the image.
 unfoldable pub exports_command : ExportWords → WorldAndCaches → Result (List ℕ) ExportRefusal → WorldAndCaches → Type 0
 exports_command words = do
   given ← in_world (reads_given words)
-  exported ← map_err Fault (exports given.frame given.group given.analyzed)
+  exported ← map_err Fault (exports true given.frame given.group given.analyzed)
   text ← gives refusal_cause (Ok (exported_text words.image exported))
   saved ← in_world (map_err Fault (saves_readable_image words.store words.image exported.image))
   yields text

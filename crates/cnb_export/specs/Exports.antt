@@ -1,5 +1,5 @@
 -- The export of an image, in the order of work (platform.md, "exporter").
-use Rattle.std.specs.Prelude.{List, map, Result, Ok}
+use Rattle.std.specs.Prelude.{Bool, List, map, Result, Ok}
 use Rattle.image_docs.specs.declared.analyzed.Analyzed.{Analyzed}
 use Rattle.run_docs.specs.declared.group.GroupRow.{GroupRow}
 use Rattle.shelf_set.specs.Caches.{WorldAndCaches, in_caches, in_world}
@@ -33,9 +33,9 @@ gains frame group analyzed = do
   rows ← gives cause_of (Ok (map exported_row gathered.layers))
   yields (record { image = image; rows = rows; cached = gathered.cached; trees = gathered.trees })
 
--- At last the layers that go into caches are stored.
-unfoldable pub exports : ExportFrame → List GroupRow → Analyzed → WorldAndCaches → Result Exported ExportFault → WorldAndCaches → Type 0
-exports frame group analyzed = do
+-- At last the layers that go into caches are stored, with documents that read as their rows where this is told.
+unfoldable pub exports : Bool → ExportFrame → List GroupRow → Analyzed → WorldAndCaches → Result Exported ExportFault → WorldAndCaches → Type 0
+exports readable frame group analyzed = do
   gained ← in_world (gains frame group analyzed)
-  gone ← in_caches (stores_rows cause_of gained.cached gained.trees)
+  gone ← in_caches (stores_rows cause_of readable gained.cached gained.trees)
   yields (record { image = gained.image; rows = gained.rows; gone = gone })

@@ -1,5 +1,6 @@
 // The export of an image.
 ghost use Rattle.std.specs.Prelude.{◌≡◌, IfOk, IsTrue, map};
+ghost use Rattle.image_docs.specs.CacheRows.{is_cache_doc};
 ghost use Rattle.image_docs.specs.Image.{is_image_doc};
 ghost use Rattle.run_docs.specs.Group.{is_group_doc};
 ghost use Rattle.shelf_set.specs.Caches.{caches_of, world_and_caches};
@@ -58,6 +59,7 @@ fn gain<W: World>(
     requires { KeepsLimits frame.now }
     ensures step { gains frame.now group.now analyzed.now (seen W.World world.old) result (seen W.World world.new) }
     ensures readable { IsTrue (is_group_doc group.now) → IfOk result (λ gained. IsTrue (is_image_doc gained.image)) }
+    ensures cacheable { IsTrue (is_group_doc group.now) → IfOk result (λ gained. IsTrue (is_cache_doc gained.cached)) }
     ensures matched { IfOk result (λ gained. map digest_of_row gained.cached ≡ map digest_of_tree gained.trees) }
     ensures files { CountsFiles cause_of result (W.file_faults world.old) (W.file_faults world.new) }
     ensures children { CountsChildren cause_of result (W.child_faults world.old) (W.child_faults world.new) }
@@ -91,7 +93,7 @@ pub fn export<W: World>(
     requires limits { KeepsLimits frame.now }
     requires standing { AreStanding places.old
         (map (λ s. state_of (held s) (rows s) (faults s)) shelves.old.items) }
-    ensures steps { exports frame.now group.now analyzed.now
+    ensures steps { exports (is_group_doc group.now) frame.now group.now analyzed.now
         (world_and_caches (seen W.World world.old)
         (caches_of (map (λ s. state_of (held s) (rows s) (faults s)) shelves.old.items) places.old))
         result

@@ -5,8 +5,8 @@ use Rattle.cnb_create.proofs.building.read_files.Goals as goal
 pub returns-in_err-files-clause-step : goal.returns-in_err-files-clause-step
 returns-in_err-files-clause-step g c =
     let exit = err_from_is_err_and c.from_residual.result c.from_residual.ensures.1 in
-    rw (exit.1, exit.2) (read_refused g.W.World _ _ c.in_err-files.field-0.0 _ _ c.in_err-files.ensures.reads c.in_err-files.ensures.tree c.in_err-files.ensures.runs c.in_err-files.ensures.misused)
+    rw (exit.1, exit.2) (read_refused g.W.World _ _ c.in_err-files.field-0.0 _ _ c.in_err-files.ensures.reads c.in_err-files.ensures.frame c.in_err-files.ensures.misused)
 
 pub returns-clause-step : goal.returns-clause-step
 returns-clause-step g c =
-    (read_done g.W.World _ _ c.in_ok-files.files _ _ c.in_ok-files.ensures.reads c.in_ok-files.ensures.tree c.in_ok-files.ensures.runs c.in_ok-files.ensures.misused)
+    (read_done g.W.World _ _ c.in_ok-files.files _ _ c.in_ok-files.ensures.reads c.in_ok-files.ensures.frame c.in_ok-files.ensures.misused)

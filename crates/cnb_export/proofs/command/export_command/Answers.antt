@@ -9,7 +9,7 @@ use Rattle.cnb_export.specs.declared.refusal.ExportRefusal.{ExportRefusal}
 use Rattle.cnb_export.specs.declared.refusal.ExportRefusal.TheVariants.{Fault}
 use Rattle.cnb_export.specs.Command.{exports_command}
 use Rattle.cnb_export.specs.Refusals.{cause_of}
-use Rattle.cnb_export.proofs.CommandLaws.{given_distinct, saved_readable}
+use Rattle.cnb_export.proofs.CommandLaws.{exports_readable, given_distinct, saved_readable}
 use Rattle.cnb_export.proofs.StandLaws.{exported_stands}
 use Rattle.cnb_export.proofs.command.export_command.Goals as goal
 
@@ -23,24 +23,24 @@ pub returns-in_err-exported-clause-steps : goal.returns-in_err-exported-clause-s
 unfolding exports_command
 returns-in_err-exported-clause-steps g c =
     let exit = err_from_is_err_and c.from_residual-in_err-exported.result c.from_residual-in_err-exported.ensures.1 in
-    rw (exit.1, exit.2) (went _ _ _ _ _ _ _ (within _ _ _ _ _ c.in_ok-given.ensures.step) (ended _ _ _ _ _ (mapped_fault Fault _ _ _ c.in_err-exported.field-0.0 c.in_err-exported.ensures.steps)))
+    rw (exit.1, exit.2) (went _ _ _ _ _ _ _ (within _ _ _ _ _ c.in_ok-given.ensures.step) (ended _ _ _ _ _ (mapped_fault Fault _ _ _ c.in_err-exported.field-0.0 (exports_readable _ _ _ _ _ _ (given_distinct _ _ _ _ c.in_ok-given.ensures.step) c.in_err-exported.ensures.steps))))
 
 pub returns-in_err-text-clause-steps : goal.returns-in_err-text-clause-steps
 unfolding exports_command
 returns-in_err-text-clause-steps g c =
     let exit = err_from_is_err_and c.from_residual-in_err-text.result c.from_residual-in_err-text.ensures.1 in
-    rw (exit.1, exit.2) (went _ _ _ _ _ _ _ (within _ _ _ _ _ c.in_ok-given.ensures.step) (went _ _ _ _ _ _ _ (mapped Fault _ _ _ _ c.in_ok-exported.ensures.steps) (ended _ _ _ _ _ (no_memory _ _ _ (Fault (Store stored.Memory)) refl))))
+    rw (exit.1, exit.2) (went _ _ _ _ _ _ _ (within _ _ _ _ _ c.in_ok-given.ensures.step) (went _ _ _ _ _ _ _ (mapped Fault _ _ _ _ (exports_readable _ _ _ _ _ _ (given_distinct _ _ _ _ c.in_ok-given.ensures.step) c.in_ok-exported.ensures.steps)) (ended _ _ _ _ _ (no_memory _ _ _ (Fault (Store stored.Memory)) refl))))
 
 pub returns-in_err-save_image-clause-steps : goal.returns-in_err-save_image-clause-steps
 unfolding exports_command
 returns-in_err-save_image-clause-steps g c =
     let exit = err_from_is_err_and c.from_residual-in_err-save_image.result c.from_residual-in_err-save_image.ensures.1 in
-    rw (exit.1, exit.2) (went _ _ _ _ _ _ _ (within _ _ _ _ _ c.in_ok-given.ensures.step) (went _ _ _ _ _ _ _ (mapped Fault _ _ _ _ c.in_ok-exported.ensures.steps) (went _ _ _ _ _ _ _ (given _ _ _ _ (ap Ok (sym c.in_ok-text.ensures))) (ended _ _ _ _ _ (within _ _ _ _ _ (mapped_fault Fault _ _ _ c.in_err-save_image.field-0.0 (saved_readable _ _ _ _ _ _ (c.in_ok-exported.ensures.readable (given_distinct _ _ _ _ c.in_ok-given.ensures.step)) c.in_err-save_image.ensures.step)))))))
+    rw (exit.1, exit.2) (went _ _ _ _ _ _ _ (within _ _ _ _ _ c.in_ok-given.ensures.step) (went _ _ _ _ _ _ _ (mapped Fault _ _ _ _ (exports_readable _ _ _ _ _ _ (given_distinct _ _ _ _ c.in_ok-given.ensures.step) c.in_ok-exported.ensures.steps)) (went _ _ _ _ _ _ _ (given _ _ _ _ (ap Ok (sym c.in_ok-text.ensures))) (ended _ _ _ _ _ (within _ _ _ _ _ (mapped_fault Fault _ _ _ c.in_err-save_image.field-0.0 (saved_readable _ _ _ _ _ _ (c.in_ok-exported.ensures.readable (given_distinct _ _ _ _ c.in_ok-given.ensures.step)) c.in_err-save_image.ensures.step)))))))
 
 pub returns-clause-steps : goal.returns-clause-steps
 unfolding exports_command
 returns-clause-steps g c =
-    went _ _ _ _ _ _ _ (within _ _ _ _ _ c.in_ok-given.ensures.step) (went _ _ _ _ _ _ _ (mapped Fault _ _ _ _ c.in_ok-exported.ensures.steps) (went _ _ _ _ _ _ _ (given _ _ _ _ (ap Ok (sym c.in_ok-text.ensures))) (went _ _ _ _ _ _ _ (within _ _ _ _ _ (mapped Fault _ _ _ _ (saved_readable _ _ _ _ _ _ (c.in_ok-exported.ensures.readable (given_distinct _ _ _ _ c.in_ok-given.ensures.step)) c.in_ok-save_image.ensures.step))) (yielded ExportRefusal _ _))))
+    went _ _ _ _ _ _ _ (within _ _ _ _ _ c.in_ok-given.ensures.step) (went _ _ _ _ _ _ _ (mapped Fault _ _ _ _ (exports_readable _ _ _ _ _ _ (given_distinct _ _ _ _ c.in_ok-given.ensures.step) c.in_ok-exported.ensures.steps)) (went _ _ _ _ _ _ _ (given _ _ _ _ (ap Ok (sym c.in_ok-text.ensures))) (went _ _ _ _ _ _ _ (within _ _ _ _ _ (mapped Fault _ _ _ _ (saved_readable _ _ _ _ _ _ (c.in_ok-exported.ensures.readable (given_distinct _ _ _ _ c.in_ok-given.ensures.step)) c.in_ok-save_image.ensures.step))) (yielded ExportRefusal _ _))))
 
 pub returns-in_err-text-clause-files : goal.returns-in_err-text-clause-files
 returns-in_err-text-clause-files g c =

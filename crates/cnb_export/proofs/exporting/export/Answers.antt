@@ -4,6 +4,7 @@ use Rattle.steps.proofs.StepLemmas.{ended, went, yielded}
 use Rattle.tree_store.specs.declared.fault.StoreFault.TheVariants as stored
 use Rattle.cnb_export.specs.declared.fault.ExportFault.{ExportFault}
 use Rattle.cnb_export.specs.declared.fault.ExportFault.TheVariants.{Store}
+use Rattle.run_docs.specs.Group.{is_group_doc}
 use Rattle.cnb_export.specs.Exports.{exports}
 use Rattle.shelf_set.proofs.CacheLemmas.{within, within_caches}
 use Rattle.cnb_export.proofs.ExportSteps.{rows_refused, rows_stored}
@@ -19,9 +20,9 @@ pub returns-in_err-gone-clause-steps : goal.returns-in_err-gone-clause-steps
 unfolding exports
 returns-in_err-gone-clause-steps g c =
     let exit = err_from_is_err_and c.from_residual-in_err-gone.result c.from_residual-in_err-gone.ensures.1 in
-    rw (exit.1, exit.2) (went _ _ _ _ _ _ _ (within _ _ _ _ _ c.in_ok-gained.ensures.step) (ended _ _ _ _ _ (within_caches _ _ _ _ _ (rows_refused _ _ _ _ _ _ _ (Store stored.Memory) refl c.in_err-gone.ensures.memory))))
+    rw (exit.1, exit.2) (went _ _ _ _ _ _ _ (within _ _ _ _ _ c.in_ok-gained.ensures.step) (ended _ _ _ _ _ (within_caches _ _ _ _ _ (rows_refused _ (is_group_doc c.args.group.now) _ _ _ _ _ _ (Store stored.Memory) refl c.in_ok-gained.ensures.cacheable c.in_err-gone.ensures.memory))))
 
 pub returns-clause-steps : goal.returns-clause-steps
 unfolding exports
 returns-clause-steps g c =
-    went _ _ _ _ _ _ _ (within _ _ _ _ _ c.in_ok-gained.ensures.step) (went _ _ _ _ _ _ _ (within_caches _ _ _ _ _ (rows_stored _ _ _ _ _ _ _ _ c.in_ok-gone.ensures.stores)) (yielded ExportFault _ _))
+    went _ _ _ _ _ _ _ (within _ _ _ _ _ c.in_ok-gained.ensures.step) (went _ _ _ _ _ _ _ (within_caches _ _ _ _ _ (rows_stored _ (is_group_doc c.args.group.now) _ _ _ _ _ _ _ c.in_ok-gained.ensures.cacheable c.in_ok-gone.ensures.stores)) (yielded ExportFault _ _))

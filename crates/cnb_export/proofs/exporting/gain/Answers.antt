@@ -71,3 +71,6 @@ returns-clause-readable g c = λ distinct.
     subst (λ (image : ImageDoc). IsTrue (is_image_doc image)) (sym c.in_ok-image.ensures.image)
     (image_readable c.args.analyzed.now.run c.in_ok-run.run' c.args.group.now c.in_ok-gathered.gathered c.in_ok-digests.digests c.in_ok-run.ensures.readable
     (group_gathers _ _ _ _ _ _ (ap is_group_doc c.as_slice-2.ensures ∙ distinct) c.in_ok-gathered.ensures.step) c.in_ok-image.ensures.placed c.in_ok-image.ensures.started)
+
+pub returns-clause-cacheable : goal.returns-clause-cacheable
+returns-clause-cacheable g c = λ distinct. (group_gathers _ _ _ _ _ _ (ap is_group_doc c.as_slice-2.ensures ∙ distinct) c.in_ok-gathered.ensures.step).cached

@@ -1,13 +1,14 @@
 use Rattle.std.proofs.lemmas.Result.{err_from_is_err_and}
-use Rattle.steps.proofs.StepLemmas.{}
-use Rattle.cnb_export.proofs.ReadSteps.{read_done, read_refused}
+use Rattle.image_files.proofs.ToldReads.{files_read, files_refused}
+use Rattle.cnb_export.specs.Refusals.{cause_of, of_read_fault}
+use Rattle.cnb_export.proofs.ReadSteps.{same_cause}
 use Rattle.cnb_export.proofs.names.list.Goals as goal
 
 pub returns-in_err-names-clause-step : goal.returns-in_err-names-clause-step
 returns-in_err-names-clause-step g c =
     let exit = err_from_is_err_and c.from_residual.result c.from_residual.ensures.1 in
-    rw (exit.1, exit.2) ((read_refused g.W.World _ _ c.in_err-names.field-0.0 _ _ c.in_err-names.ensures.reads c.in_err-names.ensures.tree c.in_err-names.ensures.runs c.in_err-names.ensures.misused))
+    rw (exit.1, exit.2) (files_refused cause_of of_read_fault same_cause _ _ c.in_err-names.field-0.0 c.in_err-names.ensures.reads c.in_err-names.ensures.frame c.in_err-names.ensures.misused)
 
 pub returns-clause-step : goal.returns-clause-step
 returns-clause-step g c =
-    (read_done g.W.World _ _ c.in_ok-names.names _ _ c.in_ok-names.ensures.reads c.in_ok-names.ensures.tree c.in_ok-names.ensures.runs c.in_ok-names.ensures.misused)
+    files_read cause_of of_read_fault same_cause _ _ c.in_ok-names.names c.in_ok-names.ensures.reads c.in_ok-names.ensures.frame c.in_ok-names.ensures.misused

@@ -1,13 +1,14 @@
 use Rattle.std.proofs.lemmas.Result.{err_from_is_err_and}
-use Rattle.steps.proofs.StepLemmas.{}
-use Rattle.cnb_export.proofs.ReadSteps.{read_done, read_refused}
+use Rattle.image_files.proofs.ToldReads.{files_read, files_refused}
+use Rattle.cnb_export.specs.Refusals.{cause_of, of_read_fault}
+use Rattle.cnb_export.proofs.ReadSteps.{same_cause}
 use Rattle.cnb_export.proofs.reading.read_document.Goals as goal
 
 pub returns-in_err-found-clause-step : goal.returns-in_err-found-clause-step
 returns-in_err-found-clause-step g c =
     let exit = err_from_is_err_and c.from_residual.result c.from_residual.ensures.1 in
-    rw (exit.1, exit.2) ((read_refused g.W.World _ _ c.in_err-found.field-0.0 _ _ c.in_err-found.ensures.reads c.in_err-found.ensures.tree c.in_err-found.ensures.runs c.in_err-found.ensures.misused))
+    rw (exit.1, exit.2) (files_refused cause_of of_read_fault same_cause _ _ c.in_err-found.field-0.0 c.in_err-found.ensures.reads c.in_err-found.ensures.frame c.in_err-found.ensures.misused)
 
 pub returns-clause-step : goal.returns-clause-step
 returns-clause-step g c =
-    (read_done g.W.World _ _ c.in_ok-found.found _ _ c.in_ok-found.ensures.reads c.in_ok-found.ensures.tree c.in_ok-found.ensures.runs c.in_ok-found.ensures.misused)
+    files_read cause_of of_read_fault same_cause _ _ c.in_ok-found.found c.in_ok-found.ensures.reads c.in_ok-found.ensures.frame c.in_ok-found.ensures.misused
