@@ -1,11 +1,13 @@
 pub mod AscendingLemmas
 pub mod CommandLaws
+pub mod DecidedLaws
 pub mod DistinctLaws
 pub mod ExportSteps
 pub mod FormLaws
 pub mod GatherLaws
 pub mod ImageLaws
 pub mod LeftLaws
+pub mod OneImageLaws
 pub mod PlaceLaws
 pub mod ReadSteps
 pub mod StandLaws

@@ -9,6 +9,7 @@ pub mod Image
 pub mod Images
 pub mod Layer
 pub mod Names
+pub mod OneImage
 pub mod Processes
 pub mod Reading
 pub mod Refusals

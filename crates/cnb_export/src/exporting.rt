@@ -11,6 +11,7 @@ ghost use Rattle.steps.specs.Causes.{CountsChildren, CountsFiles};
 ghost use Rattle.steps.specs.Outside.{seen};
 ghost use Rattle.cnb_export.specs.Exports.{exported_row, exports, gains};
 ghost use Rattle.cnb_export.specs.Frame.{KeepsLimits};
+ghost use Rattle.cnb_export.specs.OneImage.{IsOneImage};
 ghost use Rattle.cnb_export.specs.Refusals.{cause_of};
 
 use crate::buildpack::export_group;
@@ -99,6 +100,7 @@ pub fn export<W: World>(
         result
         (world_and_caches (seen W.World world.new)
         (caches_of (map (λ s. state_of (held s) (rows s) (faults s)) shelves.new.items) places.new)) }
+    ensures one_image { IsOneImage (is_group_doc group.now) frame.now group.now analyzed.now (W.tree world.old) result }
     ensures readable { IsTrue (is_group_doc group.now) → IfOk result (λ exported. IsTrue (is_image_doc exported.image)) }
     ensures again { AreStanding places.new (map (λ s. state_of (held s) (rows s) (faults s)) shelves.new.items) }
     ensures files { CountsFiles cause_of result (W.file_faults world.old) (W.file_faults world.new) }

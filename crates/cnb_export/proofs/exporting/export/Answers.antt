@@ -8,6 +8,7 @@ use Rattle.run_docs.specs.Group.{is_group_doc}
 use Rattle.cnb_export.specs.Exports.{exports}
 use Rattle.shelf_set.proofs.CacheLemmas.{within, within_caches}
 use Rattle.cnb_export.proofs.ExportSteps.{rows_refused, rows_stored}
+use Rattle.cnb_export.proofs.OneImageLaws.{one_image}
 use Rattle.cnb_export.proofs.exporting.export.Goals as goal
 
 pub returns-in_err-gained-clause-steps : goal.returns-in_err-gained-clause-steps
@@ -26,3 +27,12 @@ pub returns-clause-steps : goal.returns-clause-steps
 unfolding exports
 returns-clause-steps g c =
     went _ _ _ _ _ _ _ (within _ _ _ _ _ c.in_ok-gained.ensures.step) (went _ _ _ _ _ _ _ (within_caches _ _ _ _ _ (rows_stored _ (is_group_doc c.args.group.now) _ _ _ _ _ _ _ c.in_ok-gained.ensures.cacheable c.in_ok-gone.ensures.stores)) (yielded ExportFault _ _))
+
+pub returns-in_err-gained-clause-one_image : goal.returns-in_err-gained-clause-one_image
+returns-in_err-gained-clause-one_image g c = one_image _ _ _ _ _ _ _ (returns-in_err-gained-clause-steps g c)
+
+pub returns-in_err-gone-clause-one_image : goal.returns-in_err-gone-clause-one_image
+returns-in_err-gone-clause-one_image g c = one_image _ _ _ _ _ _ _ (returns-in_err-gone-clause-steps g c)
+
+pub returns-clause-one_image : goal.returns-clause-one_image
+returns-clause-one_image g c = one_image _ _ _ _ _ _ _ (returns-clause-steps g c)

@@ -1,0 +1,268 @@
+-- The files alone decide what an export makes: each of its steps is decided by them.
+use Rattle.std.proofs.Common.{◌≡◌, ◌∙◌, refl, sym, ap, subst, ℕ, Bool, true, false, ◌&&◌, ◌||◌, List, [], ◌∷◌, Option, Some, None, Result, Ok, Err, inl, inr, ◌⊎◌}
+use Rattle.cnb_toml.specs.declared.fault.DocFault.{DocFault}
+use Rattle.cnb_toml.specs.declared.process.Process.{Process}
+use Rattle.cnb_world.specs.Tree.{Tree}
+use Rattle.image_docs.specs.declared.analyzed.Analyzed.{Analyzed}
+use Rattle.image_docs.specs.declared.layer_row.LayerRow.{LayerRow}
+use Rattle.image_files.specs.Faults as images
+use Rattle.image_files.specs.Images.{reads_image, reads_run_image}
+use Rattle.image_files.specs.declared.fault.ImageFault.{ImageFault}
+use Rattle.image_files.specs.declared.fault.ImageFault.TheVariants as image
+use Rattle.layer_flags.specs.declared.export.ExportRow.{ExportRow}
+use Rattle.layer_flags.specs.declared.export.ExportRow.TheVariants as table
+use Rattle.layer_paths.specs.Names.{layers_among}
+use Rattle.cnb_env.specs.Files.{is_absent}
+use Rattle.run_docs.specs.Launch.{launch_in}
+use Rattle.run_docs.specs.Store.{store_in}
+use Rattle.run_docs.specs.declared.group.GroupRow.{GroupRow}
+use Rattle.run_docs.specs.declared.layer.LayerDoc.{LayerDoc}
+use Rattle.shelf_set.specs.Caches.{WorldAndCaches, in_caches, in_world}
+use Rattle.shelf_set.specs.Caching.{stores_rows}
+use Rattle.steps.specs.Causes.{Cause, OutOfMemory, WhereDecided}
+use Rattle.steps.specs.Outside.{Seen}
+use Rattle.steps.specs.Steps.{◌>>=◌, map_err, yields}
+use Rattle.tree_canon.specs.declared.node.Node.{Node}
+use Rattle.tree_store.specs.Answers as stored
+use Rattle.tree_store.specs.Steps.{looks_for_tree}
+use Rattle.tree_store.specs.declared.fault.StoreFault.{StoreFault}
+use Rattle.cnb_export.specs.Buildpack.{exports_buildpack, exports_documents, exports_layers, one_default, reads_launch, reads_store}
+use Rattle.cnb_export.specs.Exports.{exports, gains}
+use Rattle.cnb_export.specs.Gathering.{exports_found, exports_layer, exports_some, nothing_gathered}
+use Rattle.cnb_export.specs.Images.{reads_layers, reads_previous}
+use Rattle.cnb_export.specs.Layer.{finds_contents, finds_layer, finds_some, keeps_tree, looks_for_contents, reads_layer, some_of, takes_found, takes_if, takes_tree, there_by}
+use Rattle.cnb_export.specs.Names.{lists_unless, reads_layer_names, reads_names}
+use Rattle.cnb_export.specs.OneImage.{AreOneImage, IsOneImage}
+use Rattle.cnb_export.specs.Reading.{reads_as, reads_some}
+use Rattle.cnb_export.specs.Refusals.{cause_of, of_image_fault}
+use Rattle.cnb_export.specs.Settling.{checks_reused, decision_of, looks_for_stored, reuses, row_of, settles_by}
+use Rattle.cnb_export.specs.Trees.{puts_links, puts_process, puts_trees}
+use Rattle.cnb_export.specs.declared.exported.Exported.{Exported}
+use Rattle.cnb_export.specs.declared.exported.ExportFrame.{ExportFrame}
+use Rattle.cnb_export.specs.declared.exported.Gathered.{Gathered}
+use Rattle.cnb_export.specs.declared.exporting.Gained.{Gained}
+use Rattle.cnb_export.specs.declared.fault.ExportFault.{ExportFault}
+use Rattle.cnb_export.specs.declared.fault.ExportFault.TheVariants.{Store}
+use Rattle.cnb_export.specs.declared.layer.FoundLayer.{FoundLayer}
+use Rattle.cnb_export.specs.declared.layer.LayerTree.{LayerTree}
+use Rattle.cnb_export.proofs.DecidedLaws.{AreDecided, always, decided_bind, decided_each, decided_gives, decided_puts, decided_puts_folder, decided_reads, decided_reads_tree, decided_told, decided_yields}
+
+-- ---- refusals that are told as an export's
+
+stored_cause : (fault : StoreFault) → cause_of (Store fault) ≡ stored.cause_of fault
+stored_cause fault = refl
+
+image_cause : (fault : ImageFault) → cause_of (of_image_fault fault) ≡ images.cause_of fault
+image_cause (image.NoImage name) = refl
+image_cause (image.Document path fault) = refl
+image_cause (image.Limit kind) = refl
+image_cause (image.File path) = refl
+image_cause image.Memory = refl
+
+of_store : {A : Type 0} (step : Seen → Result A StoreFault → Seen → Type 0) → AreDecided stored.cause_of step → AreDecided cause_of (map_err Store step)
+of_store step h = decided_told stored.cause_of cause_of Store step stored_cause h
+
+of_image : {A : Type 0} (step : Seen → Result A ImageFault → Seen → Type 0) → AreDecided images.cause_of step → AreDecided cause_of (map_err of_image_fault step)
+of_image step h = decided_told images.cause_of cause_of of_image_fault step image_cause h
+
+-- ---- what only reads
+
+one_as : {A : Type 0} (form : List ℕ → Result A DocFault) (at : List ℕ) → AreDecided cause_of (reads_as form at)
+unfolding reads_as
+one_as form at = decided_bind cause_of _ _ (decided_reads cause_of _ _) (λ found. decided_gives cause_of _)
+
+one_some : {A : Type 0} (form : List ℕ → Result A DocFault) (at : List ℕ) → AreDecided cause_of (reads_some form at)
+unfolding reads_some
+one_some form at = decided_bind cause_of _ _ (decided_reads cause_of _ _) (λ found. decided_gives cause_of _)
+
+one_run : (store name : List ℕ) → AreDecided images.cause_of (reads_run_image store name)
+unfolding reads_run_image
+one_run store name = decided_reads images.cause_of _ _
+
+one_document : (store name : List ℕ) → AreDecided images.cause_of (reads_image store name)
+unfolding reads_image
+one_document store name = decided_reads images.cause_of _ _
+
+one_rows : (store name : List ℕ) → AreDecided cause_of (reads_layers store name)
+unfolding reads_layers
+one_rows store name = decided_bind cause_of _ _ (of_image _ (one_document store name)) (λ image. decided_yields cause_of image.layers)
+
+one_previous : (store : List ℕ) (name : Option (List ℕ)) → AreDecided cause_of (reads_previous store name)
+one_previous store None = decided_yields cause_of _
+one_previous store (Some name) = one_rows store name
+
+one_launch : (folder id : List ℕ) → AreDecided cause_of (reads_launch folder id)
+unfolding reads_launch
+one_launch folder id = decided_bind cause_of _ _ (decided_gives cause_of _) (λ at. decided_bind cause_of _ _ (one_as launch_in at) (λ launch. decided_gives cause_of (one_default id launch)))
+
+one_store : (folder : List ℕ) → AreDecided cause_of (reads_store folder)
+unfolding reads_store
+one_store folder = decided_bind cause_of _ _ (decided_gives cause_of _) (λ at. one_some store_in at)
+
+one_listing : (absent : Bool) (folder : List ℕ) → AreDecided cause_of (lists_unless absent folder)
+one_listing true folder = decided_yields cause_of _
+one_listing false folder = decided_reads cause_of _ _
+
+one_names : (folder : List ℕ) → AreDecided cause_of (reads_names folder)
+unfolding reads_names
+one_names folder = decided_bind cause_of _ _ (decided_reads cause_of _ _) (λ kind. one_listing (is_absent kind) folder)
+
+one_layer_names : (folder : List ℕ) → AreDecided cause_of (reads_layer_names folder)
+unfolding reads_layer_names
+one_layer_names folder = decided_bind cause_of _ _ (one_names folder) (λ names. decided_gives cause_of (Ok (layers_among names)))
+
+one_layer_document : (at : List ℕ) → AreDecided cause_of (reads_layer at)
+unfolding reads_layer
+one_layer_document at = decided_bind cause_of _ _ (decided_reads cause_of _ _) (λ found. decided_gives cause_of _)
+
+one_look : (at : List ℕ) → AreDecided cause_of (looks_for_contents at)
+unfolding looks_for_contents
+one_look at = decided_bind cause_of _ _ (decided_reads cause_of _ _) (λ kind. decided_gives cause_of (there_by at kind))
+
+one_tree_look : (store digest : List ℕ) → AreDecided stored.cause_of (looks_for_tree store digest)
+unfolding looks_for_tree
+one_tree_look store digest = decided_reads stored.cause_of _ _
+
+one_stored : (store digest : List ℕ) → AreDecided cause_of (looks_for_stored store digest)
+unfolding looks_for_stored
+one_stored store digest = decided_bind cause_of _ _ (of_store _ (one_tree_look store digest)) (λ stored. decided_gives cause_of _)
+
+one_check : (store : List ℕ) (contents : Option LayerTree) (before : Option LayerRow) → AreDecided cause_of (checks_reused store contents before)
+one_check store (Some contents) before = decided_yields cause_of tt
+one_check store None None = decided_yields cause_of tt
+one_check store None (Some row) = one_stored store row.digest
+
+-- ---- what puts trees too
+
+module _ (store : List ℕ) where
+  one_tree : (launch : Bool) (tree : Node) → AreDecided cause_of (keeps_tree store launch tree)
+  one_tree true tree = of_store _ (decided_puts store tree)
+  one_tree false tree = decided_gives cause_of _
+
+  one_taken : (launch : Bool) (at : List ℕ) → AreDecided cause_of (takes_tree store launch at)
+  unfolding takes_tree
+  one_taken launch at = decided_bind cause_of _ _ (of_store _ (decided_reads_tree at)) (λ tree. decided_bind cause_of _ _ (one_tree launch tree) (λ digest. decided_yields cause_of _))
+
+  one_if : (there launch : Bool) (at : List ℕ) → AreDecided cause_of (takes_if there store launch at)
+  unfolding some_of
+  one_if true launch at = decided_bind cause_of _ _ (one_taken launch at) (λ value. decided_yields cause_of (Some value))
+  one_if false launch at = decided_yields cause_of None
+
+  one_found : (at : List ℕ) (doc : LayerDoc) → AreDecided cause_of (takes_found store at doc)
+  unfolding takes_found
+  one_found at doc = decided_bind cause_of _ _ (one_look at) (λ there. decided_bind cause_of _ _ (one_if (there && (doc.launch || doc.cache)) doc.launch at) (λ contents. decided_yields cause_of _))
+
+  one_find : (folder layer : List ℕ) (doc : LayerDoc) → AreDecided cause_of (finds_some store folder layer doc)
+  unfolding finds_some
+  one_find folder layer doc = decided_bind cause_of _ _ (decided_gives cause_of _) (λ at. decided_bind cause_of _ _ (one_found at doc) (λ found. decided_yields cause_of (Some found)))
+
+  one_contents : (folder layer : List ℕ) (doc : Option LayerDoc) → AreDecided cause_of (finds_contents store folder layer doc)
+  one_contents folder layer None = decided_yields cause_of None
+  one_contents folder layer (Some doc) = one_find folder layer doc
+
+  one_layer : (folder layer : List ℕ) → AreDecided cause_of (finds_layer store folder layer)
+  unfolding finds_layer
+  one_layer folder layer = decided_bind cause_of _ _ (decided_gives cause_of _) (λ document. decided_bind cause_of _ _ (one_layer_document document) (λ doc. one_contents folder layer doc))
+
+  one_reuse : (id layer : List ℕ) (found : FoundLayer) (before : Option LayerRow) → AreDecided cause_of (reuses store id layer found before)
+  unfolding reuses
+  one_reuse id layer found before = decided_bind cause_of _ _ (one_check store _ before) (λ checked. decided_gives cause_of _)
+
+  one_settled : (line : ExportRow) (id layer : List ℕ) (found : FoundLayer) (before : Option LayerRow) → AreDecided cause_of (settles_by line store id layer found before)
+  one_settled table.Skip id layer found before = decided_gives cause_of _
+  one_settled table.Add id layer found before = decided_gives cause_of _
+  one_settled table.Reuse id layer found before = one_reuse id layer found before
+  one_settled table.NoContents id layer found before = decided_gives cause_of _
+  one_settled table.NoPrevious id layer found before = decided_gives cause_of _
+
+  one_exported : (previous : List LayerRow) (id layer : List ℕ) (gathered : Gathered) (found : FoundLayer) → AreDecided cause_of (exports_some store previous id layer gathered found)
+  unfolding exports_some
+  one_exported previous id layer gathered found =
+      decided_bind cause_of _ _ (one_settled (decision_of found (row_of previous id layer)) id layer found (row_of previous id layer)) (λ kept. decided_gives cause_of _)
+
+  one_export : (previous : List LayerRow) (id layer : List ℕ) (gathered : Gathered) (found : Option FoundLayer) → AreDecided cause_of (exports_found store previous id layer gathered found)
+  one_export previous id layer gathered None = decided_yields cause_of gathered
+  one_export previous id layer gathered (Some found) = one_exported previous id layer gathered found
+
+  one_of : (previous : List LayerRow) (id folder layer : List ℕ) (gathered : Gathered) → AreDecided cause_of (exports_layer store previous id folder layer gathered)
+  unfolding exports_layer
+  one_of previous id folder layer gathered = decided_bind cause_of _ _ (one_layer folder layer) (λ found. one_export previous id layer gathered found)
+
+  one_layers : (previous : List LayerRow) (id folder : List ℕ) (gathered : Gathered) → AreDecided cause_of (exports_layers store previous id folder gathered)
+  unfolding exports_layers
+  one_layers previous id folder gathered =
+      decided_bind cause_of _ _ (one_layer_names folder) (λ names. decided_each cause_of (exports_layer store previous id folder) names gathered (λ layer so_far. one_of previous id folder layer so_far))
+
+  one_links : (processes : List Process) → AreDecided cause_of (puts_links store processes)
+  unfolding puts_links
+  one_links processes = decided_bind cause_of _ _ (decided_gives cause_of _) (λ tree. decided_bind cause_of _ _ (of_store _ (decided_puts store tree)) (λ digest. decided_yields cause_of (Some digest)))
+
+  one_process : (processes : List Process) → AreDecided cause_of (puts_process store processes)
+  one_process [] = decided_yields cause_of None
+  one_process (process ∷ processes) = one_links (process ∷ processes)
+
+one_documents : (folder id : List ℕ) (gathered : Gathered) → AreDecided cause_of (exports_documents folder id gathered)
+unfolding exports_documents
+one_documents folder id gathered =
+    decided_bind cause_of _ _ (one_launch folder id) (λ launch. decided_bind cause_of _ _ (one_store folder) (λ store. decided_gives cause_of _))
+
+module _ (frame : ExportFrame) where
+  one_buildpack : (previous : List LayerRow) (row : GroupRow) (gathered : Gathered) → AreDecided cause_of (exports_buildpack frame previous row gathered)
+  unfolding exports_buildpack
+  one_buildpack previous row gathered =
+      decided_bind cause_of _ _ (decided_gives cause_of _)
+      (λ folder. decided_bind cause_of _ _ (one_documents folder row.key.id gathered) (λ documents. one_layers frame.store previous row.key.id folder documents))
+
+  one_trees : (processes : List Process) → AreDecided cause_of (puts_trees frame processes)
+  unfolding puts_trees
+  one_trees processes =
+      decided_bind cause_of _ _ (of_store _ (decided_puts_folder frame.store frame.app))
+      (λ app. decided_bind cause_of _ _ (of_store _ (decided_puts_folder frame.store frame.launcher))
+      (λ launcher. decided_bind cause_of _ _ (decided_gives cause_of _)
+      (λ last. decided_bind cause_of _ _ (one_process frame.store last) (λ process. decided_gives cause_of _))))
+
+  one_gain : (group : List GroupRow) (analyzed : Analyzed) → AreDecided cause_of (gains frame group analyzed)
+  unfolding gains
+  one_gain group analyzed =
+      decided_bind cause_of _ _ (of_image _ (one_run frame.store analyzed.run))
+      (λ run. decided_bind cause_of _ _ (one_previous frame.store analyzed.previous)
+      (λ previous. decided_bind cause_of _ _ (decided_each cause_of (exports_buildpack frame previous) group nothing_gathered (λ row so_far. one_buildpack previous row so_far))
+      (λ gathered. decided_bind cause_of _ _ (one_trees _)
+      (λ digests. decided_bind cause_of _ _ (decided_gives cause_of _) (λ image. decided_bind cause_of _ _ (decided_gives cause_of _) (λ rows. decided_yields cause_of _))))))
+
+-- ---- the whole export, in which caches have no say
+
+module _ (frame : ExportFrame) (group : List GroupRow) (analyzed : Analyzed) where
+  -- what was gained came to this end, or memory ran out while it was stored in caches
+  abbrev Came : WorldAndCaches → Result Exported ExportFault → Type 0
+  Came old (Ok exported) = (gained : Gained) × (mid : Seen) × gains frame group analyzed old.world (Ok gained) mid × (exported.image ≡ gained.image) × (exported.rows ≡ gained.rows)
+  Came old (Err fault) = ((mid : Seen) × gains frame group analyzed old.world (Err fault) mid) ⊎ (cause_of fault ≡ OutOfMemory)
+
+  came : (readable : Bool) (old new : WorldAndCaches) (result : Result Exported ExportFault) → exports readable frame group analyzed old result new → Came old result
+  unfolding exports ◌>>=◌ in_world in_caches stores_rows yields
+  came readable old new (Ok exported) (gained, mid, h, (gone, after, stored, made)) = (gained, mid.world, h.0, ap (λ e. e.image) made.0, ap (λ e. e.rows) made.0)
+  came readable old new (Err fault) (inl h) = inl (new.world, h.0)
+  came readable old new (Err fault) (inr (gained, mid, h, inl stored)) = inr stored.0.0
+  came readable old new (Err fault) (inr (gained, mid, h, inr (gone, after, stored, never))) = absurd never
+
+  where_memory : (cause : Cause) (P : Type 0) → cause ≡ OutOfMemory → WhereDecided cause P
+  where_memory cause P is = subst (λ c. WhereDecided c P) (sym is) tt
+
+  alike : (tree : Tree) (old old' : WorldAndCaches) (result other : Result Exported ExportFault) → old.world.files ≡ Some tree → old'.world.files ≡ Some tree → Came old result → Came old' other → AreOneImage result other
+  alike tree old old' (Ok one) (Ok other) is is' (gained, mid, h, image, rows) (gained', mid', h', image', rows') =
+      let same : gained' ≡ gained = (one_gain frame group analyzed tree old.world mid old'.world mid' (Ok gained) (Ok gained') is is' h h').0 in
+      (image' ∙ ap (λ g. g.image) same ∙ sym image, rows' ∙ ap (λ g. g.rows) same ∙ sym rows)
+  alike tree old old' (Ok one) (Err fault) is is' (gained, mid, h, image, rows) (inl (mid', h')) = one_gain frame group analyzed tree old.world mid old'.world mid' (Ok gained) (Err fault) is is' h h'
+  alike tree old old' (Ok one) (Err fault) is is' h (inr memory) = where_memory (cause_of fault) ⊥ memory
+  alike tree old old' (Err fault) (Ok other) is is' (inl (mid, h)) (gained', mid', h', image', rows') = one_gain frame group analyzed tree old.world mid old'.world mid' (Err fault) (Ok gained') is is' h h'
+  alike tree old old' (Err fault) (Ok other) is is' (inr memory) h' = where_memory (cause_of fault) ⊥ memory
+  alike tree old old' (Err fault) (Err other) is is' (inl (mid, h)) (inl (mid', h')) = one_gain frame group analyzed tree old.world mid old'.world mid' (Err fault) (Err other) is is' h h'
+  alike tree old old' (Err fault) (Err other) is is' (inr memory) h' = where_memory (cause_of fault) _ memory
+  alike tree old old' (Err fault) (Err other) is is' (inl h) (inr memory) = always (cause_of fault) _ (where_memory (cause_of other) _ memory)
+
+  pub one_image : (readable : Bool) (old new : WorldAndCaches) (result : Result Exported ExportFault) → exports readable frame group analyzed old result new → IsOneImage readable frame group analyzed old.world.files result
+  one_image readable old new result h = by old.world.files refl
+    where
+      by : (files : Option Tree) → old.world.files ≡ files → IsOneImage readable frame group analyzed files result
+      by None is = tt
+      by (Some tree) is = λ old' new' other is' h'. alike tree old old' result other is is' (came readable old new result h) (came readable old' new' other h')
