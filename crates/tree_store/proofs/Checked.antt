@@ -106,7 +106,7 @@ kept_checks (Some files) path digest len checking result short file taken ends =
 
 -- ---- the step
 
-got_some : (o : Option Tree) (path digest : List ℕ) → IfSome o (λ files. Checks digest (item_at files path) (Ok tt)) → (root : Node) × IfSome o (λ files. Gets digest (item_at files path) (Ok root))
+pub got_some : (o : Option Tree) (path digest : List ℕ) → IfSome o (λ files. Checks digest (item_at files path) (Ok tt)) → (root : Node) × IfSome o (λ files. Gets digest (item_at files path) (Ok root))
 got_some None path digest h = (Link [], tt)
 got_some (Some files) path digest h = (h.0, h.1)
 

@@ -1,8 +1,11 @@
 pub mod Nodes
+pub mod Ahead
 pub mod Around
 pub mod Blames
 pub mod CallSteps
+pub mod Cases
 pub mod Checked
+pub mod Contents
 pub mod Entries
 pub mod Feeding
 pub mod Fit
@@ -13,8 +16,10 @@ pub mod Overlays
 pub mod Places
 pub mod Pieces
 pub mod Puts
+pub mod Fields
 pub mod Right
 pub mod Roots
 pub mod Standing
+pub mod Stored
 pub mod StorePaths
 pub mod Ways

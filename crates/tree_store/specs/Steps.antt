@@ -1,5 +1,5 @@
 -- What each call does, as a step: from what is seen before, by an answer, to what is seen after.
-use Rattle.std.specs.Prelude.{[], ◌∷◌, ◌&&◌, ℕ, Bool, true, ◌≡◌, List, Result, Ok, Err, IfErr, IfSome, IsTrue}
+use Rattle.std.specs.Prelude.{[], ◌∷◌, ◌&&◌, ◌⊎◌, ℕ, Bool, true, ◌≡◌, List, Option, None, Result, Ok, Err, IfErr, IfSome, IsTrue}
 use Rattle.std.specs.Option.{option_map}
 use Rattle.sha2.specs.Sha256.{sha256}
 use Rattle.cnb_world.specs.Tree.{Tree, can_make_folder, item_at, is_file, is_file_or_absent, is_within}
@@ -93,6 +93,21 @@ lays_tree root place tree old (Ok done) new =
 lays_tree root place tree old (Err fault) new =
     IsCauseWithin root (cause_of fault) × LeavesAround root old new × Allows (can_lay root place tree) old new
 
--- a stored tree is laid at a place under a folder
+-- The same for a failed call on the file of a tree too; and, where the files are not told, because the file was changed since
+-- its bytes were judged.
+abbrev pub IsKeptCause : List ℕ → List ℕ → Option Tree → Cause → Type 0
+IsKeptCause root file files (FileFailed failed) = IsTrue (is_within root failed) ⊎ (failed ≡ file)
+IsKeptCause root file files ChildFailed = ⊥
+IsKeptCause root file files OutOfMemory = Unit {0}
+IsKeptCause root file files Decided = files ≡ None
+
+-- A tree that the store has is laid at a place under a folder. Where that is refused, a part of it may stand.
+unfoldable pub lays_kept : List ℕ → List ℕ → List ℕ → List ℕ → Node → Seen → Result (Unit {0}) StoreFault → Seen → Type 0
+lays_kept store digest root place tree old (Ok done) new =
+    (new.files ≡ option_map (tree_laid root place tree) old.files) × LeavesAround root old new × Allows (can_lay root place tree) old new
+lays_kept store digest root place tree old (Err fault) new =
+    IsKeptCause root (tree_path store digest) old.files (cause_of fault) × LeavesAround root old new × Allows (can_lay root place tree) old new
+
+-- a stored tree is read and judged, and then laid at a place under a folder
 unfoldable pub lays_stored : List ℕ → List ℕ → List ℕ → List ℕ → Seen → Result (Unit {0}) StoreFault → Seen → Type 0
-lays_stored store digest root place = gets_tree store digest >>= lays_tree root place
+lays_stored store digest root place = gets_tree store digest >>= lays_kept store digest root place

@@ -1,15 +1,19 @@
 // Folders that go into the store, and stored trees that are checked and laid.
-ghost use Rattle.std.specs.Prelude.{◌≡◌, ◌≤◌, length};
+ghost use Rattle.std.specs.Prelude.{◌≡◌, ◌≤◌, false, length};
+ghost use Rattle.cnb_world.specs.Tree.{is_within};
 ghost use Rattle.steps.specs.Causes.{CountsFiles};
 ghost use Rattle.steps.specs.Outside.{seen};
 ghost use Rattle.tree_store.specs.Answers.{cause_of};
 ghost use Rattle.tree_store.specs.Steps.{checks_tree, lays_stored, puts_folder};
+ghost use Rattle.tree_store.specs.Store.{tree_path};
 
 use crate::checking::check_file;
 use crate::fault::StoreFault;
+use crate::kept_bytes::KeptBytes;
 use crate::laying::write_tree;
+use crate::laying_kept::{is_within, lay_kept};
 use crate::reading::read_tree;
-use crate::store::{get, put};
+use crate::store::{get, put, tree_file};
 use cnb_world::{Path, World};
 use std::alloc::Global;
 use tree_canon::Digest;
@@ -49,8 +53,8 @@ pub fn check_tree<W: World>(
     check_file(alloc, world, store, digest)
 }
 
-/// Lays a stored tree at a place under a folder, as getting and then writing it do.
-pub fn lay_stored<W: World>(
+// Lays a stored tree as getting and then writing it do.
+fn lay_whole<W: World>(
     alloc: Global,
     world: &mut W,
     store: &Path,
@@ -69,4 +73,57 @@ pub fn lay_stored<W: World>(
     let tree = get(alloc, world, store, digest)?;
     write_tree(alloc, world, root, place, &tree)?;
     Ok(())
+}
+
+// Lays the tree of a file that isn't at the root or below it: the file is judged, and then read again.
+fn lay_judged<W: World>(
+    alloc: Global,
+    world: &mut W,
+    store: &Path,
+    digest: &Digest,
+    path: Path,
+    root: &Path,
+    place: &Path,
+) -> Result<(), StoreFault>
+    requires store { length store.now ≤ 8192 }
+    requires path { path ≡ tree_path store.now digest.now }
+    requires apart { is_within root.now path ≡ false }
+    requires root { length root.now ≤ 8192 }
+    requires place { length place.now ≤ 8192 }
+    ensures steps { lays_stored store.now digest.now root.now place.now
+        (seen W.World world.old) result (seen W.World world.new) }
+    ensures files { CountsFiles cause_of result (W.file_faults world.old) (W.file_faults world.new) }
+    ensures children { W.child_faults world.new ≡ W.child_faults world.old }
+{
+    check_file(alloc, world, store, digest)?;
+    let mut source = KeptBytes::new(alloc, path, digest);
+    lay_kept(alloc, world, &mut source, root, place)
+}
+
+/// Lays a stored tree at a place under a folder, by the rule of `write_tree`. The tree's file is read twice, in pieces of
+/// 65,536 bytes: it is judged as `check_tree` does, and then each node is laid as its bytes come. Nothing of the tree is
+/// kept but two pieces and the names on the way. Where the file stands at the root or below it, where laying could change
+/// it, the tree is got whole and then written.
+pub fn lay_stored<W: World>(
+    alloc: Global,
+    world: &mut W,
+    store: &Path,
+    digest: &Digest,
+    root: &Path,
+    place: &Path,
+) -> Result<(), StoreFault>
+    requires store { length store.now ≤ 8192 }
+    requires root { length root.now ≤ 8192 }
+    requires place { length place.now ≤ 8192 }
+    ensures steps { lays_stored store.now digest.now root.now place.now
+        (seen W.World world.old) result (seen W.World world.new) }
+    ensures files { CountsFiles cause_of result (W.file_faults world.old) (W.file_faults world.new) }
+    ensures children { W.child_faults world.new ≡ W.child_faults world.old }
+{
+    let path = tree_file(alloc, store, digest)?;
+    if is_within(root.as_str(), path.as_str()) {
+        lay_whole(alloc, world, store, digest, root, place)
+    } else {
+        lay_judged(alloc, world, store, digest, path, root, place)
+    }
 }

@@ -78,7 +78,7 @@ fn clear<W: World>(world: &mut W, path: &Path) -> Result<(), FileFault>
 
 // A file in place of what stands at a path.
 #[tactic(auto, using(crate::proofs::Laid::file_steps))]
-fn lay_file<W: World>(world: &mut W, path: &Path, exec: bool, bytes: &[u8]) -> Result<(), FileFault>
+pub(crate) fn lay_file<W: World>(world: &mut W, path: &Path, exec: bool, bytes: &[u8]) -> Result<(), FileFault>
     ensures ok { OnOk result (W.tree world.new ≡ option_map (node_laid (File exec bytes.now) path.now)
         (W.tree world.old)) }
     ensures placed { IfSome (W.tree world.old) (λ _. OnOk result (is_root path.now ≡ false)) }
@@ -95,7 +95,7 @@ fn lay_file<W: World>(world: &mut W, path: &Path, exec: bool, bytes: &[u8]) -> R
 
 // A link in place of what stands at a path.
 #[tactic(auto, using(crate::proofs::Laid::link_steps))]
-fn lay_link<W: World>(world: &mut W, path: &Path, target: &str) -> Result<(), FileFault>
+pub(crate) fn lay_link<W: World>(world: &mut W, path: &Path, target: &str) -> Result<(), FileFault>
     ensures ok { OnOk result (W.tree world.new ≡ option_map (node_laid (Link target.now) path.now) (W.tree world.old)) }
     ensures placed { IfSome (W.tree world.old) (λ _. OnOk result (is_root path.now ≡ false)) }
     ensures files { CountsFailed result (W.file_faults world.old) (W.file_faults world.new) }
@@ -145,7 +145,7 @@ fn lay_folder_over<W: World>(world: &mut W, path: &Path, kind: Kind) -> Result<(
 
 // A folder over what stands at a path.
 #[tactic(auto, using(crate::proofs::Around::looked_at, crate::proofs::Around::onward, crate::proofs::Laid::folder_steps))]
-fn lay_folder<W: World>(world: &mut W, path: &Path) -> Result<(), FileFault>
+pub(crate) fn lay_folder<W: World>(world: &mut W, path: &Path) -> Result<(), FileFault>
     ensures ok { OnOk result (W.tree world.new ≡ option_map (folder_laid path.now) (W.tree world.old)) }
     ensures files { CountsFailed result (W.file_faults world.old) (W.file_faults world.new) }
     ensures children { W.child_faults world.new ≡ W.child_faults world.old }
@@ -246,7 +246,7 @@ fn lay_entry<W: World>(
 }
 
 // The first part of a way, and the way behind it.
-fn next_part(way: &str) -> Option<(&str, &str)>
+pub(crate) fn next_part(way: &str) -> Option<(&str, &str)>
     ensures parts { MatchOption result (way_parts way.now ≡ way.now ∷ [])
         (λ cut. way_parts way.now ≡ cut.0.now ∷ way_parts cut.1.now) }
     ensures lengths { IfSome result (λ cut. length cut.0.now + (1 + length cut.1.now) ≡ length way.now) }
@@ -292,7 +292,7 @@ fn lay_under<W: World>(
 }
 
 // The way to a place below a folder; none where the place is the folder.
-fn way_to(place: &Path) -> Option<&str>
+pub(crate) fn way_to(place: &Path) -> Option<&str>
     ensures parts { MatchOption result (parts_of place.now ≡ []) (λ way. parts_of place.now ≡ way_parts way.now) }
     ensures names { IsTrue (list_all is_part (parts_of place.now)) }
     ensures short { IfSome result (λ way. length way.now + 1 ≡ length place.now) }

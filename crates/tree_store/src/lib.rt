@@ -5,7 +5,9 @@ mod checking;
 mod fault;
 mod folders;
 mod judging;
+mod kept_bytes;
 mod laying;
+mod laying_kept;
 mod reading;
 mod store;
 

@@ -1,20 +1,8 @@
 use Rattle.std.proofs.lemmas.Result.{err_from_is_err_and}
-use Rattle.steps.proofs.StepLemmas.{ended, went}
-use Rattle.tree_store.specs.Steps.{lays_stored}
+use Rattle.tree_store.proofs.Stored.{no_path}
 use Rattle.tree_store.proofs.folders.lay_stored.Goals as goal
 
-pub returns-in_err-tree-clause-steps : goal.returns-in_err-tree-clause-steps
-unfolding lays_stored
-returns-in_err-tree-clause-steps g c =
+pub returns-in_err-path-clause-steps : goal.returns-in_err-path-clause-steps
+returns-in_err-path-clause-steps g c =
     let exit = err_from_is_err_and c.from_residual.result c.from_residual.ensures.1 in
-    rw (exit.1, exit.2) (ended _ _ _ _ _ c.in_err-tree.ensures.steps)
-
-pub returns-in_err-write_tree-clause-steps : goal.returns-in_err-write_tree-clause-steps
-unfolding lays_stored
-returns-in_err-write_tree-clause-steps g c =
-    let exit = err_from_is_err_and c.from_residual-in_err-write_tree.result c.from_residual-in_err-write_tree.ensures.1 in
-    rw (exit.1, exit.2) (went _ _ _ _ _ _ _ c.in_ok-tree.ensures.steps c.in_err-write_tree.ensures.steps)
-
-pub returns-clause-steps : goal.returns-clause-steps
-unfolding lays_stored
-returns-clause-steps g c = went _ _ _ _ _ _ _ c.in_ok-tree.ensures.steps c.in_ok-write_tree.ensures.steps
+    rw (exit.1, exit.2) (no_path g.W.World c.args.store.now c.args.digest.now c.args.root.now c.args.place.now c.args.world.now)

@@ -1,0 +1,45 @@
+use Rattle.std.proofs.Common.{◌≡◌, ◌∙◌, refl, ap, sym, false, true, []}
+use Rattle.std.proofs.lemmas.Bool.{and_parts}
+use Rattle.std.proofs.lemmas.Result.{err_from_is_err_and}
+use Rattle.std.specs.Prelude.{◌&&◌}
+use Rattle.cnb_world.specs.Tree.{is_within}
+use Rattle.tree_canon.specs.Names.{has_no_zero, is_target, is_text}
+use Rattle.tree_canon.specs.declared.node.Node.TheVariants.{Link}
+use Rattle.tree_store.specs.Laying.{node_laid}
+use Rattle.tree_store.specs.Right.{way_to}
+use Rattle.tree_store.proofs.Ahead.{does_called, lays_as, lays_behind, leaves_broken, leaves_laid, leaves_stop, leaves_then, lays_never, none_are, plain_path, reads_stop, told_plain}
+use Rattle.tree_store.proofs.laying_kept.lay_kept_link.Goals as goal
+
+text_of : (target : _) → is_target target ≡ true → is_text 4096 target ≡ true
+text_of target is = (and_parts (is_text 4096 target) (has_no_zero target) is).0
+
+pub returns-in_err-target-clause-leaves : goal.returns-in_err-target-clause-leaves
+returns-in_err-target-clause-leaves g c =
+    let exit = err_from_is_err_and c.from_residual.result c.from_residual.ensures.1 in
+    rw (exit.1, exit.2) (leaves_stop c.args.path.now _ _ _ _ _ (c.in_err-target.ensures.leaves c.args.path.now))
+
+pub returns-in_err-target-clause-lays : goal.returns-in_err-target-clause-lays
+returns-in_err-target-clause-lays g c = λ target rest is.
+    let exit = err_from_is_err_and c.from_residual.result c.from_residual.ensures.1 in
+    rw (exit.1, exit.2) (reads_stop (λ read. read ≡ target) (λ done. Unit {0}) (c.in_err-target.ensures.reads target rest (way_to c.args.path.now) (text_of target is)))
+
+pub returns-then-not-is_target-clause-leaves : goal.returns-then-not-is_target-clause-leaves
+returns-then-not-is_target-clause-leaves g c = rw c.broken.ensures (leaves_broken c.args.path.now _ _ _ _ c.in_ok-target.target _ _ _ (c.in_ok-target.ensures.leaves c.args.path.now))
+
+pub returns-then-not-is_target-clause-lays : goal.returns-then-not-is_target-clause-lays
+returns-then-not-is_target-clause-lays g c = λ target rest is.
+    lays_behind (λ read. read ≡ target) (c.in_ok-target.ensures.reads target rest (way_to c.args.path.now) (text_of target is))
+    (λ same. lays_never (let no : false ≡ true = c.if-not-is_target.ensures ∙ ap is_target (c.as_bytes.ensures.value ∙ c.as_str.ensures ∙ same) ∙ is in cc))
+
+pub returns-clause-leaves : goal.returns-clause-leaves
+returns-clause-leaves g c = leaves_then (c.in_ok-target.ensures.leaves c.args.path.now)
+    (leaves_laid g.W.World c.args.path.now _ c.lay_link.result _ _ _ (way_to c.args.path.now) c.lay_link.ensures.files c.or_blame.ensures.counts c.or_blame.ensures.blames c.lay_link.ensures.children c.lay_link.ensures.around
+    (λ are. c.lay_link.ensures.right (told_plain _ c.args.path.now (plain_path c.args.path.now _ c.requires.apart)) are))
+
+pub returns-clause-lays : goal.returns-clause-lays
+returns-clause-lays g c = λ target rest is.
+    lays_behind (λ read. read ≡ target) (c.in_ok-target.ensures.reads target rest (way_to c.args.path.now) (text_of target is))
+    (λ same. lays_as (λ files. ap (λ t. node_laid (Link t) c.args.path.now files) (c.as_str-2.ensures ∙ same))
+    (does_called c.args.path.now rest _ (node_laid (Link c.as_str-2.result.now) c.args.path.now) (way_to c.args.path.now) [] c.lay_link.result _ _ _
+    (ap (is_within c.args.path.now) (c.in_ok-target.ensures.leaves c.args.path.now).stays ∙ c.requires.apart) c.lay_link.ensures.ok c.or_blame.ensures.ok c.or_blame.ensures.free c.lay_link.ensures.around
+    (λ are. c.lay_link.ensures.right (told_plain _ c.args.path.now (plain_path c.args.path.now _ c.requires.apart)) are) (λ is are. none_are _)))

@@ -1,0 +1,230 @@
+// The bytes of a tree's file, which are read in their order.
+ghost use Rattle.std.specs.Prelude.{◌≡◌, ◌≤◌, ◌↔◌, ◌+◌, ◌++◌, ◌∷◌, [], ℕ, List as Seq, Option, IfErr, IfOk, IsTrue, OnOk, Some, length, true};
+ghost use Rattle.std.specs.Int.{from_be_bytes, to_be_bytes, w16, w32, w64};
+ghost use Rattle.cnb_world.specs.Path.{is_part};
+ghost use Rattle.cnb_world.specs.Tree.{Tree};
+ghost use Rattle.tree_canon.specs.Names.{is_name, is_text};
+ghost use Rattle.tree_canon.specs.Rules.{first_byte};
+ghost use Rattle.tree_canon.specs.Spelling.{name_bytes};
+ghost use Rattle.steps.specs.Outside.{seen};
+ghost use Rattle.steps.specs.Causes.{CountsFiles};
+ghost use Rattle.tree_store.specs.Ahead.{Ahead, BlamesEither, Leaves, Reading};
+ghost use Rattle.tree_store.specs.Answers.{cause_of, is_free};
+
+use crate::fault::StoreFault;
+use crate::store::read_piece;
+use cnb_world::{Bytes, Path, Text, World, is_part};
+use std::alloc::Global;
+use std::str;
+use tree_canon::{Digest, Reason};
+
+/// The most bytes of a spelling.
+const MAX_LENGTH: u64 = 1073741824;
+
+fn first_byte(field: &[u8]) -> u8
+    ensures { result ≡ first_byte field.now }
+{
+    match field {
+        [b, ..] => *b,
+        _ => 0,
+    }
+}
+
+/// The number of two bytes.
+fn u16_of(field: &[u8]) -> u16
+    ensures { length field.now ≡ 2 → result ≡ from_be_bytes w16 field.now }
+{
+    match field {
+        [a, b] => u16::from_be_bytes([*a, *b]),
+        _ => 0,
+    }
+}
+
+/// The number of four bytes.
+pub(crate) fn u32_of(field: &[u8]) -> u32
+    ensures { length field.now ≡ 4 → result ≡ from_be_bytes w32 field.now }
+{
+    match field {
+        [a, b, c, d] => u32::from_be_bytes([*a, *b, *c, *d]),
+        _ => 0,
+    }
+}
+
+/// The number of eight bytes.
+pub(crate) fn u64_of(field: &[u8]) -> u64
+    ensures { length field.now ≡ 8 → result ≡ from_be_bytes w64 field.now }
+{
+    match field {
+        [a, b, c, d, e, f, g, h] => u64::from_be_bytes([*a, *b, *c, *d, *e, *f, *g, *h]),
+        _ => 0,
+    }
+}
+
+/// Reads the bytes of a tree's file one field after another. It holds a piece of them.
+#[derive(Drop)]
+pub(crate) struct KeptBytes {
+    path: Path,
+    digest: Digest,
+    at: u64,
+    piece: Bytes,
+    used: usize,
+}
+
+impl KeptBytes {
+    /// The bytes of the root node, which stand behind the first five of the file.
+    pub(crate) fn new(alloc: Global, path: Path, digest: &Digest) -> KeptBytes
+        ensures path { result.path ≡ path }
+        ensures at { result.at ≡ 5 }
+        ensures piece { result.piece ≡ [] }
+    {
+        KeptBytes {
+            path,
+            digest: *digest,
+            at: 5,
+            piece: Bytes::from_vec(Vec::new(alloc)),
+            used: 0,
+        }
+    }
+
+    /// The refusal of bytes that are no longer the ones that were judged.
+    pub(crate) fn broken(&self, reason: Reason) -> StoreFault
+        ensures { result ≡ StoreFault.Damaged self.now.digest self.now.digest (Some reason) }
+    {
+        StoreFault::Damaged {
+            asked: self.digest,
+            found: self.digest,
+            bad: Some(reason),
+        }
+    }
+
+    fn holds(&self, len: usize) -> bool
+        ensures { IsTrue result ↔ (self.now.used + len ≤ length self.now.piece) }
+    {
+        let held = self.piece.as_slice().len();
+        self.used <= held && len <= held - self.used
+    }
+
+    // Holds so many of the next bytes.
+    fn fill<W: World>(
+        &mut self,
+        alloc: Global,
+        world: &mut W,
+        len: usize,
+    ) -> Result<(), StoreFault>
+        requires { len ≤ 65536 }
+        ensures leaves { (path : Seq ℕ)
+            → Leaves path self.old (seen W.World world.old) result self.new (seen W.World world.new) }
+        ensures reads { (bytes : Seq ℕ) (folders : Seq (Seq ℕ)) → len ≤ length bytes → Reading (λ done. Unit {0}) bytes
+            bytes folders self.old (seen W.World world.old) result self.new (seen W.World world.new) }
+        ensures held { OnOk result (self.new.used + len ≤ length self.new.piece) }
+    {
+        if self.holds(len) {
+            return Ok(());
+        }
+        self.piece = read_piece(alloc, world, &self.path, self.at)?;
+        self.used = 0;
+        if self.holds(len) {
+            Ok(())
+        } else {
+            Err(self.broken(Reason::Short))
+        }
+    }
+
+    // Takes so many of the bytes that are held.
+    fn cut(&mut self, alloc: Global, len: usize) -> Result<Bytes, StoreFault>
+        requires len { len ≤ 65536 }
+        requires held { self.old.used + len ≤ length self.old.piece }
+        ensures value { (files : Option Tree) (field rest : Seq ℕ) → length field ≡ len
+            → Ahead self.old files (field ++ rest) → IfOk result (λ read. read ≡ field) }
+        ensures ahead { (files : Option Tree) (field rest : Seq ℕ) → length field ≡ len
+            → Ahead self.old files (field ++ rest) → OnOk result (Ahead self.new files rest) }
+        ensures free { (files : Option Tree) (bytes : Seq ℕ) → Ahead self.old files bytes
+            → IfErr result (λ fault. IsTrue (is_free fault)) }
+        ensures length { IfOk result (λ read. length read ≡ len) }
+        ensures stays { self.new.path ≡ self.old.path }
+        ensures blames { (path file : Seq ℕ) → IfErr result (BlamesEither path file) }
+        ensures counts { (n : ℕ) → CountsFiles cause_of result n n }
+    {
+        if self.at > MAX_LENGTH {
+            return Err(self.broken(Reason::Large));
+        }
+        let held = self.piece.as_slice();
+        let end = self.used + len;
+        let field = Bytes::of(alloc, &held[self.used..end])?;
+        self.used = end;
+        self.at += len as u64;
+        Ok(field)
+    }
+
+    /// The next bytes, so many.
+    pub(crate) fn field<W: World>(
+        &mut self,
+        alloc: Global,
+        world: &mut W,
+        len: usize,
+    ) -> Result<Bytes, StoreFault>
+        requires { len ≤ 65536 }
+        ensures leaves { (path : Seq ℕ)
+            → Leaves path self.old (seen W.World world.old) result self.new (seen W.World world.new) }
+        ensures reads { (field rest : Seq ℕ) (folders : Seq (Seq ℕ)) → length field ≡ len → Reading (λ read. read ≡ field)
+            (field ++ rest) rest folders self.old (seen W.World world.old) result self.new (seen W.World world.new) }
+        ensures length { IfOk result (λ read. length read ≡ len) }
+    {
+        self.fill(alloc, world, len)?;
+        self.cut(alloc, len)
+    }
+
+    /// The next byte.
+    pub(crate) fn byte<W: World>(&mut self, alloc: Global, world: &mut W) -> Result<u8, StoreFault>
+        ensures leaves { (path : Seq ℕ)
+            → Leaves path self.old (seen W.World world.old) result self.new (seen W.World world.new) }
+        ensures reads { (b : ℕ) (rest : Seq ℕ) (folders : Seq (Seq ℕ)) → Reading (λ read. read ≡ b) (b ∷ rest) rest folders
+            self.old (seen W.World world.old) result self.new (seen W.World world.new) }
+    {
+        let field = self.field(alloc, world, 1)?;
+        Ok(first_byte(field.as_slice()))
+    }
+
+    /// A text of at most so many bytes, which stands behind its length.
+    pub(crate) fn text<W: World>(
+        &mut self,
+        alloc: Global,
+        world: &mut W,
+        most: usize,
+    ) -> Result<Text, StoreFault>
+        requires { most ≤ 4096 }
+        ensures leaves { (path : Seq ℕ)
+            → Leaves path self.old (seen W.World world.old) result self.new (seen W.World world.new) }
+        ensures reads { (text rest : Seq ℕ) (folders : Seq (Seq ℕ)) → is_text most text ≡ true → Reading (λ read. read ≡ text)
+            (to_be_bytes w16 (length text) ++ (text ++ rest)) rest folders
+            self.old (seen W.World world.old) result self.new (seen W.World world.new) }
+    {
+        let head = self.field(alloc, world, 2)?;
+        let size = u16_of(head.as_slice()) as usize;
+        if size > most {
+            return Err(self.broken(Reason::Name));
+        }
+        let bytes = self.field(alloc, world, size)?;
+        match str::from_utf8(bytes.as_slice()) {
+            Ok(text) => Ok(Text::of(alloc, text)?),
+            Err(_) => Err(self.broken(Reason::Name)),
+        }
+    }
+
+    /// The name of an entry.
+    pub(crate) fn name<W: World>(&mut self, alloc: Global, world: &mut W) -> Result<Text, StoreFault>
+        ensures leaves { (path : Seq ℕ)
+            → Leaves path self.old (seen W.World world.old) result self.new (seen W.World world.new) }
+        ensures reads { (name rest : Seq ℕ) (folders : Seq (Seq ℕ)) → is_name name ≡ true → Reading (λ read. read ≡ name)
+            (name_bytes name ++ rest) rest folders
+            self.old (seen W.World world.old) result self.new (seen W.World world.new) }
+        ensures part { IfOk result (λ name. IsTrue (is_part name)) }
+    {
+        let name = self.text(alloc, world, 255)?;
+        if is_part(name.as_str().as_bytes()) {
+            Ok(name)
+        } else {
+            Err(self.broken(Reason::Name))
+        }
+    }
+}
