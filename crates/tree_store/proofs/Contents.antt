@@ -1,8 +1,8 @@
 -- A file whose bytes are read and written piece by piece.
-use Rattle.std.proofs.Common.{◌≡◌, ◌≤◌, ◌+◌, ◌-◌, ◌∙◌, refl, sym, ap, subst, arith, ℕ, Bool, true, false, cond, List, [], ◌∷◌, ◌++◌, append_assoc, length, take, drop, Option, Some, None, Result, Ok, Err}
-use Rattle.std.specs.Prelude.{IfErr, IfOk, IfSome, IsTrue, OnOk, is_ok}
+use Rattle.std.proofs.Common.{◌≡◌, ◌≤◌, ◌-◌, ◌∙◌, refl, sym, ap, subst, arith, ℕ, Bool, true, false, cond, List, [], ◌∷◌, ◌++◌, append_assoc, length, take, drop, Option, Some, None, Result, Ok, Err}
+use Rattle.std.specs.Prelude.{IfErr, IfSome, IsTrue, OnOk, is_ok}
 use Rattle.std.specs.Option.{option_map}
-use Rattle.std.specs.FinMap.{get, insert}
+use Rattle.std.specs.FinMap.{get}
 use Rattle.std.proofs.lemmas.List.{append-nil, length-take, length-drop, take-append-drop}
 use Rattle.cnb_world.specs.Calls.{CountsMisuse}
 use Rattle.cnb_world.specs.Tree.{Tree, appended, can_read, is_file, is_root, is_within, item_at, without}
@@ -11,14 +11,14 @@ use Rattle.cnb_world.specs.declared.world.Item.TheVariants as item
 use Rattle.cnb_world.proofs.Trees.{get-insert_same}
 use Rattle.steps.specs.Outside.{Seen}
 use Rattle.tree_canon.specs.declared.node.Node.TheVariants.{File}
-use Rattle.tree_store.specs.Ahead.{Ahead, Did, Does, Lays, Reading}
+use Rattle.tree_store.specs.Ahead.{Did, Lays, Reading}
 use Rattle.tree_store.specs.Answers.{is_free}
 use Rattle.tree_store.specs.Around.{LeavesAround}
 use Rattle.tree_store.specs.Laying.{file_laid, node_laid}
 use Rattle.tree_store.specs.Right.{way_to}
 use Rattle.tree_store.specs.declared.fault.StoreFault.{StoreFault}
 use Rattle.tree_store.specs.declared.kept_bytes.KeptBytes.{KeptBytes}
-use Rattle.tree_store.proofs.Ahead.{ahead_kept, lays_as, lays_bytes, none_are, reads_stop}
+use Rattle.tree_store.proofs.Ahead.{ahead_kept, lays_as, none_are}
 use Rattle.tree_store.proofs.Laid.{laid_file}
 use Rattle.tree_store.proofs.Pieces.{appended-set}
 use Rattle.tree_store.proofs.Right.{right}

@@ -1,19 +1,16 @@
 -- Reading the bytes of a tree's file one field after another.
-use Rattle.std.proofs.Common.{◌≡◌, ◌≤◌, ◌<◌, ◌+◌, ◌-◌, ◌∙◌, ◌==◌, refl, sym, ap, subst, arith, ℕ, zero, suc, Bool, true, false, not, ◌&&◌, List, [], ◌∷◌, ◌++◌, length, take, drop, length-append, Option, Some, None, Result, Ok, Err}
-use Rattle.std.specs.Prelude.{IfErr, IfOk, IfSome, IsTrue, OnOk, nat_le, nat_lt}
+use Rattle.std.proofs.Common.{◌≡◌, ◌≤◌, ◌+◌, ◌-◌, ◌∙◌, ◌==◌, refl, sym, ap, subst, arith, ℕ, zero, suc, Bool, true, false, not, ◌&&◌, List, [], ◌∷◌, ◌++◌, length, take, drop, length-append, Option, Some, None}
+use Rattle.std.specs.Prelude.{IfSome, IsTrue, nat_le, nat_lt}
 use Rattle.std.specs.List.{list_all}
 use Rattle.std.specs.Option.{option_map}
 use Rattle.std.specs.Str.{bytes_eq, is_utf8}
-use Rattle.std.specs.Int.{from_be_bytes, to_be_bytes}
 use Rattle.std.proofs.Math.Seq.{drop-append_seam, drop-nil}
 use Rattle.std.proofs.lemmas.Bool.{and_parts, and_from}
-use Rattle.std.proofs.lemmas.List.{drop-take, length-take, take-append-le}
+use Rattle.std.proofs.lemmas.List.{drop-take, length-take}
 use Rattle.cnb_world.specs.Calls.{MayMisuse}
 use Rattle.cnb_world.specs.Path.{is_part, is_part_byte}
 use Rattle.cnb_world.specs.Tree.{Tree, bytes_of, is_file, item_at}
 use Rattle.cnb_world.specs.declared.world.Item.{Item}
-use Rattle.steps.specs.Outside.{Seen}
-use Rattle.steps.specs.Reading.{ReadFrame}
 use Rattle.tree_canon.specs.Names.{is_name, is_text, is_plain, is_dots}
 use Rattle.tree_canon.specs.Spelling.{limit}
 use Rattle.tree_store.specs.Ahead.{Ahead, IsAhead}

@@ -1,25 +1,23 @@
 -- Laying a stored tree, as a step.
-use Rattle.std.proofs.Common.{◌≡◌, ◌≢◌, ◌≤◌, ◌+◌, ◌-◌, ◌∙◌, refl, sym, ap, subst, arith, ℕ, Bool, true, false, ◌⊎◌, inl, inr, List, [], ◌∷◌, ◌++◌, length, length-append, take, drop, Option, Some, None, Result, Ok, Err}
-use Rattle.std.specs.Prelude.{IfErr, IfSome, IsTrue, OnOk}
+use Rattle.std.proofs.Common.{◌≡◌, ◌≤◌, ◌-◌, ◌∙◌, refl, sym, ap, subst, arith, ℕ, Bool, true, false, ◌⊎◌, inl, inr, List, [], ◌∷◌, ◌++◌, length, length-append, take, drop, Option, Some, None, Result, Ok, Err}
+use Rattle.std.specs.Prelude.{IfSome, IsTrue, OnOk}
 use Rattle.std.specs.List.{list_all}
 use Rattle.std.specs.Option.{option_map}
 use Rattle.std.proofs.Math.Seq.{drop-nil}
 use Rattle.std.proofs.lemmas.List.{append-nil}
 use Rattle.cnb_world.specs.Calls.{CountsMisuse, MayMisuse}
 use Rattle.cnb_world.specs.Path.{is_part, joined}
-use Rattle.cnb_world.specs.Tree.{IsTree, Tree, bytes_of, can_make_folder, folder_made, is_file, is_file_or_absent, is_root, item_at}
+use Rattle.cnb_world.specs.Tree.{IsTree, Tree, can_make_folder, folder_made, is_file_or_absent, is_root, item_at}
 use Rattle.cnb_world.specs.declared.world.FileFault.{FileFault}
 use Rattle.cnb_world.specs.declared.world.Item.{Item}
 use Rattle.cnb_world.specs.declared.world.Item.TheVariants as item
 use Rattle.cnb_world.specs.declared.world.World as world
-use Rattle.steps.specs.Causes.{Cause, FileFailed, ChildFailed, OutOfMemory, Decided, IsReadCause}
+use Rattle.steps.specs.Causes.{Cause, FileFailed, ChildFailed, OutOfMemory, Decided}
 use Rattle.steps.specs.Outside.{Seen, seen}
 use Rattle.steps.specs.Reading.{ReadFrame}
-use Rattle.steps.specs.Steps.{◌>>=◌, Allows}
 use Rattle.steps.proofs.StepLemmas.{ended, went}
-use Rattle.tree_canon.specs.Division.{Spells}
 use Rattle.tree_canon.specs.Fits.{fits}
-use Rattle.tree_canon.specs.Spelling.{limit, magic, node_bytes, spelling_of}
+use Rattle.tree_canon.specs.Spelling.{limit, magic, node_bytes}
 use Rattle.tree_canon.specs.declared.node.Node.{Node}
 use Rattle.tree_store.specs.Ahead.{Ahead, BlamesEither, Did, IsAhead, Lays, LaysTree, Leaves}
 use Rattle.tree_store.specs.Answers.{BlamesAt, cause_of, is_free}
@@ -27,9 +25,9 @@ use Rattle.tree_store.specs.Around.{KeptAround, LeavesAround}
 use Rattle.tree_store.specs.Checking.{Checks}
 use Rattle.tree_store.specs.Laying.{folder_laid, laid_under, node_laid, tree_steps}
 use Rattle.tree_store.specs.Overlay.{IsPlaced, parts_of, tree_laid, way_parts}
-use Rattle.tree_store.specs.Right.{AreFolders, way_to}
+use Rattle.tree_store.specs.Right.{way_to}
 use Rattle.tree_store.specs.Steps.{IsCauseWithin, IsKeptCause, can_lay, gets_tree, lays_kept, lays_stored, lays_tree}
-use Rattle.tree_store.specs.Store.{Gets, GetsOf, tree_path}
+use Rattle.tree_store.specs.Store.{Gets, tree_path}
 use Rattle.tree_store.specs.declared.fault.StoreFault.{StoreFault}
 use Rattle.tree_store.specs.declared.fault.StoreFault.TheVariants.{OddFile, Limit, File, NoTree, Damaged, Clash, Memory}
 use Rattle.tree_store.specs.declared.kept_bytes.KeptBytes.{KeptBytes}
@@ -37,7 +35,6 @@ use Rattle.tree_store.proofs.CallSteps.{got}
 use Rattle.tree_store.proofs.Checked.{got_some}
 use Rattle.tree_store.proofs.Overlays.{laid_where, plain_placed}
 use Rattle.tree_store.proofs.Right.{laid_right, made_right, way_made}
-use Rattle.tree_store.proofs.Ways.{when_ok}
 
 -- ---- along the way to a place
 

@@ -1,5 +1,5 @@
 -- Laying a tree as the bytes of its file are read: what lies ahead of the reader, and what each call does.
-use Rattle.std.specs.Prelude.{ℕ, Bool, false, ◌≡◌, ◌≤◌, ◌+◌, ◌-◌, ◌⊎◌, List, length, take, drop, Option, Some, None, Result, Ok, Err, IfErr, IfOk, OnOk, IsTrue}
+use Rattle.std.specs.Prelude.{ℕ, false, ◌≡◌, ◌≤◌, ◌+◌, ◌-◌, ◌⊎◌, List, length, take, drop, Option, Some, None, Result, IfErr, IfOk, OnOk, IsTrue}
 use Rattle.std.specs.Option.{option_map}
 use Rattle.cnb_world.specs.Calls.{MayMisuse}
 use Rattle.cnb_world.specs.Tree.{Tree, item_at, is_file, is_within, bytes_of}

@@ -105,12 +105,7 @@ impl KeptBytes {
     }
 
     // Holds so many of the next bytes.
-    fn fill<W: World>(
-        &mut self,
-        alloc: Global,
-        world: &mut W,
-        len: usize,
-    ) -> Result<(), StoreFault>
+    fn fill<W: World>(&mut self, alloc: Global, world: &mut W, len: usize) -> Result<(), StoreFault>
         requires { len ≤ 65536 }
         ensures leaves { (path : Seq ℕ)
             → Leaves path self.old (seen W.World world.old) result self.new (seen W.World world.new) }
@@ -212,7 +207,11 @@ impl KeptBytes {
     }
 
     /// The name of an entry.
-    pub(crate) fn name<W: World>(&mut self, alloc: Global, world: &mut W) -> Result<Text, StoreFault>
+    pub(crate) fn name<W: World>(
+        &mut self,
+        alloc: Global,
+        world: &mut W,
+    ) -> Result<Text, StoreFault>
         ensures leaves { (path : Seq ℕ)
             → Leaves path self.old (seen W.World world.old) result self.new (seen W.World world.new) }
         ensures reads { (name rest : Seq ℕ) (folders : Seq (Seq ℕ)) → is_name name ≡ true → Reading (λ read. read ≡ name)

@@ -78,7 +78,12 @@ fn clear<W: World>(world: &mut W, path: &Path) -> Result<(), FileFault>
 
 // A file in place of what stands at a path.
 #[tactic(auto, using(crate::proofs::Laid::file_steps))]
-pub(crate) fn lay_file<W: World>(world: &mut W, path: &Path, exec: bool, bytes: &[u8]) -> Result<(), FileFault>
+pub(crate) fn lay_file<W: World>(
+    world: &mut W,
+    path: &Path,
+    exec: bool,
+    bytes: &[u8],
+) -> Result<(), FileFault>
     ensures ok { OnOk result (W.tree world.new ≡ option_map (node_laid (File exec bytes.now) path.now)
         (W.tree world.old)) }
     ensures placed { IfSome (W.tree world.old) (λ _. OnOk result (is_root path.now ≡ false)) }

@@ -1,4 +1,4 @@
-use Rattle.std.proofs.Common.{Ok, Err, refl, ◌∙◌}
+use Rattle.std.proofs.Common.{◌∙◌}
 use Rattle.std.proofs.lemmas.Result.{err_from_is_err_and}
 use Rattle.tree_store.proofs.Stored.{judged_and_laid, not_judged}
 use Rattle.tree_store.proofs.folders.lay_judged.Goals as goal

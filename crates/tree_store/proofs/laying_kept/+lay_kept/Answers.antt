@@ -1,4 +1,4 @@
-use Rattle.std.proofs.Common.{rules, ◌≡◌, ◌≤◌, ◌<◌, ◌+◌, ◌∙◌, refl, ap, sym, arith, ℕ, List, [], ◌++◌, length, Ok, Err}
+use Rattle.std.proofs.Common.{rules, ◌≡◌, ◌≤◌, ◌<◌, ◌∙◌, refl, ap, sym, arith, ◌++◌, length, Ok, Err}
 use Rattle.std.specs.Int.{to_be_bytes, w32}
 use Rattle.std.proofs.lemmas.Result.{err_from_is_err_and}
 use Rattle.cnb_world.specs.Path.{joined}
@@ -79,9 +79,16 @@ lay_kept_entry-returns-in_err-path-clause-lays g t c = λ entry rest name fit.
 
 pub lay_kept_entry-lay_kept_node-requires : goal.lay_kept_entry-lay_kept_node-requires
 lay_kept_entry-lay_kept_node-requires g t c κs within =
-    let size : length c.in_ok-name.name ≤ 255 = part_size c.in_ok-name.name c.in_ok-name.ensures.part in
-    (search rules, (within, (apart_child c.args.folder.now c.in_ok-name.name _ c.args.source.now.path _ (c.in_ok-path.ensures.0 ∙ ap (joined c.args.folder.now) c.as_str.ensures) c.in_ok-name.ensures.part (c.in_ok-name.ensures.leaves c.args.folder.now).stays c.requires.apart,
-    (omega (arith, c.if-depth-gt-MAX_DEPTH.false), omega (arith, size, c.if-depth-gt-MAX_DEPTH.false, c.requires.short, ap length (c.in_ok-path.ensures.0 ∙ ap (joined c.args.folder.now) c.as_str.ensures), joined_short c.args.folder.now c.in_ok-name.name)))))
+    let size : length c.in_ok-name.name ≤ 255 = part_size c.in_ok-name.name c.in_ok-name.ensures.part in (
+      search rules,
+      (
+        within,
+        (
+          apart_child c.args.folder.now c.in_ok-name.name _ c.args.source.now.path _ (c.in_ok-path.ensures.0 ∙ ap (joined c.args.folder.now) c.as_str.ensures) c.in_ok-name.ensures.part (c.in_ok-name.ensures.leaves c.args.folder.now).stays c.requires.apart,
+          (omega (arith, c.if-depth-gt-MAX_DEPTH.false), omega (arith, size, c.if-depth-gt-MAX_DEPTH.false, c.requires.short, ap length (c.in_ok-path.ensures.0 ∙ ap (joined c.args.folder.now) c.as_str.ensures), joined_short c.args.folder.now c.in_ok-name.name)),
+        ),
+      ),
+    )
 
 pub lay_kept_entry-returns-clause-leaves : goal.lay_kept_entry-returns-clause-leaves
 lay_kept_entry-returns-clause-leaves g t c = leaves_then (c.in_ok-name.ensures.leaves c.args.folder.now)

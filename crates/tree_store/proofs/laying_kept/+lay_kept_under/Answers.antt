@@ -1,4 +1,4 @@
-use Rattle.std.proofs.Common.{rules, ◌≡◌, ◌≤◌, ◌<◌, ◌+◌, ◌∙◌, refl, ap, sym, arith, ℕ, List, [], ◌++◌, length, Ok, Err}
+use Rattle.std.proofs.Common.{rules, ◌≡◌, ◌<◌, ◌+◌, refl, ap, arith, [], ◌++◌, length, Ok, Err}
 use Rattle.std.proofs.lemmas.Result.{err_from_is_err_and}
 use Rattle.tree_canon.specs.Spelling.{node_bytes}
 use Rattle.tree_store.specs.Laying.{folder_laid}
@@ -47,9 +47,16 @@ returns-in_err-path-in-None-clause-lays g t c = λ node rest fit.
 pub lay_kept_under-requires : goal.lay_kept_under-requires
 lay_kept_under-requires g t c κs within =
     let cut : length c.in-Some.part.now + (1 + length c.in-Some.rest.now) ≡ length c.args.way.now = c.in-Some.ensures.lengths in
-    let less : length c.in-Some.rest.now < length c.args.way.now = omega arith in
-    (search (rules, less), (within, (apart_child c.args.folder.now c.in-Some.part.now _ c.args.source.now.path _ c.in_ok-path-in-Some.ensures.0 (part_ahead c.args.way.now c.in-Some.part.now c.in-Some.rest.now c.in-Some.ensures.parts c.requires.1.1.1.1.0) refl c.requires.1.1.1.0,
-    (parts_behind c.args.way.now c.in-Some.part.now c.in-Some.rest.now c.in-Some.ensures.parts c.requires.1.1.1.1.0, omega (arith, cut, c.requires.1.1.1.1.1, ap length c.in_ok-path-in-Some.ensures.0, joined_short c.args.folder.now c.in-Some.part.now)))))
+    let less : length c.in-Some.rest.now < length c.args.way.now = omega arith in (
+      search (rules, less),
+      (
+        within,
+        (
+          apart_child c.args.folder.now c.in-Some.part.now _ c.args.source.now.path _ c.in_ok-path-in-Some.ensures.0 (part_ahead c.args.way.now c.in-Some.part.now c.in-Some.rest.now c.in-Some.ensures.parts c.requires.1.1.1.1.0) refl c.requires.1.1.1.0,
+          (parts_behind c.args.way.now c.in-Some.part.now c.in-Some.rest.now c.in-Some.ensures.parts c.requires.1.1.1.1.0, omega (arith, cut, c.requires.1.1.1.1.1, ap length c.in_ok-path-in-Some.ensures.0, joined_short c.args.folder.now c.in-Some.part.now)),
+        ),
+      ),
+    )
 
 pub lay_kept_node-requires : goal.lay_kept_node-requires
 lay_kept_node-requires g t c = record {

@@ -1,4 +1,4 @@
-use Rattle.std.proofs.Common.{◌≡◌, ◌≤◌, ◌∙◌, refl, ap, subst, arith, Ok, Err, ℕ, List, [], ◌++◌, drop, length, take}
+use Rattle.std.proofs.Common.{◌≡◌, ◌∙◌, ap, subst, arith, Ok, Err, [], ◌++◌, drop, take}
 use Rattle.std.proofs.lemmas.Result.{err_from_is_err_and}
 use Rattle.cnb_world.specs.Tree.{can_read, is_within}
 use Rattle.steps.specs.Outside.{seen}

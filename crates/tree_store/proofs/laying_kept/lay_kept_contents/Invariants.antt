@@ -1,4 +1,4 @@
-use Rattle.std.proofs.Common.{◌≡◌, ◌≤◌, ℕ, List, Ok, length}
+use Rattle.std.proofs.Common.{◌≡◌, ℕ, List, Ok, length}
 use Rattle.steps.specs.Outside.{seen}
 use Rattle.tree_store.specs.Ahead.{Leaves}
 use Rattle.tree_store.proofs.Contents.{ContentsLeft}

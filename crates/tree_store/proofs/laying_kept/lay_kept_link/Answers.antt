@@ -1,7 +1,6 @@
-use Rattle.std.proofs.Common.{◌≡◌, ◌∙◌, refl, ap, sym, false, true, []}
+use Rattle.std.proofs.Common.{◌≡◌, ◌∙◌, ap, false, true, []}
 use Rattle.std.proofs.lemmas.Bool.{and_parts}
 use Rattle.std.proofs.lemmas.Result.{err_from_is_err_and}
-use Rattle.std.specs.Prelude.{◌&&◌}
 use Rattle.cnb_world.specs.Tree.{is_within}
 use Rattle.tree_canon.specs.Names.{has_no_zero, is_target, is_text}
 use Rattle.tree_canon.specs.declared.node.Node.TheVariants.{Link}

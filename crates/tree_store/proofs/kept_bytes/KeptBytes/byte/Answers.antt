@@ -1,4 +1,4 @@
-use Rattle.std.proofs.Common.{refl, Ok, Err, ◌≡◌, ◌∙◌, ap, ℕ, List, [], ◌∷◌}
+use Rattle.std.proofs.Common.{refl, ◌≡◌, ◌∙◌, ap, [], ◌∷◌}
 use Rattle.std.proofs.lemmas.Result.{err_from_is_err_and}
 use Rattle.tree_canon.specs.Rules.{first_byte}
 use Rattle.tree_store.proofs.Ahead.{does_stop, does_value, leaves_stop, leaves_value}

@@ -1,4 +1,4 @@
-use Rattle.std.proofs.Common.{refl, arith, Ok, Err, ◌≡◌, ◌≤◌, ◌+◌, ◌++◌, ℕ, List, length, length-append}
+use Rattle.std.proofs.Common.{arith, ◌≡◌, ◌≤◌, ◌++◌, ℕ, List, length, length-append}
 use Rattle.std.proofs.lemmas.Result.{err_from_is_err_and}
 use Rattle.tree_store.proofs.Ahead.{does_local, does_on, does_stop, leaves_local, leaves_on, leaves_stop}
 use Rattle.tree_store.proofs.kept_bytes.KeptBytes.field.Goals as goal

@@ -1,4 +1,4 @@
-use Rattle.std.proofs.Common.{refl, Ok, Err, ◌≡◌, ◌∙◌, ap, sym, true, false, ℕ, List, append_assoc, length, ◌&&◌, not}
+use Rattle.std.proofs.Common.{◌≡◌, ◌∙◌, ap, true, false, ℕ, List, ◌&&◌, not}
 use Rattle.std.proofs.lemmas.Bool.{and_parts}
 use Rattle.std.proofs.lemmas.Result.{err_from_is_err_and}
 use Rattle.cnb_world.specs.Path.{is_part}
