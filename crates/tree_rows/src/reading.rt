@@ -70,7 +70,7 @@ pub(crate) fn path_of(alloc: Global, text: &str) -> Result<Path, Fault>
     }
 }
 
-/// What a line says: `folder a`, `file a [exec] TEXT`, `link a -> TARGET` or `odd a`; first its path.
+/// What a line says: `folder a`, `file a [exec] [times N] TEXT`, `link a -> TARGET` or `odd a`; first its path.
 pub(crate) fn item_of<'a>(alloc: Global, line: &'a str) -> Result<(&'a str, Item), Fault> {
     let (kind, rest) = line.split_once(' ').unwrap_or((line, ""));
     let (path, rest) = rest.split_once(' ').unwrap_or((rest, ""));
@@ -88,8 +88,29 @@ fn file(alloc: Global, rest: &str) -> Result<Item, Fault> {
         Some(text) => (true, text.strip_prefix(" ").unwrap_or(text)),
         None => (false, rest),
     };
-    let bytes = Bytes::of(alloc, text.as_bytes())?;
+    let bytes = contents(alloc, text)?;
     Ok(Item::File { exec, bytes })
+}
+
+// `[times N] TEXT` is the text so many times.
+fn contents(alloc: Global, text: &str) -> Result<Bytes, Fault> {
+    match text.strip_prefix("[times ") {
+        Some(rest) => often(alloc, rest),
+        None => Ok(Bytes::of(alloc, text.as_bytes())?),
+    }
+}
+
+fn often(alloc: Global, rest: &str) -> Result<Bytes, Fault> {
+    match rest.split_once("] ") {
+        Some((times, text)) => {
+            let mut bytes = Bytes::from_vec(Vec::new(alloc));
+            for _ in 0..number_of(alloc, times)? {
+                bytes.append(text.as_bytes())?;
+            }
+            Ok(bytes)
+        }
+        None => Err(Fault::wrong(alloc, "no contents:", rest)),
+    }
 }
 
 fn link(alloc: Global, rest: &str) -> Result<Item, Fault> {

@@ -90,8 +90,27 @@ fn at_path(
     }
 }
 
+// Lays the tree of a row from the store, at `/` or at another place under a root.
+fn laid_below(
+    alloc: Global,
+    world: &mut MemWorld,
+    tree: &Tree,
+    words: &str,
+) -> Result<String, Fault> {
+    let (root, place) = words.split_once(' ').unwrap_or((words, "/"));
+    let (store, root, place) = (
+        path_of(alloc, "/s")?,
+        path_of(alloc, root)?,
+        path_of(alloc, place)?,
+    );
+    let digest = Digest::of(encode(alloc, tree)?.as_slice());
+    let answer = lay_stored(alloc, world, &store, &digest, &root, &place);
+    told_done(alloc, answer)
+}
+
 fn called(alloc: Global, world: &mut MemWorld, tree: &Tree, line: &str) -> Result<String, Fault> {
     match line.split_once(' ') {
+        Some(("lay_below", words)) => laid_below(alloc, world, tree, words),
         Some((call, path)) => at_path(alloc, world, tree, call, path),
         None => stored(alloc, world, tree, line),
     }
