@@ -109,8 +109,9 @@ impl KeptBytes {
         requires { len ≤ 65536 }
         ensures leaves { (path : Seq ℕ)
             → Leaves path self.old (seen W.World world.old) result self.new (seen W.World world.new) }
-        ensures reads { (bytes : Seq ℕ) (folders : Seq (Seq ℕ)) → len ≤ length bytes → Reading (λ done. Unit {0}) bytes
-            bytes folders self.old (seen W.World world.old) result self.new (seen W.World world.new) }
+        ensures reads { (bytes : Seq ℕ) (folders : Seq (Seq ℕ)) → len ≤ length bytes
+            → Reading (λ done. Unit {0}) bytes bytes folders
+            self.old (seen W.World world.old) result self.new (seen W.World world.new) }
         ensures held { OnOk result (self.new.used + len ≤ length self.new.piece) }
     {
         if self.holds(len) {
@@ -161,8 +162,9 @@ impl KeptBytes {
         requires { len ≤ 65536 }
         ensures leaves { (path : Seq ℕ)
             → Leaves path self.old (seen W.World world.old) result self.new (seen W.World world.new) }
-        ensures reads { (field rest : Seq ℕ) (folders : Seq (Seq ℕ)) → length field ≡ len → Reading (λ read. read ≡ field)
-            (field ++ rest) rest folders self.old (seen W.World world.old) result self.new (seen W.World world.new) }
+        ensures reads { (field rest : Seq ℕ) (folders : Seq (Seq ℕ)) → length field ≡ len
+            → Reading (λ read. read ≡ field) (field ++ rest) rest folders
+            self.old (seen W.World world.old) result self.new (seen W.World world.new) }
         ensures length { IfOk result (λ read. length read ≡ len) }
     {
         self.fill(alloc, world, len)?;
@@ -173,7 +175,8 @@ impl KeptBytes {
     pub(crate) fn byte<W: World>(&mut self, alloc: Global, world: &mut W) -> Result<u8, StoreFault>
         ensures leaves { (path : Seq ℕ)
             → Leaves path self.old (seen W.World world.old) result self.new (seen W.World world.new) }
-        ensures reads { (b : ℕ) (rest : Seq ℕ) (folders : Seq (Seq ℕ)) → Reading (λ read. read ≡ b) (b ∷ rest) rest folders
+        ensures reads { (b : ℕ) (rest : Seq ℕ) (folders : Seq (Seq ℕ))
+            → Reading (λ read. read ≡ b) (b ∷ rest) rest folders
             self.old (seen W.World world.old) result self.new (seen W.World world.new) }
     {
         let field = self.field(alloc, world, 1)?;
@@ -190,7 +193,8 @@ impl KeptBytes {
         requires { most ≤ 4096 }
         ensures leaves { (path : Seq ℕ)
             → Leaves path self.old (seen W.World world.old) result self.new (seen W.World world.new) }
-        ensures reads { (text rest : Seq ℕ) (folders : Seq (Seq ℕ)) → is_text most text ≡ true → Reading (λ read. read ≡ text)
+        ensures reads { (text rest : Seq ℕ) (folders : Seq (Seq ℕ)) → is_text most text ≡ true
+            → Reading (λ read. read ≡ text)
             (to_be_bytes w16 (length text) ++ (text ++ rest)) rest folders
             self.old (seen W.World world.old) result self.new (seen W.World world.new) }
     {
@@ -214,7 +218,8 @@ impl KeptBytes {
     ) -> Result<Text, StoreFault>
         ensures leaves { (path : Seq ℕ)
             → Leaves path self.old (seen W.World world.old) result self.new (seen W.World world.new) }
-        ensures reads { (name rest : Seq ℕ) (folders : Seq (Seq ℕ)) → is_name name ≡ true → Reading (λ read. read ≡ name)
+        ensures reads { (name rest : Seq ℕ) (folders : Seq (Seq ℕ)) → is_name name ≡ true
+            → Reading (λ read. read ≡ name)
             (name_bytes name ++ rest) rest folders
             self.old (seen W.World world.old) result self.new (seen W.World world.new) }
         ensures part { IfOk result (λ name. IsTrue (is_part name)) }

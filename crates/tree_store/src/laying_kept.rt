@@ -222,7 +222,8 @@ fn lay_kept_entry<W: World>(
     requires short { length folder.now + 256 * (65 - depth) ≤ 32768 }
     ensures leaves { Leaves folder.now source.old (seen W.World world.old) result source.new (seen W.World world.new) }
     ensures lays { (entry : Named) (rest : Seq ℕ) → is_name entry.name ≡ true → fits entry.node depth ≡ true
-        → Lays (entry_bytes entry ++ rest) rest (entry_laid entry folder.now) (way_into folder.now) (way_into folder.now)
+        → Lays (entry_bytes entry ++ rest) rest (entry_laid entry folder.now)
+        (way_into folder.now) (way_into folder.now)
         source.old (seen W.World world.old) result source.new (seen W.World world.new) }
 {
     if depth > MAX_DEPTH {
