@@ -26,7 +26,8 @@ pub fn kind_at(rt: &impl Files, path: &str) -> Result<Kind, HostFault> {
     }
 }
 
-fn look_at(rt: &impl Files, path: &str) -> Result<Option<Metadata>, HostFault> {
+/// What the system says of what stands at a path.
+pub fn look_at(rt: &impl Files, path: &str) -> Result<Option<Metadata>, HostFault> {
     found_of(fs::symlink_metadata(rt, path))
 }
 
@@ -45,7 +46,8 @@ fn found_of(looked: io::Result<Metadata>) -> Result<Option<Metadata>, HostFault>
     }
 }
 
-fn kind_of(found: &Metadata) -> Kind
+/// What the system found, as a kind.
+pub fn kind_of(found: &Metadata) -> Kind
     ensures file { IsFile (file_type found.now)
         → result ≡ Kind.File (may_run found.now) (metadata_len found.now) }
     ensures folder { IsDir (file_type found.now) → result ≡ Kind.Folder }
@@ -80,7 +82,23 @@ where
     ensures bound { IfOk result (λ bytes. length bytes ≤ max) }
 {
     let found = fs::symlink_metadata(rt, path)?;
-    let (file, len) = open_to_read(rt, path, &found)?;
+    read_found(rt, alloc, path, &found, at, max)
+}
+
+/// Does the same for a file that was looked at before.
+pub fn read_found<R: Files>(
+    rt: &R,
+    alloc: Global,
+    path: &str,
+    found: &Metadata,
+    at: u64,
+    max: u64,
+) -> Result<Bytes, HostFault>
+where
+    R::File: FileExt,
+    ensures bound { IfOk result (λ bytes. length bytes ≤ max) }
+{
+    let (file, len) = open_to_read(rt, path, found)?;
     read_at_most(alloc, &file, at, len.saturating_sub(at).min(max))
 }
 

@@ -9,6 +9,7 @@ mod command;
 mod fault;
 mod files;
 mod kept;
+mod looked;
 mod names;
 mod plans;
 mod process;

@@ -6,8 +6,9 @@ ghost use Rattle.cnb_host.specs.System.{runs_of};
 
 use crate::command::child_command;
 use crate::fault::HostFault;
-use crate::files::{kind_at, link_target, make_folders, make_link_at, read_part, remove_at};
+use crate::files::{link_target, make_folders, make_link_at, remove_at};
 use crate::kept::KeptFile;
+use crate::looked::LookedAt;
 use crate::names::names_in;
 use crate::side::run_side;
 use cnb_world::{Bytes, ChildFault, ChildJob, End, FileFault, Kind, List, Path, Text, World};
@@ -23,6 +24,7 @@ use std::rt::Files;
 pub struct HostWorld<R: Files + Processes + AllocGlobal + Clone + Drop> {
     rt: R,
     kept: KeptFile<R>,
+    looked: LookedAt,
     runs: Vec<Row>,
     file_faults: u64,
     failed_at: Option<Path>,
@@ -63,6 +65,7 @@ impl<R: Files + Processes + AllocGlobal + Clone + Drop> HostWorld<R> {
         HostWorld {
             rt,
             kept: KeptFile::none(),
+            looked: LookedAt::none(),
             runs,
             file_faults: 0,
             failed_at: None,
@@ -149,7 +152,7 @@ where
     ghost standing = { λ _. tt };
 
     fn kind(&mut self, path: &Path) -> Result<Kind, FileFault> {
-        let kind = kind_at(&self.rt, path.as_str());
+        let kind = self.looked.kind(&self.rt, self.rt.alloc(), path);
         self.counted(path, kind)
     }
 
@@ -159,11 +162,12 @@ where
     }
 
     fn read(&mut self, path: &Path, at: u64, max: u64) -> Result<Bytes, FileFault> {
-        let bytes = read_part(&self.rt, self.rt.alloc(), path.as_str(), at, max);
+        let bytes = self.looked.read(&self.rt, self.rt.alloc(), path, at, max);
         self.counted(path, bytes)
     }
 
     fn create(&mut self, path: &Path, exec: bool) -> Result<(), FileFault> {
+        self.looked.forget();
         let created = self.kept.create(&self.rt, self.rt.alloc(), path, exec);
         self.counted(path, created)
     }
@@ -179,11 +183,13 @@ where
     }
 
     fn rename(&mut self, old: &Path, new: &Path) -> Result<(), FileFault> {
+        self.looked.forget();
         let renamed = self.kept.rename(&self.rt, old, new);
         self.counted(new, renamed)
     }
 
     fn make_link(&mut self, path: &Path, target: &str) -> Result<(), FileFault> {
+        self.looked.forget();
         let made = make_link_at(&self.rt, path.as_str(), target);
         self.counted(path, made)
     }
@@ -194,12 +200,14 @@ where
     }
 
     fn remove(&mut self, path: &Path) -> Result<(), FileFault> {
+        self.looked.forget();
         self.kept.close();
         let removed = remove_at(&self.rt, path.as_str());
         self.counted(path, removed)
     }
 
     fn run(&mut self, job: &ChildJob) -> Result<End, ChildFault> {
+        self.looked.forget();
         self.kept.close();
         let outcome = self.run_job(job);
         self.counted_end(outcome)

@@ -1,0 +1,70 @@
+// The regular file that was looked at last.
+//
+// A file is looked at and then read, by calls that follow one another. What the system said of it is kept, so that reading it
+// need not look again: the file is opened, and compared with what was looked at.
+ghost use Rattle.std.specs.Prelude.{◌≤◌, IfOk, length};
+
+use crate::fault::HostFault;
+use crate::files::{kind_of, look_at, read_found, read_part};
+use cnb_world::{Bytes, Kind, Path};
+use std::alloc::Global;
+use std::fs::Metadata;
+use std::os::unix::fs::FileExt;
+use std::rt::Files;
+
+/// The file that was looked at last, where one stood at the path and nothing was changed since.
+#[derive(Drop)]
+pub struct LookedAt {
+    file: Option<Looked>,
+}
+
+#[derive(Drop)]
+struct Looked {
+    path: Path,
+    found: Metadata,
+}
+
+impl LookedAt {
+    pub fn none() -> LookedAt {
+        LookedAt { file: None }
+    }
+
+    pub fn forget(&mut self) {
+        self.file = None;
+    }
+
+    /// What stands at a path.
+    pub fn kind(&mut self, rt: &impl Files, alloc: Global, path: &Path) -> Result<Kind, HostFault> {
+        self.forget();
+        let Some(found) = look_at(rt, path.as_str())? else {
+            return Ok(Kind::Absent);
+        };
+        let kind = kind_of(&found);
+        if found.is_file() {
+            let path = path.copy(alloc)?;
+            self.file = Some(Looked { path, found });
+        }
+        Ok(kind)
+    }
+
+    /// The bytes of the regular file at a path from `at` on, at most `max` of them.
+    pub fn read<R: Files>(
+        &self,
+        rt: &R,
+        alloc: Global,
+        path: &Path,
+        at: u64,
+        max: u64,
+    ) -> Result<Bytes, HostFault>
+    where
+        R::File: FileExt,
+        ensures bound { IfOk result (λ bytes. length bytes ≤ max) }
+    {
+        match &self.file {
+            Some(looked) if looked.path.as_str() == path.as_str() => {
+                read_found(rt, alloc, path.as_str(), &looked.found, at, max)
+            }
+            _ => read_part(rt, alloc, path.as_str(), at, max),
+        }
+    }
+}
