@@ -1,5 +1,6 @@
 -- What a reader answers: a value, or the first fault with its key path.
 use Rattle.std.specs.Prelude.{ℕ, ◌≡◌, ◌++◌, List, [], ◌∷◌, Result, Ok, Err}
+pub use Rattle.cnb_world.specs.Steps.{◌>>=◌}
 use Rattle.cnb_toml.specs.declared.fault.NameFault.{NameFault}
 use Rattle.cnb_toml.specs.declared.fault.NameFault.TheVariants as name
 use Rattle.cnb_toml.specs.declared.fault.DocFault.{DocFault}
@@ -14,12 +15,6 @@ IsFault fault want = fault ≡ want
 abbrev pub Answers : {A : Type 0} → Result A DocFault → Result A DocFault → Type 0
 Answers (Err Memory) want = Unit {0}
 Answers result want = result ≡ want
-
--- one step after another: the first fault ends them
-infixl 10 ◌>>=◌
-abbrev pub ◌>>=◌ : {A B : Type 0} → Result A DocFault → (A → Result B DocFault) → Result B DocFault
-Ok value >>= next = next value
-Err fault >>= next = Err fault
 
 -- the path of what a path leads to below a key
 abbrev pub key_path : List ℕ → List ℕ → List ℕ

@@ -1,14 +1,10 @@
 -- Answers, one after another.
 use Rattle.std.specs.Prelude.{Result, Ok, Err}
+pub use Rattle.cnb_world.specs.Steps.{◌>>=◌}
 
--- the first refusal ends them
+-- the same by its name
 abbrev pub and_then : {A B E : Type 0} → Result A E → (A → Result B E) → Result B E
-and_then (Ok value) next = next value
-and_then (Err fault) next = Err fault
-
-infixl 10 ◌>>=◌
-abbrev pub ◌>>=◌ : {A B E : Type 0} → Result A E → (A → Result B E) → Result B E
-first >>= next = and_then first next
+and_then first next = first >>= next
 
 -- an answer whose fault is told as another
 abbrev pub with_fault : {A E F : Type 0} → (E → F) → Result A E → Result A F
