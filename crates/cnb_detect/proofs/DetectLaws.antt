@@ -13,7 +13,7 @@ use Rattle.cnb_env.specs.declared.files.EnvFile.{EnvFile}
 use Rattle.cnb_env.specs.Files.{platform_files_in, is_fit_platform}
 use Rattle.bp_docs.specs.declared.descriptor.Descriptor.{Descriptor}
 use Rattle.bp_docs.specs.declared.descriptor.Entry.{Entry}
-use Rattle.order_expand.specs.Check.{checked}
+use Rattle.order_expand.specs.Check.{checked, cause_of as order_cause}
 use Rattle.order_expand.specs.declared.order.OrderFault.{OrderFault}
 use Rattle.order_expand.specs.declared.order.OrderFault.TheVariants as order
 use Rattle.steps.specs.Outside.{Outside}
@@ -27,7 +27,7 @@ use Rattle.cnb_detect.specs.Detects.{chooses, detects}
 use Rattle.cnb_detect.specs.declared.preparation.Prepared.{Prepared}
 use Rattle.cnb_detect.specs.Outcome.{prepared_in}
 use Rattle.cnb_detect.specs.Preparation.{frame_of, is_fit_preparation, prepares}
-use Rattle.cnb_detect.specs.Refusals.{cause_of, of_order_fault, of_read_fault, order_cause}
+use Rattle.cnb_detect.specs.Refusals.{cause_of, of_order_fault, of_read_fault}
 
 any_files : (o : Option Tree) → IfSome o (λ files. Unit {0})
 any_files None = tt

@@ -8,7 +8,7 @@ use Rattle.cnb_world.specs.Tree.{Tree}
 use Rattle.cnb_toml.specs.declared.names.Key.{Key}
 use Rattle.doc_files.specs.Faults.{read_cause}
 use Rattle.doc_files.specs.declared.fault.ReadFault.{ReadFault}
-use Rattle.order_expand.specs.Check.{ChecksAs}
+use Rattle.order_expand.specs.Check.{cause_of as order_cause}
 use Rattle.order_expand.specs.declared.order.OrderFault.{OrderFault}
 use Rattle.order_expand.specs.declared.order.OrderFault.TheVariants as order
 use Rattle.detect_core.specs.Answer.{build_plan, says}
@@ -27,7 +27,7 @@ use Rattle.steps.proofs.StepLemmas.{given_fault, read_so}
 use Rattle.cnb_detect.specs.declared.preparation.Prepared.{Prepared}
 use Rattle.cnb_detect.specs.Choice.{as_choice, choice_by, choice_in, choice_of, jobs_of, listed_jobs}
 use Rattle.cnb_detect.specs.declared.refusal.DetectRefusal.TheVariants.{NoGroup}
-use Rattle.cnb_detect.specs.Refusals.{cause_of, of_detect_end, order_cause}
+use Rattle.cnb_detect.specs.Refusals.{cause_of, of_detect_end}
 
 -- files that were read
 pub read_step : {W T : Type 0} (ghosts : world.Ghosts W) (fits : Tree → Bool) (want : Tree → Result T ReadFault) (result : Result T ReadFault) (old new : W)
@@ -36,13 +36,13 @@ pub read_step : {W T : Type 0} (ghosts : world.Ghosts W) (fits : Tree → Bool) 
 read_step ghosts fits want result old new answer frame allows = read_so ghosts read_cause fits want result old new answer frame.cause frame.files frame.runs allows
 
 -- an order that was refused
-pub check_step : {S : Type 0} (fault : OrderFault) (want : Result ℕ OrderFault) (old : S) → ChecksAs (Err fault) want → gives order_cause want old (Err fault) old
-check_step (order.Absent id) want old h = given_fault order_cause want old (order.Absent id) (sym h) tt
-check_step (order.Ambiguous id) want old h = given_fault order_cause want old (order.Ambiguous id) (sym h) tt
-check_step (order.Api id api) want old h = given_fault order_cause want old (order.Api id api) (sym h) tt
-check_step (order.Deep id) want old h = given_fault order_cause want old (order.Deep id) (sym h) tt
-check_step order.ManyGroups want old h = given_fault order_cause want old order.ManyGroups (sym h) tt
-check_step order.LongGroup want old h = given_fault order_cause want old order.LongGroup (sym h) tt
+pub check_step : {S : Type 0} (fault : OrderFault) (want : Result ℕ OrderFault) (old : S) → IsAnswer {A = ℕ} order_cause (Err fault) want → gives order_cause want old (Err fault) old
+check_step (order.Absent id) want old h = given_fault order_cause want old (order.Absent id) h tt
+check_step (order.Ambiguous id) want old h = given_fault order_cause want old (order.Ambiguous id) h tt
+check_step (order.Api id api) want old h = given_fault order_cause want old (order.Api id api) h tt
+check_step (order.Deep id) want old h = given_fault order_cause want old (order.Deep id) h tt
+check_step order.ManyGroups want old h = given_fault order_cause want old order.ManyGroups h tt
+check_step order.LongGroup want old h = given_fault order_cause want old order.LongGroup h tt
 check_step order.Memory want old h = given_fault order_cause want old order.Memory tt tt
 
 -- a refusal of the children that were asked: no call on a file is made

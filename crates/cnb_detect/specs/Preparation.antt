@@ -8,13 +8,13 @@ use Rattle.order_files.specs.Catalog.{catalog_in, is_fit_catalog}
 use Rattle.order_files.specs.OrderFile.{order_file_in, is_fit_order_file}
 use Rattle.cnb_env.specs.declared.files.EnvFile.{EnvFile}
 use Rattle.cnb_env.specs.Files.{platform_files_in, is_fit_platform}
-use Rattle.order_expand.specs.Check.{checked}
+use Rattle.order_expand.specs.Check.{checked, cause_of as order_cause}
 use Rattle.detect_core.specs.declared.chosen.DetectFrame.{DetectFrame}
 use Rattle.steps.specs.Outside.{Seen}
 use Rattle.steps.specs.Steps.{◌>>=◌, gives, map_err, reads}
 use Rattle.cnb_detect.specs.declared.preparation.Prepared.{Prepared}
 use Rattle.cnb_detect.specs.declared.refusal.DetectRefusal.{DetectRefusal}
-use Rattle.cnb_detect.specs.Refusals.{cause_of, of_read_fault, of_order_fault, order_cause}
+use Rattle.cnb_detect.specs.Refusals.{cause_of, of_read_fault, of_order_fault}
 
 -- what all detect children have in common
 abbrev pub frame_of : DetectWords → List Variable → List EnvFile → DetectFrame

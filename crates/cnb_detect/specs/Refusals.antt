@@ -36,15 +36,6 @@ of_order_fault order.ManyGroups = Limit limit.Groups
 of_order_fault order.LongGroup = Limit limit.Entries
 of_order_fault order.Memory = Memory
 
-abbrev pub order_cause : OrderFault → Cause
-order_cause (order.Absent id) = Decided
-order_cause (order.Ambiguous id) = Decided
-order_cause (order.Api id api) = Decided
-order_cause (order.Deep id) = Decided
-order_cause order.ManyGroups = Decided
-order_cause order.LongGroup = Decided
-order_cause order.Memory = OutOfMemory
-
 abbrev pub of_detect_end : DetectEnd → DetectRefusal
 of_detect_end (end.NoGroup erred) = NoGroup erred
 of_detect_end end.ManyTrials = Limit limit.Trials

@@ -12,7 +12,7 @@ use Rattle.bp_docs.specs.declared.descriptor.Entry.{Entry}
 use Rattle.bp_docs.specs.declared.descriptor.Descriptor.{Descriptor}
 use Rattle.order_expand.specs.declared.order.OrderFault.{OrderFault}
 use Rattle.order_expand.specs.declared.order.OrderFault.TheVariants as order
-use Rattle.order_expand.specs.Check.{checked, ChecksAs}
+use Rattle.order_expand.specs.Check.{checked, cause_of as order_cause}
 use Rattle.order_expand.specs.Groups.{listed_groups}
 use Rattle.steps.specs.Asking.{AreSaid, AreSome, AskedBy, CountsSpawners, IsMadeOf, OneRose, RunShares}
 use Rattle.steps.specs.Outside.{SpawnerSeen, faults_of}
@@ -35,19 +35,20 @@ use Rattle.cnb_drill.specs.Law.{found_in, found_of}
 use Rattle.cnb_drill.specs.Order.{drill_catalog, drill_order}
 use Rattle.cnb_drill.specs.Replies.{drill_replies}
 use Rattle.cnb_drill.proofs.Members.{IsDrilled, drill_resolved, group_keys}
+use Rattle.steps.specs.Causes.{IsAnswer}
 use Rattle.cnb_drill.proofs.CountLemmas.{each_append, each_first, each_second}
 use Rattle.cnb_drill.proofs.CheckLemmas.{checked_drill}
 use Rattle.cnb_drill.proofs.DrillLemmas.{drilled_by_runs, asked_by_runs, reached_by_replies}
 
 -- ---- what `check` answers
 
-pub checks : (result : Result ℕ OrderFault) (catalog : List Descriptor) (order : List (List Entry)) → order ≡ drill_order → catalog ≡ drill_catalog → ChecksAs result (checked catalog order) → ChecksAs result (Ok 4096)
-checks result catalog order o c h = subst (ChecksAs result) ((λ i. checked (c i) (o i)) ∙ checked_drill) h
+pub checks : (result : Result ℕ OrderFault) (catalog : List Descriptor) (order : List (List Entry)) → order ≡ drill_order → catalog ≡ drill_catalog → IsAnswer order_cause result (checked catalog order) → IsAnswer order_cause result (Ok 4096)
+checks result catalog order o c h = subst (IsAnswer order_cause result) ((λ i. checked (c i) (o i)) ∙ checked_drill) h
 
-pub checks_ok : (n : ℕ) → ChecksAs (Ok n) (Ok 4096) → n ≡ 4096
+pub checks_ok : (n : ℕ) → IsAnswer order_cause (Ok n) (Ok 4096) → n ≡ 4096
 checks_ok n h = cc
 
-pub checks_err : (fault : OrderFault) → ChecksAs (Err fault) (Ok 4096) → fault ≡ order.Memory
+pub checks_err : (fault : OrderFault) → IsAnswer {A = ℕ} order_cause (Err fault) (Ok 4096) → fault ≡ order.Memory
 checks_err (order.Absent id) h = absurd cc
 checks_err (order.Ambiguous id) h = absurd cc
 checks_err (order.Api id api) h = absurd cc

@@ -71,11 +71,6 @@ files_later ChildFailed before now h = omega (arith, h)
 files_later OutOfMemory before now h = h
 files_later Decided before now h = omega (arith, h)
 
-told_files : (told : Refusal) (before now : ℕ) → FilesBy (cause_of told) before now → CauseOfFile (Refused told) before now
-told_files (File path) before now h = h
-told_files Memory before now h = h
-told_files told before now h = h
-
 pub cause_of_file : (end : Result Answer Refusal) (status : Status) (taken_old taken_new : Option (List ℕ)) (before now : ℕ) → Finishes end status taken_old taken_new → CountsFiles cause_of end before now → CauseOfFile status before now
 cause_of_file (Ok (answer.Printed text)) Done t0 t1 before now f h = h
 cause_of_file (Ok (answer.Printed text)) Output t0 t1 before now f h = omega (arith, h)
@@ -87,9 +82,8 @@ cause_of_file (Ok (answer.Launched code)) (Refused told) t0 t1 before now f h = 
 cause_of_file (Ok (answer.Launched code)) (Launched told) t0 t1 before now f h = h
 cause_of_file (Err refusal) Done t0 t1 before now f h = absurd f
 cause_of_file (Err refusal) Output t0 t1 before now f h = files_later (cause_of refusal) before now h
-cause_of_file (Err refusal) (Refused Memory) t0 t1 before now f h = files_later (cause_of refusal) before now h
 cause_of_file (Err refusal) (Launched code) t0 t1 before now f h = absurd f
-cause_of_file (Err refusal) (Refused told) t0 t1 before now f h = told_files told before now (subst (λ r. FilesBy (cause_of r) before now) (sym f.0) h)
+cause_of_file (Err refusal) (Refused told) t0 t1 before now f h = subst (λ r. FilesBy (cause_of r) before now) (sym f.0) h
 
 -- counts of spawners
 same_fell : (before now : List ℕ) → now ≡ before → NoneFell before now
@@ -109,11 +103,6 @@ child_later ChildFailed before now befores nows (inr (later, rose)) = (later, ro
 child_later OutOfMemory before now befores nows h = h
 child_later Decided before now befores nows h = (omega (arith, h.0), same_fell befores nows h.1)
 
-told_child : (told : Refusal) (before now : ℕ) (befores nows : List ℕ) → EitherBy (cause_of told) before now befores nows → CauseOfChild (Refused told) before now befores nows
-told_child Child before now befores nows h = h
-told_child Memory before now befores nows h = h
-told_child told before now befores nows h = h
-
 pub cause_of_child : (end : Result Answer Refusal) (status : Status) (taken_old taken_new : Option (List ℕ)) (before now : ℕ) (befores nows : List ℕ) → Finishes end status taken_old taken_new
     → CountsChild end before now befores nows → CauseOfChild status before now befores nows
 cause_of_child (Ok (answer.Printed text)) Done t0 t1 before now befores nows f h = h
@@ -126,6 +115,5 @@ cause_of_child (Ok (answer.Launched code)) (Refused told) t0 t1 before now befor
 cause_of_child (Ok (answer.Launched code)) (Launched told) t0 t1 before now befores nows f h = h
 cause_of_child (Err refusal) Done t0 t1 before now befores nows f h = absurd f
 cause_of_child (Err refusal) Output t0 t1 before now befores nows f h = child_later (cause_of refusal) before now befores nows h
-cause_of_child (Err refusal) (Refused Memory) t0 t1 before now befores nows f h = child_later (cause_of refusal) before now befores nows h
 cause_of_child (Err refusal) (Launched code) t0 t1 before now befores nows f h = absurd f
-cause_of_child (Err refusal) (Refused told) t0 t1 before now befores nows f h = told_child told before now befores nows (subst (λ r. EitherBy (cause_of r) before now befores nows) (sym f.0) h)
+cause_of_child (Err refusal) (Refused told) t0 t1 before now befores nows f h = subst (λ r. EitherBy (cause_of r) before now befores nows) (sym f.0) h

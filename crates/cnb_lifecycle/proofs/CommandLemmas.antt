@@ -1,6 +1,6 @@
 -- The command that is asked for, or why the words are refused.
 use Rattle.std.proofs.Common.{◌≡◌, ◌∙◌, sym, ap, subst, Result, Ok, Err}
-use Rattle.cnb_words.specs.Words.{AsksAs}
+use Rattle.cnb_words.specs.Faults.{cause_of as words_cause_of}
 use Rattle.cnb_words.specs.declared.fault.WordsFault.{WordsFault}
 use Rattle.cnb_words.specs.declared.fault.WordsFault.TheVariants as words
 use Rattle.cnb_words.specs.declared.words.Asked.{Asked}
@@ -10,7 +10,7 @@ use Rattle.cnb_lifecycle.specs.declared.refusal.Refusal.{Refusal}
 use Rattle.cnb_lifecycle.specs.Commands.{of_words, where_served}
 use Rattle.cnb_lifecycle.specs.Faults.{cause_of, of_words_fault}
 
-pub words_refused : (fault : WordsFault) (want : Result Asked WordsFault) (api : Result (Unit {0}) Refusal) → AsksAs (Err fault) want → IsAnswer {A = Asked} cause_of (Err (of_words_fault fault)) (where_served (of_words want) api)
+pub words_refused : (fault : WordsFault) (want : Result Asked WordsFault) (api : Result (Unit {0}) Refusal) → IsAnswer {A = Asked} words_cause_of (Err fault) want → IsAnswer {A = Asked} cause_of (Err (of_words_fault fault)) (where_served (of_words want) api)
 words_refused words.Usage want api h = ap (λ w. where_served (of_words w) api) h
 words_refused words.Memory want api h = tt
 

@@ -1,13 +1,11 @@
 -- How a command ends: its status, its text, and the causes of both.
 use Rattle.std.specs.Prelude.{ℕ, ℤ, pos, negsuc, ◌≡◌, ◌≤◌, List, if◌then◌else◌, nat_lt, Option, Some, None, Result}
-use Rattle.cnb_world.specs.Calls.{Rose}
 use Rattle.steps.specs.Asking.{NoneFell}
-use Rattle.steps.specs.Causes.{CountsFiles}
+use Rattle.steps.specs.Causes.{CountsFiles, FilesBy}
 use Rattle.steps.specs.Outside.{Outside, faults_of}
-use Rattle.cnb_create.specs.Counts.{CountsEither, EitherRose}
+use Rattle.cnb_create.specs.Counts.{CountsEither, EitherBy}
 use Rattle.cnb_lifecycle.specs.declared.answer.Answer.{Answer}
 use Rattle.cnb_lifecycle.specs.declared.refusal.Refusal.{Refusal}
-use Rattle.cnb_lifecycle.specs.declared.refusal.Refusal.TheVariants.{File, Memory, Child}
 use Rattle.cnb_lifecycle.specs.declared.status.Status.{Status}
 use Rattle.cnb_lifecycle.specs.declared.status.Status.TheVariants.{Done, Output, Refused, Launched}
 use Rattle.cnb_lifecycle.specs.Faults.{cause_of}
@@ -49,16 +47,12 @@ pub record Ends (steps : Surroundings → Result Answer Refusal → Surroundings
 abbrev pub CauseOfFile : Status → ℕ → ℕ → Type 0
 CauseOfFile Done before now = now ≡ before
 CauseOfFile Output before now = before ≤ now
-CauseOfFile (Refused (File path)) before now = Rose before now
-CauseOfFile (Refused Memory) before now = before ≤ now
-CauseOfFile (Refused refusal) before now = now ≡ before
+CauseOfFile (Refused refusal) before now = FilesBy (cause_of refusal) before now
 CauseOfFile (Launched code) before now = now ≡ before
 
 -- the same of `Child`, the world's count of children that gave no end and the counts of the spawners
 abbrev pub CauseOfChild : Status → ℕ → ℕ → List ℕ → List ℕ → Type 0
 CauseOfChild Done before now befores nows = (now ≡ before) × (nows ≡ befores)
 CauseOfChild Output before now befores nows = (before ≤ now) × NoneFell befores nows
-CauseOfChild (Refused Child) before now befores nows = EitherRose before now befores nows
-CauseOfChild (Refused Memory) before now befores nows = (before ≤ now) × NoneFell befores nows
-CauseOfChild (Refused refusal) before now befores nows = (now ≡ before) × (nows ≡ befores)
+CauseOfChild (Refused refusal) before now befores nows = EitherBy (cause_of refusal) before now befores nows
 CauseOfChild (Launched code) before now befores nows = (now ≡ before) × (nows ≡ befores)

@@ -82,12 +82,6 @@ asked_by [] = Err Usage
 asked_by (program ∷ words) =
     if is_launcher program then launcher_asked (root_of program) words else unless_process (process_type program) (root_of program) words
 
--- an answer is this one, unless memory ran out
-abbrev pub AsksAs : Result Asked WordsFault → Result Asked WordsFault → Type 0
-AsksAs (Ok asked) want = want ≡ Ok asked
-AsksAs (Err Usage) want = want ≡ Err Usage
-AsksAs (Err Memory) want = Unit {0}
-
 -- the folders of the caches that a command uses
 abbrev pub caches_asked : Asked → List (List ℕ)
 caches_asked (Restore words) = words.caches

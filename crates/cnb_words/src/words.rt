@@ -3,7 +3,9 @@ ghost use Rattle.std.specs.Prelude.{◌≡◌, ◌∷◌, IfOk, IsTrue, map, str
 ghost use Rattle.cnb_toml.specs.Names.{is_process_type};
 ghost use Rattle.cnb_words.specs.Chosen.{image_chosen, phase_chosen};
 ghost use Rattle.cnb_words.specs.Options.{options_in};
-ghost use Rattle.cnb_words.specs.Words.{AsksAs, AsksWithinLimits, asked_by, asked_of, caches_asked, command_asked, launcher_asked, options_asked, process_asked};
+ghost use Rattle.steps.specs.Causes.{IsAnswer};
+ghost use Rattle.cnb_words.specs.Faults.{cause_of};
+ghost use Rattle.cnb_words.specs.Words.{AsksWithinLimits, asked_by, asked_of, caches_asked, command_asked, launcher_asked, options_asked, process_asked};
 
 use crate::analyze::{AnalyzeWords, analyze_in};
 use crate::base::{BaseWords, base_in};
@@ -55,7 +57,7 @@ impl Asked {
 
 // A command that builds an image, or is a part of that.
 fn phase_asked(alloc: Global, command: &str, words: &[String]) -> Result<Asked, WordsFault>
-    ensures words { AsksAs result (phase_chosen command.now (options_in (map string_bytes words.now))) }
+    ensures words { IsAnswer cause_of result (phase_chosen command.now (options_in (map string_bytes words.now))) }
     ensures limits { IfOk result AsksWithinLimits }
 {
     if command == "detect" {
@@ -75,7 +77,7 @@ fn phase_asked(alloc: Global, command: &str, words: &[String]) -> Result<Asked, 
 
 // A command on whole images.
 fn image_asked(alloc: Global, command: &str, words: &[String]) -> Result<Asked, WordsFault>
-    ensures words { AsksAs result (image_chosen command.now (options_in (map string_bytes words.now))) }
+    ensures words { IsAnswer cause_of result (image_chosen command.now (options_in (map string_bytes words.now))) }
     ensures limits { IfOk result AsksWithinLimits }
 {
     if command == "create" {
@@ -94,7 +96,7 @@ fn image_asked(alloc: Global, command: &str, words: &[String]) -> Result<Asked, 
 }
 
 fn options_asked(alloc: Global, command: &str, words: &[String]) -> Result<Asked, WordsFault>
-    ensures words { AsksAs result (options_asked command.now (map string_bytes words.now)) }
+    ensures words { IsAnswer cause_of result (options_asked command.now (map string_bytes words.now)) }
     ensures limits { IfOk result AsksWithinLimits }
 {
     phase_asked(alloc, command, words)
@@ -102,7 +104,7 @@ fn options_asked(alloc: Global, command: &str, words: &[String]) -> Result<Asked
 
 /// What a command and the words behind it ask for.
 pub(crate) fn asked_of(alloc: Global, command: &str, words: &[String]) -> Result<Asked, WordsFault>
-    ensures words { AsksAs result (asked_of command.now (map string_bytes words.now)) }
+    ensures words { IsAnswer cause_of result (asked_of command.now (map string_bytes words.now)) }
     ensures limits { IfOk result AsksWithinLimits }
 {
     if command == "launch" {
@@ -115,7 +117,7 @@ pub(crate) fn asked_of(alloc: Global, command: &str, words: &[String]) -> Result
 }
 
 fn command_asked(alloc: Global, words: &[String]) -> Result<Asked, WordsFault>
-    ensures words { AsksAs result (command_asked (map string_bytes words.now)) }
+    ensures words { IsAnswer cause_of result (command_asked (map string_bytes words.now)) }
     ensures limits { IfOk result AsksWithinLimits }
 {
     match words {
@@ -126,7 +128,7 @@ fn command_asked(alloc: Global, words: &[String]) -> Result<Asked, WordsFault>
 
 // The launcher, started by its own name.
 fn launcher_asked(alloc: Global, root: &str, words: &[String]) -> Result<Asked, WordsFault>
-    ensures words { AsksAs result (launcher_asked root.now (map string_bytes words.now)) }
+    ensures words { IsAnswer cause_of result (launcher_asked root.now (map string_bytes words.now)) }
     ensures limits { IfOk result AsksWithinLimits }
 {
     launch_at(alloc, root, words).map(Asked::Launch)
@@ -140,7 +142,7 @@ fn process_asked(
     words: &[String],
 ) -> Result<Asked, WordsFault>
     requires { IsTrue (is_process_type kind.now) }
-    ensures words { AsksAs result (process_asked root.now kind.now (map string_bytes words.now)) }
+    ensures words { IsAnswer cause_of result (process_asked root.now kind.now (map string_bytes words.now)) }
     ensures limits { IfOk result AsksWithinLimits }
 {
     process_at(alloc, root, kind, words).map(Asked::Launch)
@@ -148,7 +150,7 @@ fn process_asked(
 
 // What the program's own word and those behind it ask for.
 fn program_asked(alloc: Global, program: &str, words: &[String]) -> Result<Asked, WordsFault>
-    ensures words { AsksAs result (asked_by (program.now ∷ map string_bytes words.now)) }
+    ensures words { IsAnswer cause_of result (asked_by (program.now ∷ map string_bytes words.now)) }
     ensures limits { IfOk result AsksWithinLimits }
 {
     if is_launcher(program) {
@@ -162,7 +164,7 @@ fn program_asked(alloc: Global, program: &str, words: &[String]) -> Result<Asked
 
 /// What the words of a command line ask for. The first is the program's own.
 pub fn read_words(alloc: Global, words: &[String]) -> Result<Asked, WordsFault>
-    ensures words { AsksAs result (asked_by (map string_bytes words.now)) }
+    ensures words { IsAnswer cause_of result (asked_by (map string_bytes words.now)) }
     ensures limits { IfOk result AsksWithinLimits }
 {
     match words {

@@ -22,6 +22,7 @@ const API: &str = "0.10";
 
 /// The choice that a judged group comes to, where one of its trials passes. A buildpack without alternatives leaves the
 /// group without a trial.
+#[tactic(auto, using(plan_resolve::proofs::ResolutionLemmas::too_many_so, plan_resolve::proofs::ResolutionLemmas::passes_so, plan_resolve::proofs::ResolutionLemmas::fails_so))]
 pub fn end_of(
     alloc: Global,
     judged: &Judged,

@@ -6,9 +6,10 @@ use Rattle.std.proofs.lemmas.Bool.{ltb-false}
 use Rattle.std.proofs.lemmas.List.Elements.{All-cons}
 use Rattle.bp_docs.specs.declared.descriptor.Entry.{Entry}
 use Rattle.bp_docs.specs.declared.descriptor.Descriptor.{Descriptor}
+use Rattle.steps.specs.Causes.{IsAnswer}
 use Rattle.order_expand.specs.declared.order.OrderFault.{OrderFault}
 use Rattle.order_expand.specs.declared.order.OrderFault.TheVariants.{ManyGroups, LongGroup}
-use Rattle.order_expand.specs.Check.{meaning_fault, entry_fault, first_fault, met_entries, first_deep, fault_or_deep, deep_or_count, count_groups, checked, ChecksAs}
+use Rattle.order_expand.specs.Check.{meaning_fault, entry_fault, first_fault, met_entries, first_deep, fault_or_deep, deep_or_count, count_groups, cause_of, checked}
 use Rattle.order_expand.specs.Groups.{may_mean, named, the_only, raw_groups, listed_groups}
 use Rattle.order_expand.specs.Sizes.{longest}
 use Rattle.order_expand.proofs.Counted.{count_by_limits, length-listed}
@@ -44,12 +45,12 @@ number_of_groups catalog order number e =
     let parts = within_limits (length raw) (nat_lt 4096 (length raw)) (nat_lt 256 (longest raw)) number refl (sym (count_by_limits catalog order) ∙ (accepted catalog order number e).counted) in
     (parts.0 ∙ sym (length-listed catalog order), omega (arith, parts.0, parts.1))
 
-pub number_checked : (catalog : List Descriptor) (order : List (List Entry)) (result : Result ℕ OrderFault) → ChecksAs result (checked catalog order) → IfOk result (λ number. number ≡ length (listed_groups catalog order))
-number_checked catalog order (Ok number) h = (number_of_groups catalog order number h).0
+pub number_checked : (catalog : List Descriptor) (order : List (List Entry)) (result : Result ℕ OrderFault) → IsAnswer cause_of result (checked catalog order) → IfOk result (λ number. number ≡ length (listed_groups catalog order))
+number_checked catalog order (Ok number) h = (number_of_groups catalog order number (sym h)).0
 number_checked catalog order (Err fault) h = tt
 
-pub few_checked : (catalog : List Descriptor) (order : List (List Entry)) (result : Result ℕ OrderFault) → ChecksAs result (checked catalog order) → IfOk result (λ number. number ≤ 4096)
-few_checked catalog order (Ok number) h = (number_of_groups catalog order number h).1
+pub few_checked : (catalog : List Descriptor) (order : List (List Entry)) (result : Result ℕ OrderFault) → IsAnswer cause_of result (checked catalog order) → IfOk result (λ number. number ≤ 4096)
+few_checked catalog order (Ok number) h = (number_of_groups catalog order number (sym h)).1
 few_checked catalog order (Err fault) h = tt
 
 -- ---- what the entries name
@@ -69,6 +70,6 @@ all_named catalog (entry ∷ entries) e =
     let parts = none_of_both (entry_fault catalog entry) (first_fault catalog entries) (sym (first_fault-cons catalog entry entries) ∙ e) in
     All-cons (λ (entry : Entry). IsSome (named catalog entry)) entry entries (faultless_one entry (filter (may_mean entry) catalog) parts.0) (all_named catalog entries parts.1)
 
-pub named_checked : (catalog : List Descriptor) (order : List (List Entry)) (result : Result ℕ OrderFault) → ChecksAs result (checked catalog order) → OnOk result (All (λ entry. IsSome (named catalog entry)) (met_entries catalog order))
-named_checked catalog order (Ok number) h = all_named catalog (met_entries catalog order) (accepted catalog order number h).faultless
+pub named_checked : (catalog : List Descriptor) (order : List (List Entry)) (result : Result ℕ OrderFault) → IsAnswer cause_of result (checked catalog order) → OnOk result (All (λ entry. IsSome (named catalog entry)) (met_entries catalog order))
+named_checked catalog order (Ok number) h = all_named catalog (met_entries catalog order) (accepted catalog order number (sym h)).faultless
 named_checked catalog order (Err fault) h = tt

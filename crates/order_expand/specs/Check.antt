@@ -9,6 +9,7 @@ use Rattle.bp_docs.specs.declared.descriptor.Body.TheVariants.{Component, Compos
 use Rattle.bp_docs.specs.declared.descriptor.Descriptor.{Descriptor}
 use Rattle.order_expand.specs.declared.order.OrderFault.{OrderFault}
 use Rattle.order_expand.specs.declared.order.OrderFault.TheVariants.{Absent, Ambiguous, Api, Deep, ManyGroups, LongGroup, Memory}
+use Rattle.steps.specs.Causes.{Cause, OutOfMemory, Decided}
 use Rattle.order_expand.specs.Groups.{may_mean, named, raw_groups, listed_groups}
 
 abbrev pub order_of_body : Body → List (List Entry)
@@ -98,7 +99,12 @@ fault_or_deep catalog order None = deep_or_count catalog order (first_deep catal
 unfoldable pub checked : List Descriptor → List (List Entry) → Result ℕ OrderFault
 checked catalog order = fault_or_deep catalog order (first_fault catalog (met_entries catalog order))
 
--- a call's answer is this one, unless memory ran out
-abbrev pub ChecksAs : Result ℕ OrderFault → Result ℕ OrderFault → Type 0
-ChecksAs (Err Memory) want = Unit {0}
-ChecksAs result want = result ≡ want
+-- why an order is refused: for what it says, or for want of memory
+abbrev pub cause_of : OrderFault → Cause
+cause_of (Absent id) = Decided
+cause_of (Ambiguous id) = Decided
+cause_of (Api id api) = Decided
+cause_of (Deep id) = Decided
+cause_of ManyGroups = Decided
+cause_of LongGroup = Decided
+cause_of Memory = OutOfMemory

@@ -1,7 +1,8 @@
 // Whether an order can be expanded.
 ghost use Rattle.std.specs.Prelude.{◌≡◌, ◌≤◌, All, IfOk, IsSome, OnOk, length};
-ghost use Rattle.order_expand.specs.Check.{checked, count_groups, deep_or_count, first_deep, met_entries, ChecksAs};
+ghost use Rattle.order_expand.specs.Check.{cause_of, checked, count_groups, deep_or_count, first_deep, met_entries};
 ghost use Rattle.order_expand.specs.Groups.{named, listed_groups};
+ghost use Rattle.steps.specs.Causes.{IsAnswer};
 
 use crate::catalog::Catalog;
 use crate::count::{of_order, sizes};
@@ -62,7 +63,7 @@ impl From<Memory> for OrderFault {
 
 /// The number of groups, where they are not too many and none is too long.
 fn count(alloc: Global, order: &Order, catalog: &Catalog) -> Result<u32, OrderFault>
-    ensures { ChecksAs result (count_groups catalog.now order.now) }
+    ensures { IsAnswer cause_of result (count_groups catalog.now order.now) }
 {
     let below = sizes(alloc, catalog, DEEPEST)?;
     let size = of_order(catalog, below.as_slice(), order.as_slice());
@@ -77,7 +78,7 @@ fn count(alloc: Global, order: &Order, catalog: &Catalog) -> Result<u32, OrderFa
 
 /// The same, where no composites nest too deep.
 fn deep_or_count(alloc: Global, order: &Order, catalog: &Catalog) -> Result<u32, OrderFault>
-    ensures { ChecksAs result (deep_or_count catalog.now order.now (first_deep catalog.now order.now)) }
+    ensures { IsAnswer cause_of result (deep_or_count catalog.now order.now (first_deep catalog.now order.now)) }
 {
     let nests = nesting(alloc, catalog, DEEPEST)?;
     match deeper_in_order(catalog, nests.as_slice(), order.as_slice()) {
@@ -89,7 +90,7 @@ fn deep_or_count(alloc: Global, order: &Order, catalog: &Catalog) -> Result<u32,
 /// The number of listed groups. No group is listed for it: time and memory go by the sizes of the order and the catalog,
 /// however many groups there are.
 pub fn check(alloc: Global, order: &Order, catalog: &Catalog) -> Result<u32, OrderFault>
-    ensures answer { ChecksAs result (checked catalog.now order.now) }
+    ensures answer { IsAnswer cause_of result (checked catalog.now order.now) }
     ensures number { IfOk result (λ number. number ≡ length (listed_groups catalog.now order.now)) }
     ensures few { IfOk result (λ number. number ≤ 4096) }
     ensures named { OnOk result (All (λ entry. IsSome (named catalog.now entry)) (met_entries catalog.now order.now)) }

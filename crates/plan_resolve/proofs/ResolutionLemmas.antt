@@ -1,14 +1,16 @@
 -- The first passing trial, found by one trial after another.
-use Rattle.std.proofs.Common.{◌≡◌, ℕ, zero, suc, ◌+◌, ◌<◌, ◌≤◌, List, [], ◌∷◌, length, get_or, arith, drop, refl, ◌∙◌, ap, Option, Some, None, Ok, Bool, true, false, cond}
+use Rattle.std.proofs.Common.{◌≡◌, ℕ, zero, suc, ◌+◌, ◌<◌, ◌≤◌, List, [], ◌∷◌, length, get_or, arith, drop, refl, ◌∙◌, ap, Option, Some, None, Ok, Err, Bool, true, false, cond}
 use Rattle.std.specs.Prelude.{slice_get, nat_lt}
 use Rattle.std.proofs.lemmas.List.{drop_more, drop_all}
 use Rattle.std.proofs.lemmas.Option.{slice_get_within, slice_get-get_or, get_or_from_slice_get}
+use Rattle.steps.specs.Causes.{IsAnswer}
+use Rattle.plan_resolve.specs.declared.resolution.PlanFault.TheVariants.{ManyTrials}
 use Rattle.plan_resolve.specs.declared.rows.TrialRow.{TrialRow}
 use Rattle.plan_resolve.specs.declared.rows.AliveRow.{AliveRow}
 use Rattle.plan_resolve.specs.declared.rows.Resolved.{Resolved}
 use Rattle.plan_resolve.specs.Trials.{kept_of}
 use Rattle.plan_resolve.specs.Choices.{choices_of, choice_count}
-use Rattle.plan_resolve.specs.Resolution.{first_passing, resolved_at, Resolution, TooMany, passes_or_fails, resolution, ResolvesAs}
+use Rattle.plan_resolve.specs.Resolution.{first_passing, resolved_at, Resolution, TooMany, Passes, Fails, cause_of, passes_or_fails, resolution, resolution_answer}
 
 drop_at : (trials : List (List TrialRow)) (number : ℕ) (trial : List TrialRow) → slice_get trials number ≡ Some trial → drop number trials ≡ trial ∷ drop (number + 1) trials
 drop_at trials number trial e =
@@ -64,6 +66,22 @@ pub resolution_tried : (rows : List AliveRow) → nat_lt 65536 (choice_count row
 unfolding resolution
 resolution_tried rows few = ap (λ b. elim b [ true ↦ TooMany | false ↦ passes_or_fails (first_passing rows 0 (choices_of rows)) ]) few
 
-pub resolves : (passing : Option Resolved) (resolution : Resolution) → resolution ≡ passes_or_fails passing → ResolvesAs (Ok passing) resolution
-resolves None resolution e = e
-resolves (Some resolved) resolution e = e
+pub resolves : (passing : Option Resolved) (resolution : Resolution) → resolution ≡ passes_or_fails passing → IsAnswer cause_of (Ok passing) (resolution_answer resolution)
+resolves None resolution e = ap resolution_answer e
+resolves (Some resolved) resolution e = ap resolution_answer e
+
+-- what a group's trials come to, by what a call answers of them
+pub too_many_so : (resolution : Resolution) → resolution_answer resolution ≡ Err ManyTrials → resolution ≡ TooMany
+too_many_so TooMany e = refl
+too_many_so (Passes resolved) e = absurd cc
+too_many_so Fails e = absurd cc
+
+pub passes_so : (resolved : Resolved) (resolution : Resolution) → resolution_answer resolution ≡ Ok (Some resolved) → resolution ≡ Passes resolved
+passes_so resolved TooMany e = absurd cc
+passes_so resolved (Passes found) e = cc
+passes_so resolved Fails e = absurd cc
+
+pub fails_so : (resolution : Resolution) → resolution_answer resolution ≡ Ok None → resolution ≡ Fails
+fails_so TooMany e = absurd cc
+fails_so (Passes resolved) e = absurd cc
+fails_so Fails e = refl

@@ -1,5 +1,6 @@
 -- The first trial of a group that passes.
 use Rattle.std.specs.Prelude.{ℕ, ◌+◌, ◌≡◌, Bool, true, false, List, [], ◌∷◌, length, nat_lt, Option, Some, None, Result, Ok, Err}
+use Rattle.steps.specs.Causes.{Cause, OutOfMemory, Decided}
 use Rattle.plan_resolve.specs.declared.rows.TrialRow.{TrialRow}
 use Rattle.plan_resolve.specs.declared.rows.AliveRow.{AliveRow}
 use Rattle.plan_resolve.specs.declared.rows.Resolved.{Resolved}
@@ -44,9 +45,12 @@ resolution rows = elim (nat_lt 65536 (choice_count rows)) [
 abbrev pub has_options : AliveRow → Bool
 has_options row = nat_lt 0 (length row.options)
 
--- a call's answer is the first passing trial, or that there are too many, or that none passes; or memory ran out
-abbrev pub ResolvesAs : Result (Option Resolved) PlanFault → Resolution → Type 0
-ResolvesAs (Err Memory) resolution = Unit {0}
-ResolvesAs (Err ManyTrials) resolution = resolution ≡ TooMany
-ResolvesAs (Ok (Some resolved)) resolution = resolution ≡ Passes resolved
-ResolvesAs (Ok None) resolution = resolution ≡ Fails
+-- what a call answers of them: the first passing trial, or none, or that there are too many
+abbrev pub resolution_answer : Resolution → Result (Option Resolved) PlanFault
+resolution_answer TooMany = Err ManyTrials
+resolution_answer (Passes resolved) = Ok (Some resolved)
+resolution_answer Fails = Ok None
+
+abbrev pub cause_of : PlanFault → Cause
+cause_of ManyTrials = Decided
+cause_of Memory = OutOfMemory

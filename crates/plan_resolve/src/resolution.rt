@@ -1,8 +1,9 @@
 // The first trial that passes.
 ghost use Rattle.std.specs.Prelude.{◌≡◌, ◌<◌, ◌^◌, IsTrue, IfOk, length};
 ghost use Rattle.std.specs.List.{list_all};
+ghost use Rattle.steps.specs.Causes.{IsAnswer};
 ghost use Rattle.plan_resolve.specs.Choices.{choices_of, choice_count};
-ghost use Rattle.plan_resolve.specs.Resolution.{resolution, ResolvesAs, has_options, first_passing, resolved_at};
+ghost use Rattle.plan_resolve.specs.Resolution.{resolution_answer, cause_of, resolution, has_options, first_passing, resolved_at};
 
 use crate::borrowed::BorrowedRow;
 use crate::choosing::{choose, trial_count};
@@ -87,7 +88,7 @@ fn first_passing(alloc: Global, rows: &[AliveRow], trials: u32) -> Result<Option
 pub fn resolve(alloc: Global, alive: &Alive) -> Result<Option<Resolved>, PlanFault>
     requires rows { length alive.now < 2 ^ 32 }
     requires options { IsTrue (list_all has_options alive.now) }
-    ensures { ResolvesAs result (resolution alive.now) }
+    ensures { IsAnswer cause_of result (resolution_answer (resolution alive.now)) }
 {
     let rows = alive.as_slice();
     let Some(trials) = trial_count(rows) else {
