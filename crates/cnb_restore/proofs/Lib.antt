@@ -1,4 +1,3 @@
-pub mod Ascending
 pub mod CommandLemmas
 pub mod LayingLemmas
 pub mod ReadLemmas

@@ -1,16 +1,13 @@
 -- The rows of a buildpack's layers, and what is restored of each (platform.md, "restorer").
-use Rattle.std.specs.Prelude.{ℕ, Bool, false, ◌++◌, List, [], ◌∷◌, map, Option, Some, None, find, if◌then◌else◌}
+use Rattle.std.specs.Prelude.{ℕ, Bool, false, ◌++◌, List, map, Option, Some, None, find, if◌then◌else◌}
 use Rattle.std.specs.List.{filter}
 use Rattle.std.specs.Option.{option_map}
 use Rattle.std.specs.Str.{bytes_eq}
-use Rattle.std.specs.declared.cmp.Ordering.{Ordering}
-use Rattle.std.specs.declared.cmp.Ordering.TheVariants.{Less, Equal, Greater}
-use Rattle.std.specs.Ordering.{nat_cmp}
-use Rattle.std.specs.Cmp.Lexicographic.{slice_cmp}
 use Rattle.image_docs.specs.declared.layer_row.LayerRow.{LayerRow}
 use Rattle.layer_flags.specs.Restore.{restore_table}
 use Rattle.layer_flags.specs.declared.flags.Flags.{Flags}
 use Rattle.layer_flags.specs.declared.restore.RestoreRow.{RestoreRow}
+use Rattle.plan_resolve.specs.Plan.{ascending}
 
 -- a buildpack's rows
 abbrev pub rows_of : List ℕ → List LayerRow → List LayerRow
@@ -19,21 +16,6 @@ rows_of id rows = filter (λ row. bytes_eq row.id id) rows
 -- the row of a layer among those of its buildpack
 abbrev pub row_of : List ℕ → List LayerRow → Option LayerRow
 row_of name rows = find (λ row. bytes_eq row.layer name) rows
-
--- a name put into a strictly ascending list of names
-abbrev pub put_name_by : Ordering → List ℕ → List ℕ → List (List ℕ) → List (List ℕ) → List (List ℕ)
-put_name_by Less name x xs later = name ∷ x ∷ xs
-put_name_by Equal name x xs later = x ∷ xs
-put_name_by Greater name x xs later = x ∷ later
-
-abbrev pub put_name : List ℕ → List (List ℕ) → List (List ℕ)
-put_name name [] = name ∷ []
-put_name name (x ∷ xs) = put_name_by (slice_cmp nat_cmp name x) name x xs (put_name name xs)
-
--- these names ascending, each once
-abbrev pub ascending : List (List ℕ) → List (List ℕ)
-ascending [] = []
-ascending (name ∷ names) = put_name name (ascending names)
 
 -- the layers of a buildpack that the image or the caches have
 abbrev pub layer_names : List LayerRow → List LayerRow → List (List ℕ)

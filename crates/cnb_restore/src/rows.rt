@@ -2,14 +2,14 @@
 ghost use Rattle.std.specs.Prelude.{◌≡◌, ◌++◌, IfOk, OnOk, map};
 ghost use Rattle.std.specs.Option.{option_copied};
 ghost use Rattle.cnb_restore.specs.Images.{kept_for};
-ghost use Rattle.cnb_restore.specs.Rows.{are_same, ascending, flags_of, layer_names, restored_part, row_of, rows_of, source_of};
+ghost use Rattle.cnb_restore.specs.Rows.{are_same, flags_of, layer_names, restored_part, row_of, rows_of, source_of};
 
 use cnb_toml::BpId;
 use cnb_world::Memory;
 use image_docs::{LayerRow, StoreRow};
 use layer_flags::{Flags, RestoreRow, restore_row};
+use plan_resolve::ascending;
 use std::alloc::Global;
-use std::collections::BTreeSet;
 
 /// What the previous image keeps for a buildpack.
 pub(crate) fn kept_for<'a>(id: &BpId, rows: &'a [StoreRow]) -> Option<&'a StoreRow>
@@ -55,18 +55,6 @@ fn add_names<'a>(names: &mut Vec<&'a str>, rows: &[&'a LayerRow]) -> Result<(), 
         names.push(row.layer.as_str())?;
     }
     Ok(())
-}
-
-/// Names in ascending order, each once.
-fn ascending<'a>(alloc: Global, mut names: Vec<&'a str>) -> Result<Vec<&'a str>, Memory>
-    ensures { IfOk result (λ sorted. map (λ name. name.now) sorted.items
-        ≡ ascending (map (λ name. name.now) names.entry.items)) }
-{
-    let mut set = BTreeSet::new(alloc);
-    while let Some(name) = names.pop() {
-        set.insert(name)?;
-    }
-    Ok(set.into_iter().collect(alloc)?)
 }
 
 /// The names of the layers that the image or the caches have, ascending.
