@@ -13,7 +13,7 @@ use Rattle.steps.specs.Steps.{reads}
 use Rattle.steps.proofs.StepLemmas.{allowed_by, read_so}
 use Rattle.tree_canon.specs.Spelling.{spelling_of}
 use Rattle.tree_canon.specs.declared.node.Node.{Node}
-use Rattle.tree_store.specs.Answers.{BlamesAt, BlamesWithin, Reads, cause_of, is_free}
+use Rattle.tree_store.specs.Answers.{BlamesAt, BlamesWithin, cause_of, is_free}
 use Rattle.tree_store.specs.Around.{LeavesAround}
 use Rattle.tree_store.specs.Overlay.{tree_laid}
 use Rattle.tree_store.specs.Reading.{tree_in}
@@ -22,35 +22,21 @@ use Rattle.tree_store.specs.Store.{Gets, LeavesStore, Puts, tree_path, tree_put}
 use Rattle.tree_store.specs.declared.fault.StoreFault.{StoreFault}
 use Rattle.tree_store.specs.declared.fault.StoreFault.TheVariants.{OddFile, Limit, File, NoTree, Damaged, Clash, Memory}
 
-answer_of : {T : Type 0} (result want : Result T StoreFault) → Reads result want → IsAnswer cause_of result want
-answer_of (Ok value) want h = h
-answer_of (Err (File path)) want h = tt
-answer_of (Err Memory) want h = tt
-answer_of (Err (OddFile path)) want h = h
-answer_of (Err (Limit kind)) want h = h
-answer_of (Err (NoTree digest)) want h = h
-answer_of (Err (Damaged asked found bad)) want h = h
-answer_of (Err (Clash digest)) want h = h
-
-answer_where : {T : Type 0} (result : Result T StoreFault) (o : Option Tree) (want : Tree → Result T StoreFault) → IfSome o (λ files. Reads result (want files)) → IfSome o (λ files. IsAnswer cause_of result (want files))
-answer_where result None want h = tt
-answer_where result (Some files) want h = answer_of result (want files) h
-
 -- files that were read by calls of the right kind
 read_right : {W T : Type 0} (ghosts : world.Ghosts W) (want : Tree → Result T StoreFault) (result : Result T StoreFault) (old new : W)
-    → IfSome (ghosts.tree old) (λ files. Reads result (want files)) → ReadFrame cause_of result (seen ghosts old) (seen ghosts new) → ghosts.misused new ≡ ghosts.misused old
+    → IfSome (ghosts.tree old) (λ files. IsAnswer cause_of result (want files)) → ReadFrame cause_of result (seen ghosts old) (seen ghosts new) → ghosts.misused new ≡ ghosts.misused old
     → reads cause_of (λ files. true) want (seen ghosts old) result (seen ghosts new)
 read_right ghosts want result old new answer frame misused =
-    read_so ghosts cause_of (λ files. true) want result old new (answer_where result (ghosts.tree old) want answer) frame.cause frame.files frame.runs (allowed_by (λ files. true) (ghosts.tree old) _ _ misused)
+    read_so ghosts cause_of (λ files. true) want result old new answer frame.cause frame.files frame.runs (allowed_by (λ files. true) (ghosts.tree old) _ _ misused)
 
 pub tree_read : {W : Type 0} (ghosts : world.Ghosts W) (path : List ℕ) (result : Result Node StoreFault) (old new : W)
-    → IfSome (ghosts.tree old) (λ files. Reads result (tree_in path files)) → ReadFrame cause_of result (seen ghosts old) (seen ghosts new) → ghosts.misused new ≡ ghosts.misused old
+    → IfSome (ghosts.tree old) (λ files. IsAnswer cause_of result (tree_in path files)) → ReadFrame cause_of result (seen ghosts old) (seen ghosts new) → ghosts.misused new ≡ ghosts.misused old
     → reads_tree path (seen ghosts old) result (seen ghosts new)
 unfolding reads_tree
 tree_read ghosts path result old new answer frame misused = read_right ghosts (tree_in path) result old new answer frame misused
 
 pub looked : {W : Type 0} (ghosts : world.Ghosts W) (store digest : List ℕ) (result : Result Bool StoreFault) (old new : W)
-    → IfSome (ghosts.tree old) (λ files. Reads result (Ok (is_file (item_at files (tree_path store digest))))) → ReadFrame cause_of result (seen ghosts old) (seen ghosts new) → ghosts.misused new ≡ ghosts.misused old
+    → IfSome (ghosts.tree old) (λ files. IsAnswer cause_of result (Ok (is_file (item_at files (tree_path store digest))))) → ReadFrame cause_of result (seen ghosts old) (seen ghosts new) → ghosts.misused new ≡ ghosts.misused old
     → looks_for_tree store digest (seen ghosts old) result (seen ghosts new)
 unfolding looks_for_tree
 looked ghosts store digest result old new answer frame misused = read_right ghosts (λ files. Ok (is_file (item_at files (tree_path store digest)))) result old new answer frame misused

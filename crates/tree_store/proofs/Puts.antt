@@ -18,7 +18,8 @@ use Rattle.tree_store.specs.declared.fault.StoreFault.{StoreFault}
 use Rattle.tree_store.specs.declared.fault.StoreFault.TheVariants.{OddFile, Limit, File, NoTree, Damaged, Clash, Memory}
 use Rattle.tree_store.specs.declared.judging.Judging.{Judging}
 use Rattle.tree_store.specs.Judging.{HasTaken}
-use Rattle.tree_store.specs.Answers.{Reads, Unless, is_free, is_file_kind, is_absent_kind}
+use Rattle.steps.specs.Causes.{IsAnswer, WhereDecided}
+use Rattle.tree_store.specs.Answers.{cause_of, is_free, is_file_kind, is_absent_kind}
 use Rattle.tree_store.specs.Store.{left_or_written, kept_or_written, KeepsOver, Keeps, LeavesStore, IsJudgedTree, GetsOf, Gets}
 use Rattle.cnb_world.proofs.WholeLemmas.{unbegun}
 use Rattle.tree_store.proofs.Kept.{contents}
@@ -39,7 +40,7 @@ absent_kind (Some (item.File exec bytes)) = refl
 absent_kind (Some (item.Link target)) = refl
 absent_kind (Some item.Odd) = refl
 
-pub has_told : (o : Option Tree) (path place : List ℕ) (k : Kind) (is : Bool) → place ≡ path → IfSome o (λ files. k ≡ kind_of (item_at files place)) → is ≡ is_file_kind k → IfSome o (λ files. Reads {T = Bool} (Ok is) (Ok (is_file (item_at files path))))
+pub has_told : (o : Option Tree) (path place : List ℕ) (k : Kind) (is : Bool) → place ≡ path → IfSome o (λ files. k ≡ kind_of (item_at files place)) → is ≡ is_file_kind k → IfSome o (λ files. IsAnswer {A = Bool} cause_of (Ok is) (Ok (is_file (item_at files path))))
 has_told None path place k is same told e = tt
 has_told (Some files) path place k is same told e = ap Ok (sym (e ∙ ap is_file_kind told ∙ file_kind (item_at files place) ∙ ap (λ p. is_file (item_at files p)) same))
 
@@ -195,16 +196,21 @@ free_of digest bytes (NoTree d) free = absurd (cc)
 free_of digest bytes (Damaged a f b) free = absurd (cc)
 free_of digest bytes (Clash d) free = absurd (cc)
 
-unless_free : (v : Bool) (P : Type 0) → IsTrue v → Unless v P
-unless_free true P h = tt
-unless_free false P h = absurd (cc)
+unless_free : (fault : StoreFault) (P : Type 0) → IsTrue (is_free fault) → WhereDecided (cause_of fault) P
+unless_free (File path) P free = tt
+unless_free Memory P free = tt
+unless_free (OddFile path) P free = absurd (cc)
+unless_free (Limit k) P free = absurd (cc)
+unless_free (NoTree d) P free = absurd (cc)
+unless_free (Damaged a f b) P free = absurd (cc)
+unless_free (Clash d) P free = absurd (cc)
 
 pub free_gets : (o : Option Tree) (path digest : List ℕ) (fault : StoreFault) → IsTrue (is_free fault) → IfSome o (λ files. Gets digest (item_at files path) (Err fault))
 free_gets None path digest fault free = tt
 free_gets (Some files) path digest fault free = by (item_at files path)
   where
     by : (found : Option Item) → Gets digest found (Err fault)
-    by None = unless_free (is_free fault) (fault ≡ NoTree digest) free
+    by None = unless_free fault (fault ≡ NoTree digest) free
     by (Some (item.File exec bytes)) = free_of digest bytes fault free
     by (Some item.Folder) = free
     by (Some (item.Link target)) = free

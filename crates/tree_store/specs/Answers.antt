@@ -29,15 +29,6 @@ is_free (NoTree digest) = false
 is_free (Damaged asked found bad) = false
 is_free (Clash digest) = false
 
-abbrev pub Unless : Bool → Type 0 → Type 0
-Unless true P = Unit {0}
-Unless false P = P
-
--- an answer is this one, unless the outside failed or memory ran out
-abbrev pub Reads : {T : Type 0} → Result T StoreFault → Result T StoreFault → Type 0
-Reads (Ok value) want = want ≡ Ok value
-Reads (Err fault) want = Unless (is_free fault) (want ≡ Err fault)
-
 abbrev pub IsBlamed : List ℕ → StoreFault → Type 0
 IsBlamed path (File blamed) = blamed ≡ path
 IsBlamed path Memory = Unit {0}

@@ -3,6 +3,7 @@ use Rattle.std.specs.Prelude.{◌≡◌, ℕ, zero, suc, true, ◌+◌, List, []
 use Rattle.cnb_world.specs.Path.{joined}
 use Rattle.cnb_world.specs.Tree.{Tree, item_at}
 use Rattle.cnb_world.specs.Listing.{names_in}
+pub use Rattle.cnb_world.specs.Steps.{◌>>=◌}
 use Rattle.cnb_world.specs.declared.world.Item.{Item}
 use Rattle.cnb_world.specs.declared.world.Item.TheVariants as item
 use Rattle.cnb_world.specs.declared.limits.LimitKind.TheVariants.{Depth, Tree as TreeLimit}
@@ -14,12 +15,6 @@ use Rattle.tree_canon.specs.declared.node.Node.TheVariants as node
 use Rattle.tree_canon.specs.declared.node.Named.{Named}
 use Rattle.tree_store.specs.declared.fault.StoreFault.{StoreFault}
 use Rattle.tree_store.specs.declared.fault.StoreFault.TheVariants.{OddFile, Limit}
-
--- one step after another: the first refusal ends them
-infixl 10 ◌>>=◌
-abbrev pub ◌>>=◌ : {A B : Type 0} → Result A StoreFault → (A → Result B StoreFault) → Result B StoreFault
-Ok value >>= next = next value
-Err fault >>= next = Err fault
 
 -- a node, and how many bytes the spelling has with it
 abbrev pub Sized : Type 0

@@ -13,7 +13,8 @@ use Rattle.tree_canon.specs.Spelling.{spelling_of}
 use Rattle.tree_canon.specs.declared.judging.Judged.{Judged}
 use Rattle.tree_canon.specs.declared.judging.Judged.TheVariants as judged
 use Rattle.tree_canon.specs.declared.node.Node.{Node}
-use Rattle.tree_store.specs.Answers.{Unless, is_free}
+use Rattle.steps.specs.Causes.{WhereDecided}
+use Rattle.tree_store.specs.Answers.{cause_of, is_free}
 use Rattle.tree_store.specs.declared.fault.StoreFault.{StoreFault}
 use Rattle.tree_store.specs.declared.fault.StoreFault.TheVariants.{OddFile, Limit, File, NoTree, Damaged, Clash, Memory}
 
@@ -95,7 +96,7 @@ GetsOf digest bytes (Err (Clash other)) = ⊥
 -- and of what stands there
 abbrev pub Gets : List ℕ → Option Item → Result Node StoreFault → Type 0
 Gets digest None (Ok tree) = ⊥
-Gets digest None (Err fault) = Unless (is_free fault) (fault ≡ NoTree digest)
+Gets digest None (Err fault) = WhereDecided (cause_of fault) (fault ≡ NoTree digest)
 Gets digest (Some (item.File exec bytes)) result = GetsOf digest bytes result
 Gets digest (Some item.Folder) result = IsFree result
 Gets digest (Some (item.Link target)) result = IsFree result

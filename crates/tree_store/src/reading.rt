@@ -8,10 +8,10 @@ ghost use Rattle.cnb_world.specs.declared.world.Kind.TheVariants as kind;
 ghost use Rattle.tree_canon.specs.Fits.{entries_fit};
 ghost use Rattle.tree_canon.specs.Names.{is_name};
 ghost use Rattle.tree_canon.specs.Spelling.{limit, entries_bytes};
-ghost use Rattle.steps.specs.Causes.{CountsFiles};
+ghost use Rattle.steps.specs.Causes.{CountsFiles, IsAnswer};
 ghost use Rattle.steps.specs.Outside.{seen};
 ghost use Rattle.steps.specs.Reading.{ReadFrame};
-ghost use Rattle.tree_store.specs.Answers.{BlamesAt, BlamesWithin, Reads, is_free, cause_of};
+ghost use Rattle.tree_store.specs.Answers.{BlamesAt, BlamesWithin, is_free, cause_of};
 ghost use Rattle.tree_store.specs.Steps.{reads_tree};
 ghost use Rattle.tree_store.specs.Reading.{room, link_of, node_at, node_of, in_order, tree_in, FitsFrom};
 
@@ -86,7 +86,7 @@ fn read_file<W: World>(
     requires size { size ≤ 1073742081 }
     requires kind { IfSome (W.tree world.old) (λ files. kind.File exec len ≡ kind_of (item_at files path.now)) }
     ensures reads { IfSome (W.tree world.old) (λ files. (below : _)
-        → Reads result (node_of files path.now below size (item_at files path.now))) }
+        → IsAnswer cause_of result (node_of files path.now below size (item_at files path.now))) }
     ensures fit { IfOk result (λ read. (depth : ℕ) → depth ≤ 64 → FitsFrom depth size read) }
     ensures few { IfOk result (λ read. read.1 ≤ limit) }
     ensures blames { IfErr result (BlamesAt path.now) }
@@ -122,7 +122,7 @@ fn link_node(
 ) -> Result<(Node, u64), StoreFault>
     requires levels { levels ≤ 65 }
     requires size { size ≤ 1073742081 }
-    ensures reads { Reads result (link_of path.now levels size target) }
+    ensures reads { IsAnswer cause_of result (link_of path.now levels size target) }
     ensures fit { IfOk result (FitsFrom (65 - levels) size) }
     ensures few { IfOk result (λ read. read.1 ≤ limit) }
     ensures blames { IfErr result (BlamesAt path.now) }
@@ -150,7 +150,7 @@ fn read_link<W: World>(
     requires levels { levels ≤ 65 }
     requires size { size ≤ 1073742081 }
     requires kind { IfSome (W.tree world.old) (λ files. kind.Link ≡ kind_of (item_at files path.now)) }
-    ensures reads { IfSome (W.tree world.old) (λ files. Reads result (node_at levels files path.now size)) }
+    ensures reads { IfSome (W.tree world.old) (λ files. IsAnswer cause_of result (node_at levels files path.now size)) }
     ensures fit { IfOk result (FitsFrom (65 - levels) size) }
     ensures few { IfOk result (λ read. read.1 ≤ limit) }
     ensures blames { IfErr result (BlamesAt path.now) }
@@ -193,7 +193,7 @@ fn read_entry<W: World>(
     requires levels { levels ≤ 64 }
     requires size { size ≤ limit }
     requires short { length folder.now + 256 * (levels + 1) ≤ 32768 }
-    ensures reads { IfSome (W.tree world.old) (λ files. Reads result
+    ensures reads { IfSome (W.tree world.old) (λ files. IsAnswer cause_of result
         (node_at levels files (joined folder.now name.now) (size + (2 + length name.now)))) }
     ensures name { is_name name.now ≡ true }
     ensures fit { IfOk result (FitsFrom (65 - levels) (size + (2 + length name.now))) }
@@ -222,7 +222,7 @@ fn read_entries<W: World>(
     requires levels { levels ≤ 64 }
     requires size { size ≤ limit }
     requires short { length folder.now + 256 * (levels + 1) ≤ 32768 }
-    ensures reads { IfSome (W.tree world.old) (λ files. Reads result
+    ensures reads { IfSome (W.tree world.old) (λ files. IsAnswer cause_of result
         (in_order (λ name. node_at levels files (joined folder.now name)) names.now size)) }
     ensures fit { IfOk result (λ read. entries_fit None read.0 (65 - levels) ≡ true) }
     ensures bytes { IfOk result (λ read. read.1 ≡ size + length (entries_bytes read.0)) }
@@ -255,7 +255,7 @@ fn read_folder<W: World>(
     requires size { size ≤ 1073742081 }
     requires short { length path.now + 256 * (levels + 1) ≤ 32768 }
     requires kind { IfSome (W.tree world.old) (λ files. kind.Folder ≡ kind_of (item_at files path.now)) }
-    ensures reads { IfSome (W.tree world.old) (λ files. Reads result
+    ensures reads { IfSome (W.tree world.old) (λ files. IsAnswer cause_of result
         (node_of files path.now (λ name. node_at levels files (joined path.now name)) size
         (item_at files path.now))) }
     ensures fit { IfOk result (FitsFrom (64 - levels) size) }
@@ -283,7 +283,7 @@ fn read_node<W: World>(
     requires levels { levels ≤ 65 }
     requires size { size ≤ 1073742081 }
     requires short { length path.now + 256 * levels ≤ 32768 }
-    ensures reads { IfSome (W.tree world.old) (λ files. Reads result (node_at levels files path.now size)) }
+    ensures reads { IfSome (W.tree world.old) (λ files. IsAnswer cause_of result (node_at levels files path.now size)) }
     ensures fit { IfOk result (FitsFrom (65 - levels) size) }
     ensures few { IfOk result (λ read. read.1 ≤ limit) }
     ensures blames { IfErr result (BlamesWithin path.now) }
@@ -313,7 +313,7 @@ fn read_node<W: World>(
 #[tactic(auto, using(crate::proofs::Blames::at_within))]
 fn tree_at<W: World>(alloc: Global, world: &mut W, path: &Path) -> Result<Tree, StoreFault>
     requires { length path.now ≤ 8192 }
-    ensures reads { IfSome (W.tree world.old) (λ files. Reads result (tree_in path.now files)) }
+    ensures reads { IfSome (W.tree world.old) (λ files. IsAnswer cause_of result (tree_in path.now files)) }
     ensures blames { IfErr result (BlamesWithin path.now) }
     ensures frame { ReadFrame cause_of result (seen W.World world.old) (seen W.World world.new) }
     ensures misused { W.misused world.new ≡ W.misused world.old }

@@ -7,10 +7,10 @@ ghost use Rattle.cnb_world.specs.Path.{is_path, beside};
 ghost use Rattle.cnb_world.specs.Tree.{item_at, is_file, is_file_or_absent, is_root, bytes_of};
 ghost use Rattle.cnb_world.specs.Whole.{can_write, written, LeavesPart};
 ghost use Rattle.tree_canon.specs.Spelling.{spelling_of};
-ghost use Rattle.steps.specs.Causes.{CountsFiles};
+ghost use Rattle.steps.specs.Causes.{CountsFiles, IsAnswer};
 ghost use Rattle.steps.specs.Outside.{seen};
 ghost use Rattle.steps.specs.Reading.{ReadFrame};
-ghost use Rattle.tree_store.specs.Answers.{BlamesAt, Reads, is_free, is_file_kind, is_absent_kind, cause_of};
+ghost use Rattle.tree_store.specs.Answers.{BlamesAt, is_free, is_file_kind, is_absent_kind, cause_of};
 ghost use Rattle.tree_store.specs.Steps.{gets_tree, looks_for_tree, puts_tree};
 ghost use Rattle.tree_store.specs.Store.{tree_path, tree_put, kept_or_written, Gets, IsJudgedTree, Keeps, Puts, LeavesStore};
 
@@ -70,7 +70,7 @@ fn stands<W: World>(
     digest: &Digest,
 ) -> Result<bool, StoreFault>
     requires { length store.now ≤ 8192 }
-    ensures reads { IfSome (W.tree world.old) (λ files. Reads result
+    ensures reads { IfSome (W.tree world.old) (λ files. IsAnswer cause_of result
         (Ok (is_file (item_at files (tree_path store.now digest.now))))) }
     ensures blames { IfErr result (BlamesAt (tree_path store.now digest.now)) }
     ensures frame { ReadFrame cause_of result (seen W.World world.old) (seen W.World world.new) }
