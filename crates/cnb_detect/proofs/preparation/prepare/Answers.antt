@@ -32,18 +32,18 @@ pub returns-in_err-files-clause-step : goal.returns-in_err-files-clause-step
 unfolding prepares
 returns-in_err-files-clause-step g c =
     let exit = err_from_is_err_and c.from_residual-in_err-files.result c.from_residual-in_err-files.ensures.1 in
-    rw (exit.1, exit.2) (went _ _ _ _ _ _ _ (mapped _ _ _ _ _ (read_step g.W.World _ _ _ _ _ c.in_ok-order.ensures.reads c.in_ok-order.ensures.frame c.in_ok-order.ensures.misused)) (went _ _ _ _ _ _ _ (mapped _ _ _ _ _ (read_step g.W.World _ _ _ _ _ c.in_ok-catalog.ensures.reads c.in_ok-catalog.ensures.frame c.in_ok-catalog.ensures.misused)) (went _ _ _ _ _ _ _ (mapped _ _ _ _ _ (given _ _ _ _ (sym c.in_ok-check.ensures.answer))) (ended _ _ _ _ _ (mapped_fault _ _ _ _ _ (read_step g.W.World _ _ _ _ _ c.in_err-files.ensures.reads c.in_err-files.ensures.frame c.in_err-files.ensures.misused))))))
+    rw (exit.1, exit.2) (went _ _ _ _ _ _ _ (mapped _ _ _ _ _ (read_step g.W.World _ _ _ _ _ c.in_ok-order.ensures.reads c.in_ok-order.ensures.frame c.in_ok-order.ensures.misused)) (went _ _ _ _ _ _ _ (mapped _ _ _ _ _ (read_step g.W.World _ _ _ _ _ c.in_ok-catalog.ensures.reads c.in_ok-catalog.ensures.frame c.in_ok-catalog.ensures.misused)) (went _ _ _ _ _ _ _ (mapped _ _ _ _ _ (given _ _ _ _ c.in_ok-check.ensures.answer)) (ended _ _ _ _ _ (mapped_fault _ _ _ _ _ (read_step g.W.World _ _ _ _ _ c.in_err-files.ensures.reads c.in_err-files.ensures.frame c.in_err-files.ensures.misused))))))
 
 pub returns-in_err-frame-clause-step : goal.returns-in_err-frame-clause-step
 unfolding prepares
 returns-in_err-frame-clause-step g c =
     let exit = err_from_is_err_and c.from_residual-in_err-frame.result c.from_residual-in_err-frame.ensures.1 in
-    rw (exit.1, exit.2) (went _ _ _ _ _ _ _ (mapped _ _ _ _ _ (read_step g.W.World _ _ _ _ _ c.in_ok-order.ensures.reads c.in_ok-order.ensures.frame c.in_ok-order.ensures.misused)) (went _ _ _ _ _ _ _ (mapped _ _ _ _ _ (read_step g.W.World _ _ _ _ _ c.in_ok-catalog.ensures.reads c.in_ok-catalog.ensures.frame c.in_ok-catalog.ensures.misused)) (went _ _ _ _ _ _ _ (mapped _ _ _ _ _ (given _ _ _ _ (sym c.in_ok-check.ensures.answer))) (went _ _ _ _ _ _ _ (mapped _ _ _ _ _ (read_step g.W.World _ _ _ _ _ c.in_ok-files.ensures.reads c.in_ok-files.ensures.frame c.in_ok-files.ensures.misused)) (no_memory _ _ _ Memory refl)))))
+    rw (exit.1, exit.2) (went _ _ _ _ _ _ _ (mapped _ _ _ _ _ (read_step g.W.World _ _ _ _ _ c.in_ok-order.ensures.reads c.in_ok-order.ensures.frame c.in_ok-order.ensures.misused)) (went _ _ _ _ _ _ _ (mapped _ _ _ _ _ (read_step g.W.World _ _ _ _ _ c.in_ok-catalog.ensures.reads c.in_ok-catalog.ensures.frame c.in_ok-catalog.ensures.misused)) (went _ _ _ _ _ _ _ (mapped _ _ _ _ _ (given _ _ _ _ c.in_ok-check.ensures.answer)) (went _ _ _ _ _ _ _ (mapped _ _ _ _ _ (read_step g.W.World _ _ _ _ _ c.in_ok-files.ensures.reads c.in_ok-files.ensures.frame c.in_ok-files.ensures.misused)) (no_memory _ _ _ Memory refl)))))
 
 pub returns-clause-step : goal.returns-clause-step
 unfolding prepares
 returns-clause-step g c =
-    went _ _ _ _ _ _ _ (mapped _ _ _ _ _ (read_step g.W.World _ _ _ _ _ c.in_ok-order.ensures.reads c.in_ok-order.ensures.frame c.in_ok-order.ensures.misused)) (went _ _ _ _ _ _ _ (mapped _ _ _ _ _ (read_step g.W.World _ _ _ _ _ c.in_ok-catalog.ensures.reads c.in_ok-catalog.ensures.frame c.in_ok-catalog.ensures.misused)) (went _ _ _ _ _ _ _ (mapped _ _ _ _ _ (given _ _ _ _ (sym c.in_ok-check.ensures.answer))) (went _ _ _ _ _ _ _ (mapped _ _ _ _ _ (read_step g.W.World _ _ _ _ _ c.in_ok-files.ensures.reads c.in_ok-files.ensures.frame c.in_ok-files.ensures.misused)) (given _ _ _ _ (sym (ap (λ (frame : DetectFrame). let prepared : Prepared = record { order = c.in_ok-order.order; catalog = c.in_ok-catalog.catalog; frame = frame } in Ok prepared) c.in_ok-frame.ensures))))))
+    went _ _ _ _ _ _ _ (mapped _ _ _ _ _ (read_step g.W.World _ _ _ _ _ c.in_ok-order.ensures.reads c.in_ok-order.ensures.frame c.in_ok-order.ensures.misused)) (went _ _ _ _ _ _ _ (mapped _ _ _ _ _ (read_step g.W.World _ _ _ _ _ c.in_ok-catalog.ensures.reads c.in_ok-catalog.ensures.frame c.in_ok-catalog.ensures.misused)) (went _ _ _ _ _ _ _ (mapped _ _ _ _ _ (given _ _ _ _ c.in_ok-check.ensures.answer)) (went _ _ _ _ _ _ _ (mapped _ _ _ _ _ (read_step g.W.World _ _ _ _ _ c.in_ok-files.ensures.reads c.in_ok-files.ensures.frame c.in_ok-files.ensures.misused)) (given _ _ _ _ (sym (ap (λ (frame : DetectFrame). let prepared : Prepared = record { order = c.in_ok-order.order; catalog = c.in_ok-catalog.catalog; frame = frame } in Ok prepared) c.in_ok-frame.ensures))))))
 
 pub returns-in_err-order-clause-spawners : goal.returns-in_err-order-clause-spawners
 returns-in_err-order-clause-spawners g c counts =
