@@ -15,3 +15,4 @@ pub mod Feeds
 pub mod DigestTexts
 pub mod Scans
 pub mod ScanFeeds
+mod Held

@@ -1,6 +1,6 @@
 -- What a scan keeps of a cut tree, which private calls alone speak of: no file's contents, and of the entries of an open
 -- folder the number of those to come and one name.
-use Rattle.std.specs.Prelude.{◌≡◌, ℕ, ◌==◌, ◌||◌, ◌+◌, ◌-◌, ◌<◌, ◌++◌, List, [], ◌∷◌, length, map, reverse, slice_index, if◌then◌else◌, nat_lt, nat_le, Option, None, Some}
+use Rattle.std.specs.Prelude.{◌≡◌, ℕ, ◌==◌, ◌||◌, ◌+◌, ◌-◌, ◌<◌, ◌≤◌, ◌++◌, List, [], ◌∷◌, length, map, reverse, sum, All, slice_index, unwrap_or, if◌then◌else◌, nat_lt, nat_le, Option, None, Some}
 use Rattle.std.specs.Int.{from_be_bytes, w16, w32, w64}
 use Rattle.tree_canon.specs.declared.fault.Reason.{Reason}
 use Rattle.tree_canon.specs.declared.fault.Reason.TheVariants as reasons
@@ -144,6 +144,79 @@ behind fs (field.Contents size taken) part = behind_node fs
 behind fs field.TargetLength part = place fs (field.Target (from_be_bytes w16 part))
 behind fs (field.Target size) part = behind_node fs
 behind fs field.End part = place fs field.End
+
+-- how long the name before the next one is, where it is kept
+abbrev pub length_before : NextField → ℕ
+length_before (field.Magic k) = 0
+length_before field.Tag = 0
+length_before field.Count = 0
+length_before (field.NameLength left last) = length (unwrap_or last [])
+length_before (field.Name left last size) = length (unwrap_or last [])
+length_before field.Executable = 0
+length_before field.FileLength = 0
+length_before (field.Contents size taken) = 0
+length_before field.TargetLength = 0
+length_before (field.Target size) = 0
+length_before field.End = 0
+
+-- how many bytes a scanner keeps: those of the names of the open folders, of the name before the next one, and of the
+-- field that has begun
+abbrev pub bytes_held : Scanner → ℕ
+bytes_held s = sum (map (λ f. length f.name) s.folders.items) + length_before s.next + length s.part.items
+
+-- how many bytes of a field are kept before it is whole, at most: none of a file's contents
+abbrev pub kept_width : NextField → ℕ
+kept_width (field.Magic k) = 1
+kept_width field.Tag = 1
+kept_width field.Count = 4
+kept_width (field.NameLength left last) = 2
+kept_width (field.Name left last size) = size
+kept_width field.Executable = 1
+kept_width field.FileLength = 8
+kept_width (field.Contents size taken) = 0
+kept_width field.TargetLength = 2
+kept_width (field.Target size) = size
+kept_width field.End = 1
+
+-- the most that this may be
+abbrev pub most_kept : NextField → ℕ
+most_kept (field.Magic k) = 1
+most_kept field.Tag = 1
+most_kept field.Count = 4
+most_kept (field.NameLength left last) = 2
+most_kept (field.Name left last size) = 255
+most_kept field.Executable = 1
+most_kept field.FileLength = 8
+most_kept (field.Contents size taken) = 0
+most_kept field.TargetLength = 2
+most_kept (field.Target size) = 4096
+most_kept field.End = 1
+
+-- how many folders may be open there: one more before a tag, which may break the rule of depth
+abbrev pub most_open : NextField → ℕ
+most_open (field.Magic k) = 64
+most_open field.Tag = 65
+most_open field.Count = 64
+most_open (field.NameLength left last) = 64
+most_open (field.Name left last size) = 64
+most_open field.Executable = 64
+most_open field.FileLength = 64
+most_open (field.Contents size taken) = 64
+most_open field.TargetLength = 64
+most_open (field.Target size) = 64
+most_open field.End = 64
+
+-- what is kept at a place is within the rules of depth, names and targets
+pub record IsSmallPlace (p : Place) : Type 0 where
+  pub depth : length p.folders ≤ most_open p.next
+  pub names : All (λ f. length f.name ≤ 255) p.folders
+  pub before : length_before p.next ≤ 255
+  pub width : kept_width p.next ≤ most_kept p.next
+
+-- and so is what a scanner keeps
+pub record IsSmall (s : Scanner) : Type 0 where
+  pub place : IsSmallPlace (place (reverse s.folders.items) s.next)
+  pub part : length s.part.items ≤ kept_width s.next
 
 -- the place of a cut tree, at the first byte of its next field
 abbrev pub place_of : CutTree → Place

@@ -10,7 +10,7 @@ use Rattle.tree_canon.specs.CutTree.{CutTree}
 use Rattle.tree_canon.specs.Division.{Spells, IsShort}
 use Rattle.tree_canon.specs.Reading.{Reads}
 use Rattle.tree_canon.specs.Feeding.{Fed, Feeds}
-use Rattle.tree_canon.specs.Scanning.{HasReached}
+use Rattle.tree_canon.specs.Scanning.{HasReached, bytes_held}
 
 -- the bytes are those of a cut tree, in which every field meets its rules, and a part of the next field, at which the
 -- scanner is
@@ -37,3 +37,7 @@ abbrev pub ScanEnds : Fed → Result Unit DecodeFault → Type 0
 ScanEnds (Ok bytes) (Ok done) = (root : Node) × Spells root bytes
 ScanEnds (Ok bytes) (Err fault) = IsShort bytes × (fault ≡ faults.Bad (length bytes) reasons.Short)
 ScanEnds (Err fault) result = result ≡ Err fault
+
+-- how many bytes a scan keeps
+abbrev pub held : Scan → ℕ
+held s = bytes_held s.scanner

@@ -1,6 +1,6 @@
 // What a scan keeps of a tree that is cut: the field that comes next and the names of the open folders.
-ghost use Rattle.std.specs.Prelude.{◌≡◌};
-ghost use Rattle.tree_canon.specs.Scanning.{field_width};
+ghost use Rattle.std.specs.Prelude.{◌≡◌, [], length, unwrap_or};
+ghost use Rattle.tree_canon.specs.Scanning.{field_width, length_before};
 
 use cnb_world::Bytes;
 
@@ -62,5 +62,29 @@ impl NextField {
             NextField::Target { size } => *size as u64,
             NextField::End => 1,
         }
+    }
+
+    /// How long the name before the next one is, where it is kept.
+    pub fn length_before(&self) -> usize
+        ensures { result ≡ length_before self.now }
+    {
+        match self {
+            NextField::NameLength { left: _, last } => length_of(last),
+            NextField::Name {
+                left: _,
+                last,
+                size: _,
+            } => length_of(last),
+            _ => 0,
+        }
+    }
+}
+
+fn length_of(name: &Option<Bytes>) -> usize
+    ensures { result ≡ length (unwrap_or name.now []) }
+{
+    match name {
+        Some(name) => name.as_slice().len(),
+        None => 0,
     }
 }

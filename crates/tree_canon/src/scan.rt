@@ -1,7 +1,7 @@
 // Whether bytes that come in pieces spell a tree.
-ghost use Rattle.std.specs.Prelude.{◌≡◌, ◌<◌, [], Ok, None, IfOk};
+ghost use Rattle.std.specs.Prelude.{◌≡◌, ◌<◌, ◌≤◌, [], Ok, IfOk};
 ghost use Rattle.tree_canon.specs.Feeding.{Fed};
-ghost use Rattle.tree_canon.specs.Scanning.{bytes_taken, field_width};
+ghost use Rattle.tree_canon.specs.Scanning.{bytes_taken, field_width, IsSmall};
 
 use crate::fault::{DecodeFault, Reason};
 use crate::next_field::NextField;
@@ -15,11 +15,12 @@ use std::alloc::Global;
 pub struct Scan {
     scanner: Scanner,
     fault: Option<DecodeFault>,
-    ghost partial: { fault ≡ None → bytes_taken scanner.next scanner.part.items < field_width scanner.next },
+    ghost partial: { bytes_taken scanner.next scanner.part.items < field_width scanner.next },
+    ghost small: { IsSmall scanner },
 }
 
 impl Scan {
-    ghost use Rattle.tree_canon.specs.Scans.{Scans, ScanFeeds, ScanEnds};
+    ghost use Rattle.tree_canon.specs.Scans.{Scans, ScanFeeds, ScanEnds, held};
 
     /// A scan that was fed no byte.
     pub fn new(alloc: Global) -> Result<Scan, Memory>
@@ -41,10 +42,20 @@ impl Scan {
         match self.scanner.read(piece) {
             Ok(()) => Ok(()),
             Err(fault) => {
+                self.scanner = Scanner::new(self.scanner.alloc);
                 self.fault = Some(fault);
                 Err(fault)
             }
         }
+    }
+
+    /// How many bytes it keeps: the last names of the open folders, and of the field that has begun all bytes but a
+    /// file's contents. At most these are 64 names of 255 bytes and 4,095 bytes of a target.
+    pub fn held(&self) -> usize
+        ensures held { result ≡ held self.now }
+        ensures few { result ≤ 20415 }
+    {
+        self.scanner.held()
     }
 
     /// Whether all bytes fed spell a tree; else what `Decoder::finish` answers.

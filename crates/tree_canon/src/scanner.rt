@@ -4,7 +4,7 @@ ghost use Rattle.tree_canon.specs.declared.fault.Reason.{Reason};
 ghost use Rattle.tree_canon.specs.declared.fault.DecodeFault.TheVariants as faults;
 ghost use Rattle.tree_canon.specs.declared.next_field.NextField.TheVariants as next_fields;
 ghost use Rattle.tree_canon.specs.declared.next_field.ScannedFolder.{ScannedFolder};
-ghost use Rattle.tree_canon.specs.Scanning.{behind, behind_count, behind_file_length, behind_node, behind_tag, bytes_taken, field_width, place, reason_at, with_bytes, IsAt};
+ghost use Rattle.tree_canon.specs.Scanning.{behind, behind_count, behind_file_length, behind_node, behind_tag, bytes_taken, field_width, place, reason_at, with_bytes, bytes_held, IsSmall, IsAt};
 ghost use Rattle.tree_canon.specs.Reading.{State, Stuck, run};
 
 use crate::fault::DecodeFault;
@@ -52,10 +52,25 @@ impl Scanner {
         }
     }
 
+    /// How many bytes are kept.
+    pub fn held(&self) -> usize
+        requires partial { bytes_taken self.now.next self.now.part.items < field_width self.now.next }
+        requires small { IsSmall self.now }
+        ensures { result ≡ bytes_held self.now }
+    {
+        let mut held = self.next.length_before() + self.part.len();
+        for folder in &self.folders {
+            held += folder.name.as_slice().len();
+        }
+        held
+    }
+
     /// Reads bytes up to the first field that breaks a rule.
     pub fn read(&mut self, piece: &[u8]) -> Result<(), DecodeFault>
-        requires { bytes_taken self.old.next self.old.part.items < field_width self.old.next }
+        requires partial { bytes_taken self.old.next self.old.part.items < field_width self.old.next }
+        requires small { IsSmall self.old }
         ensures partial { OnOk result (bytes_taken self.new.next self.new.part.items < field_width self.new.next) }
+        ensures small { OnOk result (IsSmall self.new) }
         ensures runs { (state : State) → IsAt self.old state → OnOk result (IsAt self.new (run state piece.now)) }
         ensures bad { (state : State) → IsAt self.old state → (at : ℕ) (reason : Reason)
             → result ≡ Err (faults.Bad at reason) → run state piece.now ≡ Stuck at reason }
@@ -95,6 +110,7 @@ impl Scanner {
     /// Judges the field, which is whole, and moves behind it.
     fn take_field(&mut self) -> Result<(), DecodeFault>
         requires whole { bytes_taken self.old.next self.old.part.items ≡ field_width self.old.next }
+        requires small { IsSmall self.old }
         ensures meets { OnOk result (reason_at (length self.old.folders.items) self.old.at self.old.next
             self.old.part.items ≡ None) }
         ensures at { OnOk result (self.new.at ≡ self.old.at + field_width self.old.next) }
@@ -102,6 +118,7 @@ impl Scanner {
             ≡ behind (reverse self.old.folders.items) self.old.next self.old.part.items) }
         ensures empty { OnOk result (self.new.part.items ≡ []) }
         ensures partial { OnOk result (bytes_taken self.new.next self.new.part.items < field_width self.new.next) }
+        ensures small { OnOk result (IsSmall self.new) }
         ensures bad { (at : ℕ) (reason : Reason) → result ≡ Err (faults.Bad at reason) → (at ≡ self.old.at)
             × (reason_at (length self.old.folders.items) self.old.at self.old.next self.old.part.items ≡ Some reason) }
     {

@@ -8,8 +8,8 @@ use cnb_world::{Item, List, Memory, Text};
 use row_files::Row;
 use std::alloc::Global;
 use tree_canon::{
-    DecodeFault, Decoder, Digest, Judged, Named, Node, Tree, TreeFault, decode, encode, is_target,
-    judge,
+    DecodeFault, Decoder, Digest, Judged, Named, Node, Scan, Tree, TreeFault, decode, encode,
+    is_target, judge,
 };
 
 fn fault_words(alloc: Global, fault: DecodeFault) -> Result<String, Fault> {
@@ -89,6 +89,29 @@ pub(crate) fn fed(alloc: Global, row: &Row) -> Result<String, Fault> {
     let end = answer_words(alloc, "", all.as_slice(), decoder.finish())?;
     words.push_str(end.as_str())?;
     Ok(words)
+}
+
+/// How many bytes a scan holds at most and at the end, and what it answers, of a node in so many folders that is fed in
+/// pieces of one byte. Each folder has one entry, with a name of 255 bytes.
+pub(crate) fn scanned(alloc: Global, row: &Row) -> Result<String, Fault> {
+    let mut bytes = bytes_of(alloc, "'CNBT 01")?;
+    let folder = bytes_of(alloc, "'D 00000001 00FF 255*'a")?;
+    for _ in 0..row.number(alloc, "folders")? {
+        bytes.append(folder.as_slice())?;
+    }
+    bytes.append(bytes_of(alloc, row.text(alloc, "node")?)?.as_slice())?;
+    let mut scan = Scan::new(alloc)?;
+    let mut most = 0;
+    for piece in bytes.as_slice().chunks(1) {
+        let _ = scan.feed(piece);
+        most = most.max(scan.held());
+    }
+    let held = scan.held();
+    let end = match scan.finish() {
+        Ok(()) => String::from_str(alloc, "whole")?,
+        Err(fault) => fault_words(alloc, fault)?,
+    };
+    Ok(format!(in alloc; "holds {most} at most, {held} at the end\n{}", end.as_str())?)
 }
 
 fn node_of(alloc: Global, item: Item) -> Result<Node, Fault> {
