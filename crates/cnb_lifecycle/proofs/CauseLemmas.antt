@@ -83,6 +83,7 @@ cause_of_file (Ok (answer.Launched code)) (Launched told) t0 t1 before now f h =
 cause_of_file (Err refusal) Done t0 t1 before now f h = absurd f
 cause_of_file (Err refusal) Output t0 t1 before now f h = files_later (cause_of refusal) before now h
 cause_of_file (Err refusal) (Launched code) t0 t1 before now f h = absurd f
+cause_of_file (Err refusal) (Refused Memory) t0 t1 before now f h = files_later (cause_of refusal) before now h
 cause_of_file (Err refusal) (Refused told) t0 t1 before now f h = subst (λ r. FilesBy (cause_of r) before now) (sym f.0) h
 
 -- counts of spawners
@@ -116,4 +117,5 @@ cause_of_child (Ok (answer.Launched code)) (Launched told) t0 t1 before now befo
 cause_of_child (Err refusal) Done t0 t1 before now befores nows f h = absurd f
 cause_of_child (Err refusal) Output t0 t1 before now befores nows f h = child_later (cause_of refusal) before now befores nows h
 cause_of_child (Err refusal) (Launched code) t0 t1 before now befores nows f h = absurd f
+cause_of_child (Err refusal) (Refused Memory) t0 t1 before now befores nows f h = child_later (cause_of refusal) before now befores nows h
 cause_of_child (Err refusal) (Refused told) t0 t1 before now befores nows f h = subst (λ r. EitherBy (cause_of r) before now befores nows) (sym f.0) h
