@@ -65,7 +65,8 @@ impl From<AllocError> for FileFault {
     }
 }
 
-/// Files, and children that run over them. Where the tree is told, a call whose path has another kind than it needs fails, and is counted.
+/// Files, and children that run over them. Where the tree is told, a call whose path has another kind than it needs
+/// fails, and is counted.
 pub trait World {
     /// What stands at each path, where it is told.
     ghost tree: { Self → Option Tree };
@@ -107,18 +108,21 @@ pub trait World {
         ensures at { LastFailed path.now result (failed_at self.old) (failed_at self.new) }
         ensures children { child_faults self.new ≡ child_faults self.old }
         ensures runs { runs self.new ≡ runs self.old }
-        ensures misused { CountsMisuse (option_map (λ t. can_list t path.now) (tree self.old)) result (misused self.old) (misused self.new) };
+        ensures misused { CountsMisuse (option_map (λ t. can_list t path.now) (tree self.old)) result
+            (misused self.old) (misused self.new) };
 
     /// The file's bytes from `at` on, at most `max` of them.
     fn read(&mut self, path: &Path, at: u64, max: u64) -> Result<Bytes, FileFault>
         ensures bound { IfOk result (λ bytes. length bytes ≤ max) }
-        ensures told { IfSome (tree self.old) (λ t. IfOk result (λ bytes. bytes ≡ take max (drop at (bytes_of (item_at t path.now))))) }
+        ensures told { IfSome (tree self.old)
+            (λ t. IfOk result (λ bytes. bytes ≡ take max (drop at (bytes_of (item_at t path.now))))) }
         ensures tree { tree self.new ≡ tree self.old }
         ensures files { CountsFailed result (file_faults self.old) (file_faults self.new) }
         ensures at { LastFailed path.now result (failed_at self.old) (failed_at self.new) }
         ensures children { child_faults self.new ≡ child_faults self.old }
         ensures runs { runs self.new ≡ runs self.old }
-        ensures misused { CountsMisuse (option_map (λ t. can_read t path.now) (tree self.old)) result (misused self.old) (misused self.new) };
+        ensures misused { CountsMisuse (option_map (λ t. can_read t path.now) (tree self.old)) result
+            (misused self.old) (misused self.new) };
 
     /// Makes an empty file, in place of a file that stands there.
     fn create(&mut self, path: &Path, exec: bool) -> Result<(), FileFault>
@@ -128,7 +132,8 @@ pub trait World {
         ensures at { LastFailed path.now result (failed_at self.old) (failed_at self.new) }
         ensures children { child_faults self.new ≡ child_faults self.old }
         ensures runs { runs self.new ≡ runs self.old }
-        ensures misused { CountsMisuse (option_map (λ t. can_create t path.now) (tree self.old)) result (misused self.old) (misused self.new) };
+        ensures misused { CountsMisuse (option_map (λ t. can_create t path.now) (tree self.old)) result
+            (misused self.old) (misused self.new) };
 
     /// Adds bytes to the file.
     fn append(&mut self, path: &Path, bytes: &[u8]) -> Result<(), FileFault>
@@ -138,7 +143,8 @@ pub trait World {
         ensures at { LastFailed path.now result (failed_at self.old) (failed_at self.new) }
         ensures children { child_faults self.new ≡ child_faults self.old }
         ensures runs { runs self.new ≡ runs self.old }
-        ensures misused { CountsMisuse (option_map (λ t. can_read t path.now) (tree self.old)) result (misused self.old) (misused self.new) };
+        ensures misused { CountsMisuse (option_map (λ t. can_read t path.now) (tree self.old)) result
+            (misused self.old) (misused self.new) };
 
     /// Makes the folder and those above it that are missing.
     fn make_folder(&mut self, path: &Path) -> Result<(), FileFault>
@@ -148,7 +154,8 @@ pub trait World {
         ensures at { LastFailed path.now result (failed_at self.old) (failed_at self.new) }
         ensures children { child_faults self.new ≡ child_faults self.old }
         ensures runs { runs self.new ≡ runs self.old }
-        ensures misused { CountsMisuse (option_map (λ t. can_make_folder t path.now) (tree self.old)) result (misused self.old) (misused self.new) };
+        ensures misused { CountsMisuse (option_map (λ t. can_make_folder t path.now) (tree self.old)) result
+            (misused self.old) (misused self.new) };
 
     /// Gives the file a new name, in place of a file that has it.
     fn rename(&mut self, old: &Path, new: &Path) -> Result<(), FileFault>
@@ -158,7 +165,8 @@ pub trait World {
         ensures at { LastFailed new.now result (failed_at self.old) (failed_at self.new) }
         ensures children { child_faults self.new ≡ child_faults self.old }
         ensures runs { runs self.new ≡ runs self.old }
-        ensures misused { CountsMisuse (option_map (λ t. can_rename t old.now new.now) (tree self.old)) result (misused self.old) (misused self.new) };
+        ensures misused { CountsMisuse (option_map (λ t. can_rename t old.now new.now) (tree self.old)) result
+            (misused self.old) (misused self.new) };
 
     /// Makes a link, where nothing stands.
     fn make_link(&mut self, path: &Path, target: &str) -> Result<(), FileFault>
@@ -168,7 +176,8 @@ pub trait World {
         ensures at { LastFailed path.now result (failed_at self.old) (failed_at self.new) }
         ensures children { child_faults self.new ≡ child_faults self.old }
         ensures runs { runs self.new ≡ runs self.old }
-        ensures misused { CountsMisuse (option_map (λ t. can_make_link t path.now) (tree self.old)) result (misused self.old) (misused self.new) };
+        ensures misused { CountsMisuse (option_map (λ t. can_make_link t path.now) (tree self.old)) result
+            (misused self.old) (misused self.new) };
 
     /// The target of the link.
     fn read_link(&mut self, path: &Path) -> Result<Text, FileFault>
@@ -178,7 +187,8 @@ pub trait World {
         ensures at { LastFailed path.now result (failed_at self.old) (failed_at self.new) }
         ensures children { child_faults self.new ≡ child_faults self.old }
         ensures runs { runs self.new ≡ runs self.old }
-        ensures misused { CountsMisuse (option_map (λ t. can_read_link t path.now) (tree self.old)) result (misused self.old) (misused self.new) };
+        ensures misused { CountsMisuse (option_map (λ t. can_read_link t path.now) (tree self.old)) result
+            (misused self.old) (misused self.new) };
 
     /// Takes away what stands at the path and below it.
     fn remove(&mut self, path: &Path) -> Result<(), FileFault>
@@ -188,11 +198,13 @@ pub trait World {
         ensures at { LastFailed path.now result (failed_at self.old) (failed_at self.new) }
         ensures children { child_faults self.new ≡ child_faults self.old }
         ensures runs { runs self.new ≡ runs self.old }
-        ensures misused { CountsMisuse (option_map (λ _. not (is_root path.now)) (tree self.old)) result (misused self.old) (misused self.new) };
+        ensures misused { CountsMisuse (option_map (λ _. not (is_root path.now)) (tree self.old)) result
+            (misused self.old) (misused self.new) };
 
     /// Runs the child to its end. It may change the files.
     fn run(&mut self, job: &ChildJob) -> Result<End, ChildFault>
-        ensures ok { IfOk result (λ end. runs self.new ≡ runs self.old ++ record { job = job.now; end = end; found = tree self.old; left = tree self.new } ∷ []) }
+        ensures ok { IfOk result (λ end. runs self.new
+            ≡ runs self.old ++ record { job = job.now; end = end; found = tree self.old; left = tree self.new } ∷ []) }
         ensures bound { IfOk result (λ end. length end.side ≤ 1048577) }
         ensures side { job.now.side ≡ false → IfOk result (λ end. end.side ≡ []) }
         ensures told { is_some (tree self.new) ≡ is_some (tree self.old) }

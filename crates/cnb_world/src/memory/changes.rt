@@ -48,7 +48,8 @@ impl Changes {
 
     /// The bytes of a file from `at` on, at most `max` of them.
     pub fn read(&self, path: &str, at: u64, max: u64) -> Result<Bytes, Memory>
-        ensures { IfOk result (λ bytes. bytes ≡ take max (drop at (bytes_of (get (tree_of self.now.list.items) path.now)))) }
+        ensures { IfOk result (λ bytes. bytes
+            ≡ take max (drop at (bytes_of (get (tree_of self.now.list.items) path.now)))) }
     {
         let mut bytes = Bytes::from_vec(Vec::new(self.alloc));
         gather(&self.list, path, &mut bytes)?;
@@ -138,7 +139,8 @@ impl Changes {
     // Adds the names of paths where a change may have let something stand.
     fn add_names(&self, folder: &str, change: &Change, names: &mut Vec<Text>) -> Result<(), Memory>
         ensures names { OnOk result (AreNames names.old.items → AreNames names.new.items) }
-        ensures adds { OnOk result (AddsStanding (tree_of self.now.list.items) folder.now (targets change.now) names.old.items names.new.items) }
+        ensures adds { OnOk result (AddsStanding (tree_of self.now.list.items) folder.now
+            (targets change.now) names.old.items names.new.items) }
     {
         match change {
             Change::Set { path, .. } => self.add_way(folder, path.as_str(), names),
@@ -154,7 +156,8 @@ impl Changes {
     #[tactic(auto, using(crate::proofs::ListingLemmas::adding))]
     fn add_ways(&self, folder: &str, items: &[Placed], names: &mut Vec<Text>) -> Result<(), Memory>
         ensures names { OnOk result (AreNames names.old.items → AreNames names.new.items) }
-        ensures adds { OnOk result (AddsStanding (tree_of self.now.list.items) folder.now (ways_to items.now) names.old.items names.new.items) }
+        ensures adds { OnOk result (AddsStanding (tree_of self.now.list.items) folder.now
+            (ways_to items.now) names.old.items names.new.items) }
     {
         let Some((first, later)) = items.split_first() else {
             return Ok(());
@@ -168,7 +171,8 @@ impl Changes {
     #[tactic(auto, using(crate::proofs::ListingLemmas::adding))]
     fn add_way(&self, folder: &str, path: &str, names: &mut Vec<Text>) -> Result<(), Memory>
         ensures names { OnOk result (AreNames names.old.items → AreNames names.new.items) }
-        ensures adds { OnOk result (AddsStanding (tree_of self.now.list.items) folder.now (way_to path.now) names.old.items names.new.items) }
+        ensures adds { OnOk result (AddsStanding (tree_of self.now.list.items) folder.now
+            (way_to path.now) names.old.items names.new.items) }
     {
         self.add_above(folder, path, names)?;
         self.add_standing(folder, path, names)?;
@@ -177,7 +181,8 @@ impl Changes {
 
     fn add_above(&self, folder: &str, path: &str, names: &mut Vec<Text>) -> Result<(), Memory>
         ensures names { OnOk result (AreNames names.old.items → AreNames names.new.items) }
-        ensures adds { OnOk result (AddsStanding (tree_of self.now.list.items) folder.now (folders_above path.now) names.old.items names.new.items) }
+        ensures adds { OnOk result (AddsStanding (tree_of self.now.list.items) folder.now
+            (folders_above path.now) names.old.items names.new.items) }
     {
         for place in 0..path.len() {
             self.add_at(folder, path, place, names)?;
@@ -196,7 +201,8 @@ impl Changes {
     ) -> Result<(), Memory>
         requires { place < length path.now }
         ensures names { OnOk result (AreNames names.old.items → AreNames names.new.items) }
-        ensures adds { OnOk result (AddsOnWay (tree_of self.now.list.items) folder.now path.now place names.old.items names.new.items) }
+        ensures adds { OnOk result (AddsOnWay (tree_of self.now.list.items) folder.now path.now place
+            names.old.items names.new.items) }
     {
         if !ends_folder(path.as_bytes(), place) {
             return Ok(());
@@ -209,7 +215,8 @@ impl Changes {
     #[tactic(auto, using(crate::proofs::ListingLemmas::standing))]
     fn add_standing(&self, folder: &str, path: &str, names: &mut Vec<Text>) -> Result<(), Memory>
         ensures names { OnOk result (AreNames names.old.items → AreNames names.new.items) }
-        ensures adds { OnOk result (AddsOne (tree_of self.now.list.items) folder.now path.now names.old.items names.new.items) }
+        ensures adds { OnOk result (AddsOne (tree_of self.now.list.items) folder.now path.now
+            names.old.items names.new.items) }
     {
         let Some(name) = name_in(folder, path) else {
             return Ok(());
@@ -232,7 +239,8 @@ impl Changes {
     }
 
     pub fn append(&mut self, path: &str, bytes: &[u8]) -> Result<(), Memory>
-        ensures ok { OnOk result (tree_of self.new.list.items ≡ appended path.now bytes.now (tree_of self.old.list.items)) }
+        ensures ok { OnOk result (tree_of self.new.list.items
+            ≡ appended path.now bytes.now (tree_of self.old.list.items)) }
         ensures err { OnErr result (self.new.list.items ≡ self.old.list.items) }
         ensures runs { runs_of self.new.list.items ≡ runs_of self.old.list.items }
     {
@@ -274,7 +282,8 @@ impl Changes {
 
     /// Places items in order, each with folders at the paths above it.
     pub fn place_all(&mut self, items: Vec<Placed>) -> Result<(), Memory>
-        ensures tree { OnOk result (tree_of self.new.list.items ≡ all_placed items.items (tree_of self.old.list.items)) }
+        ensures tree { OnOk result (tree_of self.new.list.items
+            ≡ all_placed items.items (tree_of self.old.list.items)) }
         ensures standing { OnOk result (IsTree (tree_of self.old.list.items) → IsTree (tree_of self.new.list.items)) }
         ensures runs { runs_of self.new.list.items ≡ runs_of self.old.list.items }
     {
@@ -290,6 +299,7 @@ impl Changes {
         ensures standing { OnOk result (IsTree (tree_of self.old.list.items) → IsTree (tree_of self.new.list.items)) }
         ensures runs { runs_of self.new.list.items ≡ runs_of self.old.list.items }
     {
+        // The proof takes from this call what each path keeps to.
         let _path = next.path.as_str();
         let len = item_len(&next.item);
         self.push(Change::Put { next }, len)
@@ -312,7 +322,8 @@ impl Changes {
     pub fn make_room_for(&mut self, items: &[Placed]) -> Result<(), Memory>
         ensures list { self.new.list.items ≡ self.old.list.items }
         ensures room { OnOk result (vec_len self.new.list < vec_capacity self.new.list) }
-        ensures counted { OnOk result (bytes_written self.new.list.items + length_of_items items.now ≤ self.new.written) }
+        ensures counted { OnOk result (bytes_written self.new.list.items + length_of_items items.now
+            ≤ self.new.written) }
         ensures paths { OnOk result (HavePaths items.now) }
     {
         let Some(len) = items_len(items) else {
@@ -349,6 +360,7 @@ impl Changes {
         requires counted { bytes_written self.old.list.items + length_of_change change ≤ self.old.written }
         ensures list { self.new.list.items ≡ self.old.list.items ++ change ∷ [] }
     {
+        // The proof takes from this line that the count has 64 bits.
         let _written = self.written;
         match self.list.push(change) {
             Ok(()) => {}
@@ -369,7 +381,8 @@ impl Changes {
     }
 
     fn can_be_folder(&self, path: &str) -> bool
-        ensures { let found = item_at (tree_of self.now.list.items) path.now in result ≡ (is_folder found || not (is_some found)) }
+        ensures { let found = item_at (tree_of self.now.list.items) path.now in
+            result ≡ (is_folder found || not (is_some found)) }
     {
         match self.kind(path) {
             Kind::Absent | Kind::Folder => true,

@@ -67,7 +67,8 @@ impl MemShelf {
 
     #[tactic(auto, using(crate::proofs::ShelfLemmas::held_of_push))]
     fn add(&mut self, digest: &[u8; 32], bytes: &[u8]) -> Result<(), Memory>
-        ensures ok { OnOk result (held_of self.new.puts.items ≡ insert (held_of self.old.puts.items) digest.now bytes.now) }
+        ensures ok { OnOk result (held_of self.new.puts.items
+            ≡ insert (held_of self.old.puts.items) digest.now bytes.now) }
         ensures err { OnErr result (self.new.puts.items ≡ self.old.puts.items) }
         ensures rows { self.new.rows ≡ self.old.rows }
         ensures faults { self.new.faults ≡ self.old.faults }

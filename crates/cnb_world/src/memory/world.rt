@@ -64,8 +64,8 @@ impl MemWorld {
         self.changes.runs()
     }
 
-    // Takes the number of a call on files. It fails, and is counted, where its path is of the wrong kind or its number is
-    // among those that fail.
+    // Takes the number of a call on files. It fails, and is counted, where its path is of the wrong kind or its number
+    // is among those that fail.
     fn begin(&mut self, path: &Path, fits: bool) -> Result<(), FileFault>
         ensures changes { self.new.changes ≡ self.old.changes }
         ensures children { self.new.child_faults ≡ self.old.child_faults }
