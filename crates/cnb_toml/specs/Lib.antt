@@ -1,3 +1,4 @@
+pub mod Api
 pub mod Distinct
 pub mod DistinctLaws
 pub mod Document

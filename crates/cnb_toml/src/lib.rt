@@ -26,6 +26,7 @@
 //! ```
 #![tactic(auto)]
 
+mod api;
 mod doc;
 mod document;
 mod fault;
@@ -46,6 +47,7 @@ mod values;
 mod writing;
 mod written;
 
+pub use api::{BUILDPACK_API, is_served};
 pub use doc::Doc;
 pub use document::{document_bytes, read_document, write_document};
 pub use fault::{DocFault, NameFault, of_name, under};

@@ -179,7 +179,8 @@ impl BpId {
     pub fn folder(&self, alloc: Global) -> Result<Text, Memory>
         ensures ok { IfOk result (λ folder. folder ≡ folder_of self.now) }
         ensures part { IsTrue (is_part (folder_of self.now)) }
-        ensures distinct { (other : List ℕ) → IsTrue (is_bp_id other) → folder_of other ≡ folder_of self.now → other ≡ self.now }
+        ensures distinct { (other : List ℕ) → IsTrue (is_bp_id other) → folder_of other ≡ folder_of self.now
+            → other ≡ self.now }
     {
         Ok(Text::from_string(folder_text(alloc, self.text.as_str())?))
     }
