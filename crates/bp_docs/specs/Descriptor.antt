@@ -1,7 +1,7 @@
 -- Buildpack descriptors (buildpack.md, "buildpack.toml (TOML)").
 use Rattle.std.specs.Prelude.{ℕ, Bool, List, [], ◌∷◌, Result, Ok, codes, if◌then◌else◌}
-use Rattle.std.specs.Str.{bytes_eq}
 use Rattle.cnb_toml.specs.declared.fault.DocFault.{DocFault}
+use Rattle.cnb_toml.specs.Api.{is_served}
 use Rattle.cnb_toml.specs.Document.{document_in}
 use Rattle.cnb_toml.specs.Reading.{◌>>=◌}
 use Rattle.cnb_toml.specs.Fields.{required_at, truth_at}
@@ -40,7 +40,7 @@ foreign_in api table = do
   Ok (record { key = key; body = Foreign api })
 
 abbrev pub described_by : List ℕ → TableForm Descriptor
-described_by api table = if bytes_eq api (codes "0.10") then known_in table else foreign_in api table
+described_by api table = if is_served api then known_in table else foreign_in api table
 
 abbrev pub descriptor_at : TableForm Descriptor
 descriptor_at table = required_at text_of (codes "api") table >>= (λ api. described_by api table)

@@ -7,14 +7,12 @@ ghost use Rattle.cnb_toml.specs.Reading.{Answers};
 ghost use Rattle.bp_docs.specs.BuildPlan.{provided_in, required_in, option_in, options_in, plan_within_limit, build_plan_in};
 
 use cnb_toml::{Doc, DocFault, Need, TableForm, TableOf, list_at, metadata_at, required_at};
-use cnb_world::{List, Memory, Text};
+use cnb_world::{LONGEST_DOCUMENT, List, Memory, Text};
 use std::alloc::Global;
 use toml::Table;
 
-/// The most bytes of a Build Plan.
-const MOST_BYTES: usize = 1_048_576;
-
-/// One alternative of a Build Plan (buildpack.md, "Build Plan (TOML)"): the names that it provides and what it requires.
+/// One alternative of a Build Plan (buildpack.md, "Build Plan (TOML)"): the names that it provides and what it
+/// requires.
 #[derive(Drop)]
 pub struct PlanOption {
     pub provides: List<Text>,
@@ -122,9 +120,10 @@ fn plan_within_limit(alloc: Global, bytes: &[u8]) -> Result<List<PlanOption>, Do
 pub fn read_build_plan(alloc: Global, bytes: &[u8]) -> Result<List<PlanOption>, DocFault>
     ensures reads { Answers result (build_plan_in bytes.now) }
     ensures options { IfOk result (λ options. 0 < length options) }
-    ensures kept { IfOk result (λ options. IsTrue (list_all (λ option. list_all (λ need. is_kept need.meta) option.needs) options)) }
+    ensures kept { IfOk result (λ options. IsTrue
+        (list_all (λ option. list_all (λ need. is_kept need.meta) option.needs) options)) }
 {
-    if bytes.len() > MOST_BYTES {
+    if bytes.len() > LONGEST_DOCUMENT {
         return Err(DocFault::wrong(alloc));
     }
     plan_within_limit(alloc, bytes)

@@ -6,7 +6,7 @@ ghost use Rattle.bp_docs.specs.Descriptor.{head_in, body_of, known_in, foreign_i
 
 use crate::descriptor::{Body, Descriptor, Head, Order};
 use crate::order::order_at;
-use cnb_toml::{Doc, DocFault, Key, TableForm, TableOf, required_at, truth_at};
+use cnb_toml::{Doc, DocFault, Key, TableForm, TableOf, is_served, required_at, truth_at};
 use cnb_world::Text;
 use std::alloc::Global;
 use toml::Table;
@@ -59,15 +59,15 @@ fn descriptor_at(alloc: Global, table: &Table) -> Result<Descriptor, DocFault>
     ensures { Answers result (descriptor_at (table_view table.now)) }
 {
     let api = required_at::<Text>(alloc, table, "api")?;
-    if api.as_str() == "0.10" {
+    if is_served(api.as_str()) {
         known_in(alloc, table)
     } else {
         foreign_in(alloc, api, table)
     }
 }
 
-/// Reads a `buildpack.toml` (buildpack.md, "buildpack.toml (TOML)"). Of a descriptor of another Buildpack API than `0.10`
-/// only the key is read besides.
+/// Reads a `buildpack.toml` (buildpack.md, "buildpack.toml (TOML)"). Of a descriptor of another Buildpack API than
+/// `0.10` only the key is read besides.
 #[tactic(auto, unfolding(crate::specs::Descriptor::descriptor_in))]
 pub fn read_buildpack(alloc: Global, bytes: &[u8]) -> Result<Descriptor, DocFault>
     ensures { Answers result (descriptor_in bytes.now) }

@@ -10,9 +10,6 @@ pub struct Entry {
     pub optional: bool,
 }
 
-/// The entries of one group, in order.
-pub type Group = List<Entry>;
-
 /// Groups, in the order in which they are tried.
 pub type Order = List<List<Entry>>;
 

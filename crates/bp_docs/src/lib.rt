@@ -8,5 +8,5 @@ mod order;
 
 pub use build_plan::{PlanOption, read_build_plan};
 pub use buildpack::read_buildpack;
-pub use descriptor::{Body, Descriptor, Entry, Group, Order};
+pub use descriptor::{Body, Descriptor, Entry, Order};
 pub use order::read_order;

@@ -4,7 +4,7 @@ ghost use Rattle.toml.specs.View.{table_view};
 ghost use Rattle.cnb_toml.specs.Reading.{Answers};
 ghost use Rattle.bp_docs.specs.Order.{version_or_none, optional_version_of, entry_in, group_in, order_at, order_in};
 
-use crate::descriptor::{Entry, Group, Order};
+use crate::descriptor::{Entry, Order};
 use cnb_toml::{
     BpId, BpVersion, Doc, DocFault, Form, TableForm, TableOf, filled_list_at, list_at, of_name,
     required_at, truth_at, value_or,
@@ -64,7 +64,7 @@ impl TableForm for FilledGroup {
 
     ghost value_in = { group_in };
 
-    fn read(alloc: Global, table: &Table) -> Result<Group, DocFault> {
+    fn read(alloc: Global, table: &Table) -> Result<List<Entry>, DocFault> {
         filled_list_at::<TableOf<Entry>>(alloc, table, "group")
     }
 }
