@@ -1,9 +1,11 @@
 -- `group.toml` (platform.md, "group.toml (TOML)").
-use Rattle.std.specs.Prelude.{ℕ, Bool, List, [], ◌∷◌, Result, Ok, Err, codes, if◌then◌else◌}
+use Rattle.std.specs.Prelude.{ℕ, Bool, List, [], ◌∷◌, Option, Result, Ok, Err, codes, if◌then◌else◌, not}
+use Rattle.std.specs.List.{find}
 use Rattle.std.specs.Str.{bytes_eq}
 use Rattle.toml.specs.Data.{string, Members, no_members, member}
 use Rattle.cnb_toml.specs.declared.fault.DocFault.{DocFault}
 use Rattle.cnb_toml.specs.declared.fault.DocFault.TheVariants.{Wrong}
+use Rattle.cnb_toml.specs.Api.{is_served}
 use Rattle.cnb_toml.specs.Distinct.{has_key, are_distinct}
 use Rattle.cnb_toml.specs.Document.{document_of}
 use Rattle.cnb_toml.specs.Fields.{required_at, value_or}
@@ -56,3 +58,7 @@ row_members row =
 
 abbrev pub group_members : List GroupRow → Members
 group_members rows = member (codes "group") (list_data (table_data row_members) rows) no_members
+
+-- the first buildpack of another Buildpack API than the one that is served
+abbrev pub foreign_among : List GroupRow → Option GroupRow
+foreign_among group = find (λ row. not (is_served row.api)) group

@@ -2,17 +2,18 @@
 ghost use Rattle.std.specs.Prelude.{◌≡◌, IfOk, IsTrue, Ok, Err, refl, if◌then◌else◌};
 ghost use Rattle.std.specs.HashSet.{contains};
 ghost use Rattle.std.specs.List.{list_all};
+ghost use Rattle.std.specs.Option.{option_copied};
 ghost use Rattle.std.specs.Str.{bytes_eq};
 ghost use Rattle.cnb_toml.specs.Distinct.{is_new, HasKeysOf};
 ghost use Rattle.cnb_toml.specs.Document.{document_in};
 ghost use Rattle.cnb_toml.specs.Reading.{Answers};
 ghost use Rattle.cnb_toml.specs.WrittenLaws.{zero_within};
-ghost use Rattle.run_docs.specs.Group.{row_id, row_in, rows_in, group_in, is_row, is_group_doc, row_members, group_members};
+ghost use Rattle.run_docs.specs.Group.{foreign_among, row_id, row_in, rows_in, group_in, is_row, is_group_doc, row_members, group_members};
 ghost use Rattle.run_docs.specs.GroupLaws.{row_read, group_read, group_dates, group_within};
 
 use cnb_toml::{
-    BpId, BpVersion, DocFault, Key, RowForm, RowsOf, TableForm, WrittenRow, WrittenTable, put_at,
-    read_document, required_at, see_key, value_or, write_document,
+    BpId, BpVersion, DocFault, Key, RowForm, RowsOf, TableForm, WrittenRow, WrittenTable,
+    is_served, put_at, read_document, required_at, see_key, value_or, write_document,
 };
 use cnb_world::{Bytes, List, Memory, Text};
 use std::alloc::Global;
@@ -88,9 +89,9 @@ impl WrittenRow for GroupRow {
 }
 
 /// The table of `group.toml`.
-pub struct Group;
+pub struct GroupTable;
 
-impl TableForm for Group {
+impl TableForm for GroupTable {
     type Value = GroupDoc;
 
     ghost value_in = { rows_in };
@@ -100,7 +101,7 @@ impl TableForm for Group {
     }
 }
 
-impl WrittenTable for Group {
+impl WrittenTable for GroupTable {
     ghost members_of = { group_members };
 
     ghost is_typed = { list_all is_row };
@@ -122,11 +123,18 @@ impl WrittenTable for Group {
     ghost within = { group_within };
 }
 
+/// The first buildpack of a group whose Buildpack API is not served.
+pub fn foreign_among(group: &[GroupRow]) -> Option<&GroupRow>
+    ensures { option_copied result ≡ foreign_among group.now }
+{
+    group.iter().find(|row| !is_served(row.api.as_str()))
+}
+
 /// Reads `group.toml`. The first fault in the order of keys and rows is answered, as `group.1.id`.
 pub fn read_group(alloc: Global, bytes: &[u8]) -> Result<GroupDoc, DocFault>
     ensures { Answers result (group_in bytes.now) }
 {
-    read_document::<Group>(alloc, bytes)
+    read_document::<GroupTable>(alloc, bytes)
 }
 
 /// The text of `group.toml`.
@@ -135,5 +143,5 @@ pub fn write_group(alloc: Global, value: &GroupDoc) -> Result<Bytes, Memory>
         → document_in bytes ≡ Ok (group_members value.now)) }
     ensures reads_back { IfOk result (λ bytes. IsTrue (is_group_doc value.now) → group_in bytes ≡ Ok value.now) }
 {
-    write_document::<Group>(alloc, value)
+    write_document::<GroupTable>(alloc, value)
 }

@@ -12,7 +12,7 @@ mod store;
 
 pub use bp_plan::{BpPlan, read_bp_plan, write_bp_plan};
 pub use build::{BuildToml, read_build, write_build};
-pub use group::{Group, GroupDoc, GroupRow, read_group, write_group};
+pub use group::{GroupDoc, GroupRow, GroupTable, foreign_among, read_group, write_group};
 pub use launch::{LaunchToml, read_launch, write_launch};
 pub use layer::{LayerDoc, read_layer, write_layer};
 pub use plan::{PlanDoc, PlanEntry, read_plan, write_plan};

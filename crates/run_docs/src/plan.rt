@@ -139,9 +139,9 @@ fn entry_of(alloc: Global, providers: List<Key>, needs: List<Need>) -> Result<Pl
 }
 
 /// The table of `plan.toml`.
-struct Plan;
+struct PlanTable;
 
-impl TableForm for Plan {
+impl TableForm for PlanTable {
     type Value = PlanDoc;
 
     ghost value_in = { entries_in };
@@ -151,7 +151,7 @@ impl TableForm for Plan {
     }
 }
 
-impl WrittenTable for Plan {
+impl WrittenTable for PlanTable {
     ghost members_of = { plan_members };
 
     ghost is_typed = { list_all has_key_providers };
@@ -177,7 +177,7 @@ impl WrittenTable for Plan {
 pub fn read_plan(alloc: Global, bytes: &[u8]) -> Result<PlanDoc, DocFault>
     ensures { Answers result (plan_in bytes.now) }
 {
-    read_document::<Plan>(alloc, bytes)
+    read_document::<PlanTable>(alloc, bytes)
 }
 
 /// The text of `plan.toml`.
@@ -186,5 +186,5 @@ pub fn write_plan(alloc: Global, value: &PlanDoc) -> Result<Bytes, Memory>
         → document_in bytes ≡ Ok (plan_members value.now)) }
     ensures reads_back { IfOk result (λ bytes. IsTrue (is_plan_doc value.now) → plan_in bytes ≡ Ok value.now) }
 {
-    write_document::<Plan>(alloc, value)
+    write_document::<PlanTable>(alloc, value)
 }
