@@ -71,6 +71,7 @@ fn are_sized(bytes: &[u8; 32])
     are_bytes(bytes.as_slice());
 }
 
+// That each byte of a slice is below 256 is known where it is read.
 fn are_bytes(bytes: &[u8])
     ensures { IsTrue (list_all (λ byte. nat_lt byte 256) bytes.now) }
 {
