@@ -1,21 +1,17 @@
--- Pieces: what the machine does with a part of a field, and with a whole one.
+-- What the machine does with a whole field, and what stands behind it.
 use Rattle.std.proofs.Common.{◌≡◌, ℕ, ◌+◌, ◌<◌, ◌∙◌, List, [], ◌∷◌, ◌++◌, length, arith, refl, sym, ap, subst, Option, Some, None, Bool, true, false, if◌then◌else◌, ◌&&◌}
 use Rattle.std.specs.Prelude.{nat_lt, nat_le, ◌==◌}
 use Rattle.std.specs.Int.{from_be_bytes, w16, w32, w64}
 use Rattle.std.proofs.lemmas.Bool.{ltb-true, and_parts, eqb-false}
 use Rattle.std.proofs.lemmas.List.{append-nil}
-use Rattle.tree_canon.specs.CutTree.{OpenFolder, Hole, Magic, Tag, Count, NameLength, Name, Executable, FileLength, Contents, TargetLength, Target, End, CutTree, width, last_name}
+use Rattle.tree_canon.specs.CutTree.{OpenFolder, Hole, Magic, Tag, Count, NameLength, Name, Executable, FileLength, Contents, TargetLength, Target, End, CutTree, width}
 use Rattle.tree_canon.specs.Rules.{reason_of, either_reason, unless, large_past, first_byte}
-use Rattle.tree_canon.specs.Names.{is_name, is_target, follows}
-use Rattle.tree_canon.proofs.Texts.{name_utf8, target_utf8}
-use Rattle.tree_canon.proofs.Keeps.{first_parts, ok_true}
-use Rattle.tree_canon.specs.Reading.{IsReadable, entry, cut_at, filled, after, State, Stuck, Going, with_field, run}
+use Rattle.tree_canon.specs.Reading.{entry, cut_at, filled, after, Going, with_field, run}
 use Rattle.tree_canon.specs.declared.node.Node.{Node}
 use Rattle.tree_canon.specs.declared.node.Node.TheVariants.{Folder, File, Link}
 use Rattle.tree_canon.specs.declared.fault.Reason.{Reason}
 use Rattle.tree_canon.specs.declared.fault.Reason.TheVariants as reasons
 use Rattle.tree_canon.proofs.Reach.{run-append, whole_field, is_whole}
-use Rattle.tree_canon.proofs.CutMoves.{part_kept, stuck_stays}
 
 choose : (b : Bool) (x y : CutTree) → (b ≡ true → 0 < width x.hole) → (b ≡ false → 0 < width y.hole) → 0 < width (if b then x else y).hole
 choose true x y f g = f refl
@@ -60,32 +56,3 @@ pub over_field : (at : ℕ) (c : CutTree) (part front back : List ℕ) → lengt
 over_field at c part [] back lt is = absurd (omega (arith, ap length (append-nil part)))
 over_field at c part (b ∷ bs) back lt is =
     run-append (Going at c part) (b ∷ bs) back ∙ ap (λ s. run s back) (whole_field at c part b bs is ∙ sym (is_whole at c (part ++ b ∷ bs) is))
-
--- the state after a field, and then the rest
-pub chunk_goes : (at : ℕ) (c : CutTree) (part front back both rest : List ℕ) (s total : State) → length part < width c.hole → both ≡ part ++ front → length both ≡ width c.hole → rest ≡ front ++ back → s ≡ with_field at c both → run (Going at c part) rest ≡ total → run s back ≡ total
-chunk_goes at c part front back both rest s total lt is len parts e so_far =
-    ap (λ x. run x back) (e ∙ ap (with_field at c) is) ∙ sym (over_field at c part front back lt (sym (ap length is) ∙ len)) ∙ ap (run (Going at c part)) (sym parts) ∙ so_far
-
-pub chunk_stuck : (at : ℕ) (c : CutTree) (part front back both rest : List ℕ) (n : ℕ) (r : Reason) (total : State) → length part < width c.hole → both ≡ part ++ front → length both ≡ width c.hole → rest ≡ front ++ back → with_field at c both ≡ Stuck n r → run (Going at c part) rest ≡ total → total ≡ Stuck n r
-chunk_stuck at c part front back both rest n r total lt is len parts e so_far =
-    sym (chunk_goes at c part front back both rest (Stuck n r) total lt is len parts (sym e) so_far) ∙ stuck_stays n r back
-
-pub chunk_kept : (at : ℕ) (c : CutTree) (part rest both : List ℕ) (total : State) → both ≡ part ++ rest → length both < width c.hole → run (Going at c part) rest ≡ total → Going at c both ≡ total
-chunk_kept at c part rest both total is lt so_far =
-    ap (Going at c) is ∙ sym (part_kept at c part rest (subst (λ x. length x < width c.hole) is lt)) ∙ so_far
-
--- a field that meets its rules is text where it has to be
-pub readable : (depth at : ℕ) (hole : Hole) (f : List ℕ) → reason_of depth at hole f ≡ None → IsReadable hole f
-readable depth at (Magic k) f h = tt
-readable depth at Tag f h = tt
-readable depth at Count f h = tt
-readable depth at (NameLength count before) f h = tt
-readable depth at (Name count before size) f h =
-    let rules = first_parts (large_past (at + size)) (either_reason (unless (is_name f) reasons.Name) (unless (follows (last_name before) f) reasons.Order)) h in
-    name_utf8 f (ok_true (is_name f) reasons.Name (first_parts (unless (is_name f) reasons.Name) (unless (follows (last_name before) f) reasons.Order) rules.1).0)
-readable depth at Executable f h = tt
-readable depth at (FileLength exec) f h = tt
-readable depth at (Contents exec size) f h = tt
-readable depth at TargetLength f h = tt
-readable depth at (Target size) f h = target_utf8 f (ok_true (is_target f) reasons.Name (first_parts (large_past (at + size)) (unless (is_target f) reasons.Name) h).1)
-readable depth at (End node) f h = tt

@@ -14,7 +14,7 @@ use Rattle.tree_canon.specs.declared.next_field.NextField.{NextField}
 use Rattle.tree_canon.specs.declared.next_field.NextField.TheVariants as field
 use Rattle.tree_canon.specs.declared.scanner.Scanner.{Scanner}
 use Rattle.tree_canon.specs.Rules.{unless, either_reason, large_past, first_byte}
-use Rattle.tree_canon.specs.Scanning.{field_width, bytes_taken, with_bytes, reason_at, Place, place, behind_node, behind, length_before, bytes_held, kept_width, most_kept, most_open, IsSmallPlace, IsSmall}
+use Rattle.tree_canon.specs.Scanning.{field_width, bytes_taken, IsWholeField, with_bytes, reason_at, Place, place, behind_node, behind, length_before, bytes_held, kept_width, most_kept, most_open, IsSmallPlace, IsSmall}
 use Rattle.tree_canon.proofs.Keeps.{first_parts, ok_true}
 use Rattle.tree_canon.proofs.Scans.{HasTaken}
 
@@ -36,7 +36,7 @@ small_node (f ∷ fs) few names =
     (λ e. record { depth = omega (arith, few); names = rest; before = All-head (λ f. length f.name ≤ 255) f fs names; width = omega arith })
     (λ e. small_node fs (omega (arith, few)) rest)
 
-small_behind : (depth at : ℕ) (fs : List ScannedFolder) (f : NextField) (part : List ℕ) → depth ≡ length fs → IsSmallPlace (place fs f) → bytes_taken f part ≡ field_width f → reason_at depth at f part ≡ None → IsSmallPlace (behind fs f part)
+small_behind : (depth at : ℕ) (fs : List ScannedFolder) (f : NextField) (part : List ℕ) → depth ≡ length fs → IsSmallPlace (place fs f) → IsWholeField f part → reason_at depth at f part ≡ None → IsSmallPlace (behind fs f part)
 small_behind depth at fs (field.Magic k) part deep h whole meets =
     small_either (nat_lt k 4) (place fs (field.Magic (k + 1))) (place fs field.Tag)
     (λ e. record { depth = h.depth; names = h.names; before = h.before; width = h.width })
@@ -58,7 +58,7 @@ small_behind depth at fs (field.NameLength left last) part deep h whole meets =
 small_behind depth at fs (field.Name left last size) part deep h whole meets =
     record { depth = omega (arith, h.depth); names = All-cons (λ f. length f.name ≤ 255) (record { left = left; name = part }) fs (omega (arith, whole, h.width)) h.names; before = omega arith; width = omega arith }
 small_behind depth at fs field.Executable part deep h whole meets = record { depth = h.depth; names = h.names; before = omega arith; width = omega arith }
-small_behind depth at fs field.FileLength part deep h whole meets =
+small_behind depth at fs (field.FileLength exec) part deep h whole meets =
     small_either (from_be_bytes w64 part == 0) (behind_node fs) (place fs (field.Contents (from_be_bytes w64 part) 0))
     (λ e. small_node fs (omega (arith, h.depth)) h.names)
     (λ e. record { depth = h.depth; names = h.names; before = omega arith; width = omega arith })
@@ -69,38 +69,20 @@ small_behind depth at fs (field.Target size) part deep h whole meets = small_nod
 small_behind depth at fs field.End part deep h whole meets = h
 
 -- behind a field that meets its rules
-pub small_moved : (depth at : ℕ) (fs us : List ScannedFolder) (f next : NextField) (part : List ℕ) → depth ≡ length fs → IsSmallPlace (place (reverse fs) f) → bytes_taken f part ≡ field_width f → reason_at depth at f part ≡ None
+pub small_moved : (depth at : ℕ) (fs us : List ScannedFolder) (f next : NextField) (part : List ℕ) → depth ≡ length fs → IsSmallPlace (place (reverse fs) f) → IsWholeField f part → reason_at depth at f part ≡ None
     → place us next ≡ behind (reverse fs) f part → IsSmallPlace (place us next)
 small_moved depth at fs us f next part deep h whole meets is = subst IsSmallPlace (sym is) (small_behind depth at (reverse fs) f part (deep ∙ sym (length-reverse fs)) h whole meets)
 
 -- ---- bytes of the next field
 
 small_with : (fs : List ScannedFolder) (f : NextField) (part bytes : List ℕ) → IsSmallPlace (place fs f) → IsSmallPlace (place fs (with_bytes f part bytes).0)
-small_with fs (field.Magic k) part bytes h = h
-small_with fs field.Tag part bytes h = h
-small_with fs field.Count part bytes h = h
-small_with fs (field.NameLength left last) part bytes h = h
-small_with fs (field.Name left last size) part bytes h = h
-small_with fs field.Executable part bytes h = h
-small_with fs field.FileLength part bytes h = h
 small_with fs (field.Contents size taken) part bytes h = record { depth = h.depth; names = h.names; before = h.before; width = h.width }
-small_with fs field.TargetLength part bytes h = h
-small_with fs (field.Target size) part bytes h = h
-small_with fs field.End part bytes h = h
+small_with fs f part bytes h = h
 
 kept_with : (f : NextField) (part bytes : List ℕ) → length part ≤ kept_width f → bytes_taken (with_bytes f part bytes).0 (with_bytes f part bytes).1 ≤ field_width (with_bytes f part bytes).0
     → length (with_bytes f part bytes).1 ≤ kept_width (with_bytes f part bytes).0
-kept_with (field.Magic k) part bytes h le = le
-kept_with field.Tag part bytes h le = le
-kept_with field.Count part bytes h le = le
-kept_with (field.NameLength left last) part bytes h le = le
-kept_with (field.Name left last size) part bytes h le = le
-kept_with field.Executable part bytes h le = le
-kept_with field.FileLength part bytes h le = le
 kept_with (field.Contents size taken) part bytes h le = h
-kept_with field.TargetLength part bytes h le = le
-kept_with (field.Target size) part bytes h le = le
-kept_with field.End part bytes h le = le
+kept_with f part bytes h le = le
 
 pub small_taken : (old new : Scanner) (bytes : List ℕ) → IsSmall old → HasTaken old new bytes → bytes_taken new.next new.part.items ≤ field_width new.next → IsSmall new
 small_taken old new bytes h t le =
@@ -124,7 +106,7 @@ few_at field.Count part count total names depth before width kept partial = omeg
 few_at (field.NameLength left last) part count total names depth before width kept partial = omega arith
 few_at (field.Name left last size) part count total names depth before width kept partial = omega arith
 few_at field.Executable part count total names depth before width kept partial = omega arith
-few_at field.FileLength part count total names depth before width kept partial = omega arith
+few_at (field.FileLength exec) part count total names depth before width kept partial = omega arith
 few_at (field.Contents size taken) part count total names depth before width kept partial = omega arith
 few_at field.TargetLength part count total names depth before width kept partial = omega arith
 few_at (field.Target size) part count total names depth before width kept partial = omega arith

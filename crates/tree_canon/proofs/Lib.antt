@@ -10,9 +10,13 @@ pub mod Keeps
 pub mod Total
 pub mod Divided
 pub mod Chunks
-pub mod Readers
-pub mod Feeds
 pub mod DigestTexts
+pub mod CutEvents
+pub mod Making
 pub mod Scans
 pub mod ScanFeeds
+pub mod Takes
+pub mod Tells
+pub mod Feeds
+pub mod Pieces
 mod Held

@@ -3,7 +3,7 @@ use Rattle.std.proofs.Common.{◌≡◌, ℕ, ◌+◌, ◌-◌, ◌<◌, ◌∙�
 use Rattle.std.specs.Prelude.{nat_lt, ◌==◌}
 use Rattle.std.specs.Int.{from_be_bytes, w16, w32, w64}
 use Rattle.std.proofs.lemmas.Bool.{eqb-false}
-use Rattle.std.proofs.lemmas.List.{length-map, length-reverse}
+use Rattle.std.proofs.lemmas.List.{append-nil, length-map, length-reverse}
 use Rattle.std.proofs.lemmas.Bool.Decides.{nat_tests}
 use Rattle.tree_canon.specs.declared.node.Node.{Node}
 use Rattle.tree_canon.specs.declared.node.Node.TheVariants.{Folder, File, Link}
@@ -15,78 +15,35 @@ use Rattle.tree_canon.specs.declared.next_field.NextField.TheVariants as field
 use Rattle.tree_canon.specs.declared.scanner.Scanner.{Scanner}
 use Rattle.tree_canon.specs.CutTree.{OpenFolder, Hole, Magic, Tag, Count, NameLength, Name, Executable, FileLength, Contents, TargetLength, Target, End, CutTree, width, last_name}
 use Rattle.tree_canon.specs.Rules.{reason_of, large_past, first_byte}
-use Rattle.tree_canon.specs.Reading.{entry, cut_at, filled, opened, after_tag, after, State, Stuck, Going, moved, with_field, run}
+use Rattle.tree_canon.specs.Reading.{entry, cut_at, filled, opened, after_tag, after, State, Stuck, Going, moved, run}
 use Rattle.tree_canon.specs.Scanning.{scanned_folder, next_field, kept_part, field_width, bytes_taken, with_bytes, Taken, reason_at, Place, place, behind_node, behind_tag, behind_count, behind_file_length, behind, place_of, HasReached, IsAt}
 use Rattle.tree_canon.proofs.LastNames.{last_from-push}
-use Rattle.tree_canon.proofs.Reach.{is_whole}
-use Rattle.tree_canon.proofs.Chunks.{len_some, none_parts, positive, some_after, chunk_goes, chunk_kept, chunk_stuck}
+use Rattle.tree_canon.proofs.Reach.{is_whole, run-append}
+use Rattle.tree_canon.proofs.CutMoves.{part_kept, stuck_stays}
+use Rattle.tree_canon.proofs.CutEvents.{IsFieldOf}
+use Rattle.tree_canon.proofs.Chunks.{len_some, none_parts, positive, some_after, over_field}
 
 -- ---- what is kept, hole by hole
 
 pub taken_same : (hole : Hole) (part : List ℕ) → bytes_taken (next_field hole (length part)) (kept_part hole part) ≡ length part
-taken_same (Magic k) part = refl
-taken_same Tag part = refl
-taken_same Count part = refl
-taken_same (NameLength count before) part = refl
-taken_same (Name count before size) part = refl
-taken_same Executable part = refl
-taken_same (FileLength exec) part = refl
 taken_same (Contents exec size) part = refl
-taken_same TargetLength part = refl
-taken_same (Target size) part = refl
-taken_same (End node) part = refl
+taken_same hole part = refl
 
 pub width_same : (hole : Hole) (n : ℕ) → field_width (next_field hole n) ≡ width hole
-width_same (Magic k) n = refl
-width_same Tag n = refl
-width_same Count n = refl
-width_same (NameLength count before) n = refl
-width_same (Name count before size) n = refl
-width_same Executable n = refl
-width_same (FileLength exec) n = refl
 width_same (Contents exec size) n = refl
-width_same TargetLength n = refl
-width_same (Target size) n = refl
-width_same (End node) n = refl
+width_same hole n = refl
 
 pub reason_same : (depth at : ℕ) (hole : Hole) (n : ℕ) (part : List ℕ) → reason_at depth at (next_field hole n) (kept_part hole part) ≡ reason_of depth at hole part
-reason_same depth at (Magic k) n part = refl
-reason_same depth at Tag n part = refl
-reason_same depth at Count n part = refl
-reason_same depth at (NameLength count before) n part = refl
-reason_same depth at (Name count before size) n part = refl
-reason_same depth at Executable n part = refl
-reason_same depth at (FileLength exec) n part = refl
 reason_same depth at (Contents exec size) n part = refl
-reason_same depth at TargetLength n part = refl
-reason_same depth at (Target size) n part = refl
-reason_same depth at (End node) n part = refl
+reason_same depth at hole n part = refl
 
 pub more_same : (hole : Hole) (part bytes : List ℕ) → with_bytes (next_field hole (length part)) (kept_part hole part) bytes ≡ (next_field hole (length (part ++ bytes)), kept_part hole (part ++ bytes))
-more_same (Magic k) part bytes = refl
-more_same Tag part bytes = refl
-more_same Count part bytes = refl
-more_same (NameLength count before) part bytes = refl
-more_same (Name count before size) part bytes = refl
-more_same Executable part bytes = refl
-more_same (FileLength exec) part bytes = refl
 more_same (Contents exec size) part bytes = ap (λ n. (field.Contents size n, [])) (sym (length-append part bytes))
-more_same TargetLength part bytes = refl
-more_same (Target size) part bytes = refl
-more_same (End node) part bytes = refl
+more_same hole part bytes = refl
 
 pub none_kept : (hole : Hole) → kept_part hole [] ≡ []
-none_kept (Magic k) = refl
-none_kept Tag = refl
-none_kept Count = refl
-none_kept (NameLength count before) = refl
-none_kept (Name count before size) = refl
-none_kept Executable = refl
-none_kept (FileLength exec) = refl
 none_kept (Contents exec size) = refl
-none_kept TargetLength = refl
-none_kept (Target size) = refl
-none_kept (End node) = refl
+none_kept hole = refl
 
 -- ---- the place behind a field
 
@@ -167,7 +124,7 @@ fresh_behind depth at fs field.Count part h =
 fresh_behind depth at fs (field.NameLength left last) part h = len_some (at + 2 + from_be_bytes w16 part) 255 part reasons.Name (none_parts (large_past (at + 2)) _ h)
 fresh_behind depth at fs (field.Name left last size) part h = omega arith
 fresh_behind depth at fs field.Executable part h = omega arith
-fresh_behind depth at fs field.FileLength part h =
+fresh_behind depth at fs (field.FileLength exec) part h =
     fresh_either (from_be_bytes w64 part == 0) (behind_node fs) (place fs (field.Contents (from_be_bytes w64 part) 0)) (λ e. fresh_node fs)
     (λ e. let no : from_be_bytes w64 part ≡ 0 → ⊥ = eqb-false (from_be_bytes w64 part) 0 e in positive (from_be_bytes w64 part) no)
 fresh_behind depth at fs (field.Contents size taken) part h = fresh_node fs
@@ -182,12 +139,6 @@ fresh_part depth at fs us f next part now h is empty =
 
 -- ---- a scanner and a state
 
--- a scanner is at a state, and the bytes to come lead to this one
-pub record GoesOn (s : Scanner) (rest : List ℕ) (total : State) : Type 0 where
-  pub now : State
-  pub is : IsAt s now
-  pub runs : run now rest ≡ total
-
 -- a scanner that took bytes of its next field
 pub record HasTaken (old new : Scanner) (bytes : List ℕ) : Type 0 where
   pub at : new.at ≡ old.at
@@ -196,30 +147,12 @@ pub record HasTaken (old new : Scanner) (bytes : List ℕ) : Type 0 where
   pub part : new.part.items ≡ (with_bytes old.next old.part.items bytes).1
 
 more_bytes : (f : NextField) (part bytes : List ℕ) → bytes_taken (with_bytes f part bytes).0 (with_bytes f part bytes).1 ≡ bytes_taken f part + length bytes
-more_bytes (field.Magic k) part bytes = length-append part bytes
-more_bytes field.Tag part bytes = length-append part bytes
-more_bytes field.Count part bytes = length-append part bytes
-more_bytes (field.NameLength left last) part bytes = length-append part bytes
-more_bytes (field.Name left last size) part bytes = length-append part bytes
-more_bytes field.Executable part bytes = length-append part bytes
-more_bytes field.FileLength part bytes = length-append part bytes
 more_bytes (field.Contents size taken) part bytes = refl
-more_bytes field.TargetLength part bytes = length-append part bytes
-more_bytes (field.Target size) part bytes = length-append part bytes
-more_bytes field.End part bytes = length-append part bytes
+more_bytes f part bytes = length-append part bytes
 
 same_width : (f : NextField) (part bytes : List ℕ) → field_width (with_bytes f part bytes).0 ≡ field_width f
-same_width (field.Magic k) part bytes = refl
-same_width field.Tag part bytes = refl
-same_width field.Count part bytes = refl
-same_width (field.NameLength left last) part bytes = refl
-same_width (field.Name left last size) part bytes = refl
-same_width field.Executable part bytes = refl
-same_width field.FileLength part bytes = refl
 same_width (field.Contents size taken) part bytes = refl
-same_width field.TargetLength part bytes = refl
-same_width (field.Target size) part bytes = refl
-same_width field.End part bytes = refl
+same_width f part bytes = refl
 
 pub more_taken : (old new : Scanner) (bytes : List ℕ) → HasTaken old new bytes → bytes_taken new.next new.part.items ≡ bytes_taken old.next old.part.items + length bytes
 more_taken old new bytes t = ap (λ f. bytes_taken f new.part.items) t.next ∙ ap (bytes_taken (with_bytes old.next old.part.items bytes).0) t.part ∙ more_bytes old.next old.part.items bytes
@@ -238,87 +171,154 @@ pub taken_of : (s : Scanner) (hole : Hole) (read : List ℕ) → s.next ≡ next
 taken_of s hole read next part = ap (λ f. bytes_taken f s.part.items) next ∙ ap (bytes_taken (next_field hole (length read))) part ∙ taken_same hole read
 
 -- a part of the next field was taken, with which it is not whole
-pub part_taken : (old new : Scanner) (rest : List ℕ) (total : State) → GoesOn old rest total → HasTaken old new rest → bytes_taken new.next new.part.items < field_width new.next → IsAt new total
-part_taken old new rest total g t lt = part_at g.now g.is g.runs
-  where
-    part_at : (now : State) → IsAt old now → run now rest ≡ total → IsAt new total
-    part_at (Stuck at r) h runs = absurd h
-    part_at (Going at c part) h runs =
-        let both = took old new at c part rest h t in
-        let taken = taken_of new c.hole (part ++ rest) both.0 both.1 in
-        let wide : field_width new.next ≡ width c.hole = ap field_width both.0 ∙ width_same c.hole (length (part ++ rest)) in
-        let less : length (part ++ rest) < width c.hole = omega arith in
-        subst (IsAt new) (chunk_kept at c part rest (part ++ rest) total refl less runs) (record {
-          at = t.at ∙ h.at;
-          folders = ap (λ v. reverse v.items) t.folders ∙ h.folders;
-          next = both.0;
-          part = both.1;
-          partial = less;
-        })
+pub part_reached : (old new : Scanner) (at : ℕ) (c : CutTree) (part bytes : List ℕ) → HasReached old at c part → HasTaken old new bytes → bytes_taken new.next new.part.items < field_width new.next → HasReached new at c (part ++ bytes)
+part_reached old new at c part bytes h t lt =
+    let both = took old new at c part bytes h t in
+    let taken = taken_of new c.hole (part ++ bytes) both.0 both.1 in
+    let wide : field_width new.next ≡ width c.hole = ap field_width both.0 ∙ width_same c.hole (length (part ++ bytes)) in
+    record {
+      at = t.at ∙ h.at;
+      folders = ap (λ v. reverse v.items) t.folders ∙ h.folders;
+      next = both.0;
+      part = both.1;
+      partial = omega arith;
+    }
 
--- a scanner that moved behind a whole field
-pub record HasMoved (old new : Scanner) : Type 0 where
-  pub meets : reason_at (length old.folders.items) old.at old.next old.part.items ≡ None
+pub part_taken : (old new : Scanner) (bytes : List ℕ) (state : State) → IsAt old state → HasTaken old new bytes → bytes_taken new.next new.part.items < field_width new.next → IsAt new (run state bytes)
+part_taken old new bytes (Stuck at r) h t lt = absurd h
+part_taken old new bytes (Going at c part) h t lt =
+    let reached = part_reached old new at c part bytes h t lt in
+    subst (IsAt new) (sym (part_kept at c part bytes reached.partial)) reached
+
+-- ---- a whole field
+
+-- a scanner before a field, which is whole with these bytes
+pub record IsAtField (s : Scanner) (at : ℕ) (c : CutTree) (part bytes field : List ℕ) : Type 0 where
+  pub count : ℕ
+  pub place : s.at ≡ at
+  pub folders : reverse s.folders.items ≡ map scanned_folder c.folders
+  pub next : s.next ≡ next_field c.hole count
+  pub by : IsFieldOf c.hole part bytes field
+  pub whole : length (part ++ bytes) ≡ width c.hole
+  pub partial : length part < width c.hole
+
+-- a scanner that moved behind it
+pub record HasMoved (old new : Scanner) (field : List ℕ) : Type 0 where
+  pub meets : reason_at (length old.folders.items) old.at old.next field ≡ None
   pub at : new.at ≡ old.at + field_width old.next
-  pub place : place (reverse new.folders.items) new.next ≡ behind (reverse old.folders.items) old.next old.part.items
+  pub place : place (reverse new.folders.items) new.next ≡ behind (reverse old.folders.items) old.next field
   pub empty : new.part.items ≡ []
 
-depth_is : (s : Scanner) (fs : List OpenFolder) → reverse s.folders.items ≡ map scanned_folder fs → length s.folders.items ≡ length fs
-depth_is s fs is = sym (length-reverse s.folders.items) ∙ ap length is ∙ length-map fs scanned_folder
+reason_whole : (depth at : ℕ) (hole : Hole) (n : ℕ) (part bytes field : List ℕ) → IsFieldOf hole part bytes field → reason_at depth at (next_field hole n) field ≡ reason_of depth at hole (part ++ bytes)
+reason_whole depth at (Contents exec size) n part bytes field is = refl
+reason_whole depth at hole n part bytes field is = ap (λ x. reason_of depth at hole x) is
 
-reason_is : (s : Scanner) (at : ℕ) (fs : List OpenFolder) (hole : Hole) (read : List ℕ) → s.at ≡ at → reverse s.folders.items ≡ map scanned_folder fs → s.next ≡ next_field hole (length read) → s.part.items ≡ kept_part hole read
-    → reason_at (length s.folders.items) s.at s.next s.part.items ≡ reason_of (length fs) at hole read
-reason_is s at fs hole read a f n p =
-    ap (λ d. reason_at d s.at s.next s.part.items) (depth_is s fs f)
-    ∙ ap (λ x. reason_at (length fs) x s.next s.part.items) a
-    ∙ ap (λ x. reason_at (length fs) at x s.part.items) n
-    ∙ ap (reason_at (length fs) at (next_field hole (length read))) p
-    ∙ reason_same (length fs) at hole (length read) read
+place_whole : (fs : List OpenFolder) (hole : Hole) (n : ℕ) (part bytes field : List ℕ) → IsFieldOf hole part bytes field → behind (map scanned_folder fs) (next_field hole n) field ≡ place_of (after fs hole (part ++ bytes))
+place_whole fs (Contents exec size) n part bytes field is = sym (place_after fs (Contents exec size) n (part ++ bytes))
+place_whole fs hole n part bytes field is = ap (λ x. behind (map scanned_folder fs) (next_field hole n) x) is ∙ sym (place_after fs hole n (part ++ bytes))
 
--- a whole field was taken, which meets its rules
-pub field_taken : (old mid new : Scanner) (front back rest : List ℕ) (total : State) → GoesOn old rest total → HasTaken old mid front → bytes_taken mid.next mid.part.items ≡ field_width mid.next → HasMoved mid new → rest ≡ front ++ back → GoesOn new back total
-field_taken old mid new front back rest total g t whole m parts = field_at g.now g.is g.runs
-  where
-    field_at : (now : State) → IsAt old now → run now rest ≡ total → GoesOn new back total
-    field_at (Stuck at r) h runs = absurd h
-    field_at (Going at c part) h runs =
-        let both = took old mid at c part front h t in
-        let taken = taken_of mid c.hole (part ++ front) both.0 both.1 in
-        let wide : field_width mid.next ≡ width c.hole = ap field_width both.0 ∙ width_same c.hole (length (part ++ front)) in
-        let full : length (part ++ front) ≡ width c.hole = sym taken ∙ whole ∙ wide in
-        let folders : reverse mid.folders.items ≡ map scanned_folder c.folders = ap (λ v. reverse v.items) t.folders ∙ h.folders in
-        let meets : reason_of (length c.folders) at c.hole (part ++ front) ≡ None = sym (reason_is mid at c.folders c.hole (part ++ front) (t.at ∙ h.at) folders both.0 both.1) ∙ m.meets in
-        let next : CutTree = after c.folders c.hole (part ++ front) in
-        let goes : with_field at c (part ++ front) ≡ Going (at + length (part ++ front)) next [] = is_whole at c (part ++ front) full ∙ ap (moved at c (part ++ front)) meets in
-        let here : place (reverse new.folders.items) new.next ≡ place_of next =
-        m.place ∙ ap (λ x. behind x mid.next mid.part.items) folders ∙ ap (λ x. behind (map scanned_folder c.folders) x mid.part.items) both.0
-        ∙ ap (behind (map scanned_folder c.folders) (next_field c.hole (length (part ++ front)))) both.1
-        ∙ sym (place_after c.folders c.hole (length (part ++ front)) (part ++ front)) in
-        record {
-          now = Going (at + length (part ++ front)) next [];
-          is = record {
-            at = m.at ∙ ap (λ n. n + field_width mid.next) (t.at ∙ h.at) ∙ ap (λ n. at + n) (sym whole ∙ taken);
-            folders = ap (λ (p : Place). p.folders) here;
-            next = ap (λ (p : Place). p.next) here;
-            part = m.empty ∙ sym (none_kept next.hole);
-            partial = some_after (length c.folders) at c.folders next.folders c.hole next.hole (part ++ front) meets refl;
-          };
-          runs = chunk_goes at c part front back (part ++ front) rest (Going (at + length (part ++ front)) next []) total h.partial refl full parts (sym goes) runs;
-        }
+run_whole : (at : ℕ) (c : CutTree) (part bytes : List ℕ) → length part < width c.hole → length (part ++ bytes) ≡ width c.hole → run (Going at c part) bytes ≡ moved at c (part ++ bytes) (reason_of (length c.folders) at c.hole (part ++ bytes))
+run_whole at c part bytes lt whole =
+    ap (run (Going at c part)) (sym (append-nil bytes)) ∙ over_field at c part bytes [] lt whole ∙ is_whole at c (part ++ bytes) whole
 
--- a whole field was taken, which breaks a rule
-pub field_broken : (old mid : Scanner) (front back rest : List ℕ) (at : ℕ) (reason : Reason) (total : State) → GoesOn old rest total → HasTaken old mid front → bytes_taken mid.next mid.part.items ≡ field_width mid.next
-    → (at ≡ mid.at) × (reason_at (length mid.folders.items) mid.at mid.next mid.part.items ≡ Some reason) → rest ≡ front ++ back → total ≡ Stuck at reason
-field_broken old mid front back rest place reason total g t whole broken parts = broken_at g.now g.is g.runs
-  where
-    broken_at : (now : State) → IsAt old now → run now rest ≡ total → total ≡ Stuck place reason
-    broken_at (Stuck at r) h runs = absurd h
-    broken_at (Going at c part) h runs =
-        let both = took old mid at c part front h t in
-        let taken = taken_of mid c.hole (part ++ front) both.0 both.1 in
-        let wide : field_width mid.next ≡ width c.hole = ap field_width both.0 ∙ width_same c.hole (length (part ++ front)) in
-        let full : length (part ++ front) ≡ width c.hole = sym taken ∙ whole ∙ wide in
-        let folders : reverse mid.folders.items ≡ map scanned_folder c.folders = ap (λ v. reverse v.items) t.folders ∙ h.folders in
-        let gives : reason_of (length c.folders) at c.hole (part ++ front) ≡ Some reason = sym (reason_is mid at c.folders c.hole (part ++ front) (t.at ∙ h.at) folders both.0 both.1) ∙ broken.1 in
-        let stuck : with_field at c (part ++ front) ≡ Stuck place reason = is_whole at c (part ++ front) full ∙ ap (moved at c (part ++ front)) gives ∙ ap (λ n. Stuck n reason) (sym (broken.0 ∙ t.at ∙ h.at)) in
-        chunk_stuck at c part front back (part ++ front) rest place reason total h.partial refl full parts stuck runs
+-- its reason is that of the whole field
+reason_is : (s : Scanner) (at : ℕ) (c : CutTree) (part bytes field : List ℕ) → IsAtField s at c part bytes field → reason_at (length s.folders.items) s.at s.next field ≡ reason_of (length c.folders) at c.hole (part ++ bytes)
+reason_is s at c part bytes field f =
+    let depth : length s.folders.items ≡ length c.folders = sym (length-reverse s.folders.items) ∙ ap length f.folders ∙ length-map c.folders scanned_folder in
+    ap (λ d. reason_at d s.at s.next field) depth
+    ∙ ap (λ x. reason_at (length c.folders) x s.next field) f.place
+    ∙ ap (λ x. reason_at (length c.folders) at x field) f.next
+    ∙ reason_whole (length c.folders) at c.hole f.count part bytes field f.by
+
+module _ (old new : Scanner) (at : ℕ) (c : CutTree) (part bytes field : List ℕ) (f : IsAtField old at c part bytes field) (m : HasMoved old new field) where
+  meets : reason_of (length c.folders) at c.hole (part ++ bytes) ≡ None
+  meets = sym (reason_is old at c part bytes field f) ∙ m.meets
+
+  pub field_runs : run (Going at c part) bytes ≡ Going (at + length (part ++ bytes)) (after c.folders c.hole (part ++ bytes)) []
+  field_runs = run_whole at c part bytes f.partial f.whole ∙ ap (moved at c (part ++ bytes)) meets
+
+  pub field_reached : HasReached new (at + length (part ++ bytes)) (after c.folders c.hole (part ++ bytes)) []
+  field_reached =
+      let next : CutTree = after c.folders c.hole (part ++ bytes) in
+      let wide : field_width old.next ≡ width c.hole = ap field_width f.next ∙ width_same c.hole f.count in
+      let here : place (reverse new.folders.items) new.next ≡ place_of (after c.folders c.hole (part ++ bytes)) =
+      m.place ∙ ap (λ x. behind x old.next field) f.folders ∙ ap (λ x. behind (map scanned_folder c.folders) x field) f.next
+      ∙ place_whole c.folders c.hole f.count part bytes field f.by in
+      record {
+        at = omega (arith, m.at, f.place, f.whole, wide);
+        folders = ap (λ (p : Place). p.folders) here;
+        next = ap (λ (p : Place). p.next) here;
+        part = m.empty ∙ sym (none_kept next.hole);
+        partial = some_after (length c.folders) at c.folders next.folders c.hole next.hole (part ++ bytes) meets refl;
+      }
+
+-- a whole field that breaks a rule
+pub field_breaks : (s : Scanner) (at : ℕ) (c : CutTree) (part bytes field : List ℕ) (place : ℕ) (reason : Reason) → IsAtField s at c part bytes field
+    → (place ≡ s.at) × (reason_at (length s.folders.items) s.at s.next field ≡ Some reason) → run (Going at c part) bytes ≡ Stuck place reason
+field_breaks s at c part bytes field place reason f broken =
+    run_whole at c part bytes f.partial f.whole
+    ∙ ap (moved at c (part ++ bytes)) (sym (reason_is s at c part bytes field f) ∙ broken.1)
+    ∙ ap (λ n. Stuck n reason) (sym (broken.0 ∙ f.place))
+
+-- ---- the field that bytes make whole
+
+no_part : (hole : Hole) (part bytes : List ℕ) → kept_part hole part ≡ [] → IsFieldOf hole part bytes bytes
+no_part (Contents exec size) part bytes none = refl
+no_part hole part bytes none = ap (λ x. x ++ bytes) (sym none)
+
+some_part : (hole : Hole) (part bytes field : List ℕ) → field ≡ kept_part hole (part ++ bytes) → (kept_part hole part ≡ [] → ⊥) → IsFieldOf hole part bytes field
+some_part (Contents exec size) part bytes field is some = absurd (some refl)
+some_part hole part bytes field is some = is
+
+read_length : (s : Scanner) (at : ℕ) (c : CutTree) (part : List ℕ) → HasReached s at c part → (bytes_taken s.next s.part.items ≡ length part) × (field_width s.next ≡ width c.hole)
+read_length s at c part h = (taken_of s c.hole part h.next h.part, ap field_width h.next ∙ width_same c.hole (length part))
+
+-- nothing of the field was kept before
+pub field_direct : (s : Scanner) (at : ℕ) (c : CutTree) (part bytes : List ℕ) → HasReached s at c part → s.part.items ≡ [] → bytes_taken s.next s.part.items + length bytes ≡ field_width s.next → IsAtField s at c part bytes bytes
+field_direct s at c part bytes h none whole =
+    let sizes = read_length s at c part h in
+    record {
+      count = length part;
+      place = h.at;
+      folders = h.folders;
+      next = h.next;
+      by = no_part c.hole part bytes (sym h.part ∙ none);
+      whole = omega (arith, whole, sizes.0, sizes.1, length-append part bytes);
+      partial = h.partial;
+    }
+
+-- a part of it was kept
+pub field_kept : (old mid : Scanner) (at : ℕ) (c : CutTree) (part bytes field : List ℕ) → HasReached old at c part → (old.part.items ≡ [] → ⊥) → bytes_taken old.next old.part.items + length bytes ≡ field_width old.next → HasTaken old mid bytes
+    → field ≡ mid.part.items → IsAtField mid at c part bytes field
+field_kept old mid at c part bytes field h some whole t is =
+    let both = took old mid at c part bytes h t in
+    let sizes = read_length old at c part h in
+    record {
+      count = length (part ++ bytes);
+      place = t.at ∙ h.at;
+      folders = ap (λ v. reverse v.items) t.folders ∙ h.folders;
+      next = both.0;
+      by = some_part c.hole part bytes field (is ∙ both.1) (λ none. some (h.part ∙ none));
+      whole = omega (arith, whole, sizes.0, sizes.1, length-append part bytes);
+      partial = h.partial;
+    }
+
+-- ---- a scanner and a state
+
+-- a scanner is at a state, and the bytes to come lead to this one
+pub record GoesOn (s : Scanner) (rest : List ℕ) (total : State) : Type 0 where
+  pub now : State
+  pub is : IsAt s now
+  pub runs : run now rest ≡ total
+
+pub goes_on : (old new : Scanner) (front back rest : List ℕ) (total : State) → GoesOn old rest total → ((state : State) → IsAt old state → IsAt new (run state front)) → rest ≡ front ++ back → GoesOn new back total
+goes_on old new front back rest total g moves parts = record {
+  now = run g.now front;
+  is = moves g.now g.is;
+  runs = sym (run-append g.now front back) ∙ ap (run g.now) (sym parts) ∙ g.runs;
+}
+
+pub goes_wrong : (old : Scanner) (front back rest : List ℕ) (total : State) (at : ℕ) (reason : Reason) → GoesOn old rest total
+    → ((state : State) → IsAt old state → run state front ≡ Stuck at reason) → rest ≡ front ++ back → total ≡ Stuck at reason
+goes_wrong old front back rest total at reason g breaks parts =
+    sym g.runs ∙ ap (run g.now) parts ∙ run-append g.now front back ∙ ap (λ s. run s back) (breaks g.now g.is) ∙ stuck_stays at reason back

@@ -7,7 +7,7 @@ use Rattle.tree_canon.specs.Spelling.{magic, node_bytes}
 use Rattle.tree_canon.specs.Fits.{fits}
 use Rattle.tree_canon.specs.CutTree.{OpenFolder, Hole, Magic, Tag, Count, NameLength, Name, Executable, FileLength, Contents, TargetLength, Target, End, CutTree, open_folders_bytes, cut_bytes, bytes_before, width}
 use Rattle.tree_canon.specs.Rules.{reason_of, large_past, first_byte}
-use Rattle.tree_canon.specs.Reading.{IsBytes, Reads}
+use Rattle.tree_canon.specs.Reading.{IsBytes, SpellsUpTo}
 use Rattle.tree_canon.specs.Reading.{cut_at, after, State, Stuck, Going, moved, step, run, start}
 use Rattle.tree_canon.specs.Division.{IsSound, Spells, IsBroken, Kind, Spelled, Broken, Short, has_ended}
 use Rattle.tree_canon.specs.declared.node.Node.{Node}
@@ -43,7 +43,7 @@ keeps_field ls (End node) at f ok bytes place len h = let no = (first_parts (lar
 
 abbrev pub Holds : State → List ℕ → Type 0
 Holds (Stuck at r) bytes = IsBroken bytes at r
-Holds (Going at c part) bytes = Reads at c part bytes
+Holds (Going at c part) bytes = SpellsUpTo at c part bytes
 
 IsBytes-push : (f : List ℕ) (b : ℕ) → IsBytes f → b < 256 → IsBytes (f ++ b ∷ [])
 IsBytes-push [] b h lt zero = lt
@@ -98,14 +98,14 @@ no_part : (part : List ℕ) → length part < 1 → part ≡ []
 no_part [] lt = refl
 no_part (b ∷ bs) lt = absurd (omega arith)
 
-pub reads_end : (ls : List OpenFolder) (node : Node) (at : ℕ) (part bytes : List ℕ) → Reads at (cut_at ls (End node)) part bytes → Spells node bytes
+pub reads_end : (ls : List OpenFolder) (node : Node) (at : ℕ) (part bytes : List ℕ) → SpellsUpTo at (cut_at ls (End node)) part bytes → Spells node bytes
 reads_end ls node at part bytes h =
     let none : part ≡ [] = no_part part h.partial in
     let whole : bytes ≡ open_folders_bytes ls ++ node_bytes node = h.is ∙ ap (λ x. (open_folders_bytes ls ++ node_bytes node) ++ x) none ∙ append-nil (open_folders_bytes ls ++ node_bytes node) in
     let is : bytes ≡ magic ++ node_bytes node = subst (λ x. bytes ≡ open_folders_bytes x ++ node_bytes node) h.sound.hole.1 whole in
     record { fit = h.sound.hole.0; size = omega (arith, ap length whole, h.sound.size); is = is }
 
-ended : (ls : List OpenFolder) (hole : Hole) (at : ℕ) (part bytes : List ℕ) → Reads at (cut_at ls hole) part bytes → (b : Bool) → has_ended hole ≡ b → Kind bytes
+ended : (ls : List OpenFolder) (hole : Hole) (at : ℕ) (part bytes : List ℕ) → SpellsUpTo at (cut_at ls hole) part bytes → (b : Bool) → has_ended hole ≡ b → Kind bytes
 ended ls hole at part bytes h false e = Short (record { cut = cut_at ls hole; part = part; sound = h.sound; is = h.is; partial = h.partial; goes_on = e })
 ended ls (End node) at part bytes h true e =
     let none : part ≡ [] = no_part part h.partial in

@@ -1,11 +1,24 @@
 -- Cut trees: what stands before one field of a spelling.
-use Rattle.std.specs.Prelude.{ℕ, ◌++◌, List, [], ◌∷◌, take, if◌then◌else◌, Option, None, Some}
+use Rattle.std.specs.Prelude.{ℕ, Bool, ◌++◌, List, [], ◌∷◌, take, if◌then◌else◌, Option, None, Some}
 use Rattle.std.specs.Int.{to_be_bytes, w16}
+use Rattle.tree_canon.specs.declared.node.Node.{Node}
 use Rattle.tree_canon.specs.declared.node.Named.{Named}
 use Rattle.tree_canon.specs.Spelling.{magic, folder_head, file_head, link_head, name_bytes, node_bytes, entries_bytes}
-pub use Rattle.tree_canon.specs.declared.cut.OpenFolder.{OpenFolder}
-pub use Rattle.tree_canon.specs.declared.cut.Hole.{Hole}
-pub use Rattle.tree_canon.specs.declared.cut.Hole.TheVariants.{Magic, Tag, Count, NameLength, Name, Executable, FileLength, Contents, TargetLength, Target, End}
+pub use Rattle.tree_canon.specs.declared.building.OpenFolder.{OpenFolder}
+
+-- where a tree is cut: the field that comes next, with what its node has so far
+pub data Hole : Type 0 where
+  Magic : ℕ → Hole
+  Tag : Hole
+  Count : Hole
+  NameLength : ℕ → List Named → Hole
+  Name : ℕ → List Named → ℕ → Hole
+  Executable : Hole
+  FileLength : Bool → Hole
+  Contents : Bool → ℕ → Hole
+  TargetLength : Hole
+  Target : ℕ → Hole
+  End : Node → Hole
 
 -- a tree cut at a hole, with the folders round it, the innermost first
 pub record CutTree : Type 0 where

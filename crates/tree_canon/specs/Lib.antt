@@ -7,8 +7,12 @@ pub mod Rules
 pub mod Division
 pub mod Reading
 pub mod Feeding
-pub mod Readers
 pub mod Digest
 pub mod Judging
+pub mod Events
+pub mod Fields
 pub mod Scanning
+pub mod Telling
 pub mod Scans
+pub mod Making
+pub mod Decoding

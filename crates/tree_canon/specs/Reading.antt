@@ -1,7 +1,6 @@
 -- Reading a spelling byte by byte, which private calls alone speak of.
-use Rattle.std.specs.Prelude.{◌≡◌, ℕ, true, ◌==◌, ◌+◌, ◌<◌, ◌++◌, List, [], ◌∷◌, length, slice_index, if◌then◌else◌, nat_lt, Option, None, Some}
+use Rattle.std.specs.Prelude.{◌≡◌, ℕ, ◌==◌, ◌+◌, ◌<◌, ◌++◌, List, [], ◌∷◌, length, slice_index, if◌then◌else◌, nat_lt, Option, None, Some}
 use Rattle.std.specs.Int.{from_be_bytes, w16, w32, w64}
-use Rattle.std.specs.Str.{is_utf8}
 use Rattle.tree_canon.specs.declared.node.Node.{Node}
 use Rattle.tree_canon.specs.declared.node.Named.{Named}
 use Rattle.tree_canon.specs.declared.node.Node.TheVariants.{Folder, File, Link}
@@ -44,20 +43,6 @@ after fs TargetLength field = cut_at fs (Target (from_be_bytes w16 field))
 after fs (Target size) field = filled fs (Link field)
 after fs (End node) field = cut_at fs (End node)
 
--- the fields that hold text
-abbrev pub IsReadable : Hole → List ℕ → Type 0
-IsReadable (Magic k) field = Unit {0}
-IsReadable Tag field = Unit {0}
-IsReadable Count field = Unit {0}
-IsReadable (NameLength count before) field = Unit {0}
-IsReadable (Name count before size) field = is_utf8 field ≡ true
-IsReadable Executable field = Unit {0}
-IsReadable (FileLength exec) field = Unit {0}
-IsReadable (Contents exec size) field = Unit {0}
-IsReadable TargetLength field = Unit {0}
-IsReadable (Target size) field = is_utf8 field ≡ true
-IsReadable (End node) field = Unit {0}
-
 -- stuck at the first field that breaks a rule, or going on at a cut tree, with the first bytes of its next field
 pub data State : Type 0 where
   Stuck : ℕ → Reason → State
@@ -87,7 +72,7 @@ abbrev pub IsBytes : List ℕ → Type 0
 IsBytes bytes = (i : ℕ) → slice_index bytes i < 256
 
 -- what a state that goes on says of the bytes that were read
-pub record Reads (at : ℕ) (c : CutTree) (part bytes : List ℕ) : Type 0 where
+pub record SpellsUpTo (at : ℕ) (c : CutTree) (part bytes : List ℕ) : Type 0 where
   pub sound : IsSound c
   pub place : at ≡ length (cut_bytes c)
   pub is : bytes ≡ cut_bytes c ++ part

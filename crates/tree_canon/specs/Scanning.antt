@@ -1,7 +1,8 @@
 -- What a scan keeps of a cut tree, which private calls alone speak of: no file's contents, and of the entries of an open
 -- folder the number of those to come and one name.
-use Rattle.std.specs.Prelude.{◌≡◌, ℕ, ◌==◌, ◌||◌, ◌+◌, ◌-◌, ◌<◌, ◌≤◌, ◌++◌, List, [], ◌∷◌, length, map, reverse, sum, All, slice_index, unwrap_or, if◌then◌else◌, nat_lt, nat_le, Option, None, Some}
+use Rattle.std.specs.Prelude.{◌≡◌, ℕ, suc, true, ◌==◌, ◌||◌, ◌+◌, ◌-◌, ◌<◌, ◌≤◌, ◌++◌, List, [], ◌∷◌, length, map, reverse, sum, All, slice_index, unwrap_or, if◌then◌else◌, nat_lt, nat_le, Option, None, Some}
 use Rattle.std.specs.Int.{from_be_bytes, w16, w32, w64}
+use Rattle.std.specs.Str.{is_utf8}
 use Rattle.tree_canon.specs.declared.fault.Reason.{Reason}
 use Rattle.tree_canon.specs.declared.fault.Reason.TheVariants as reasons
 use Rattle.tree_canon.specs.declared.next_field.ScannedFolder.{ScannedFolder}
@@ -26,7 +27,7 @@ next_field Count n = field.Count
 next_field (NameLength count before) n = field.NameLength (count - (length before + 1)) (last_name before)
 next_field (Name count before size) n = field.Name (count - (length before + 1)) (last_name before) size
 next_field Executable n = field.Executable
-next_field (FileLength exec) n = field.FileLength
+next_field (FileLength exec) n = field.FileLength exec
 next_field (Contents exec size) n = field.Contents size n
 next_field TargetLength n = field.TargetLength
 next_field (Target size) n = field.Target size
@@ -34,17 +35,8 @@ next_field (End node) n = field.End
 
 -- what is kept of the bytes of a field: all, but nothing of a file's contents
 abbrev pub kept_part : Hole → List ℕ → List ℕ
-kept_part (Magic k) part = part
-kept_part Tag part = part
-kept_part Count part = part
-kept_part (NameLength count before) part = part
-kept_part (Name count before size) part = part
-kept_part Executable part = part
-kept_part (FileLength exec) part = part
 kept_part (Contents exec size) part = []
-kept_part TargetLength part = part
-kept_part (Target size) part = part
-kept_part (End node) part = part
+kept_part hole part = part
 
 -- how many bytes the next field has
 abbrev pub field_width : NextField → ℕ
@@ -54,7 +46,7 @@ field_width field.Count = 4
 field_width (field.NameLength left last) = 2
 field_width (field.Name left last size) = size
 field_width field.Executable = 1
-field_width field.FileLength = 8
+field_width (field.FileLength exec) = 8
 field_width (field.Contents size taken) = size
 field_width field.TargetLength = 2
 field_width (field.Target size) = size
@@ -62,34 +54,31 @@ field_width field.End = 1
 
 -- how many of them were read, where these are kept
 abbrev pub bytes_taken : NextField → List ℕ → ℕ
-bytes_taken (field.Magic k) part = length part
-bytes_taken field.Tag part = length part
-bytes_taken field.Count part = length part
-bytes_taken (field.NameLength left last) part = length part
-bytes_taken (field.Name left last size) part = length part
-bytes_taken field.Executable part = length part
-bytes_taken field.FileLength part = length part
 bytes_taken (field.Contents size taken) part = taken
-bytes_taken field.TargetLength part = length part
-bytes_taken (field.Target size) part = length part
-bytes_taken field.End part = length part
+bytes_taken f part = length part
 
 -- the field with more bytes read, and what is kept of them
 abbrev pub Taken : Type 0
 Taken = NextField × List ℕ
 
 abbrev pub with_bytes : NextField → List ℕ → List ℕ → Taken
-with_bytes (field.Magic k) part bytes = (field.Magic k, part ++ bytes)
-with_bytes field.Tag part bytes = (field.Tag, part ++ bytes)
-with_bytes field.Count part bytes = (field.Count, part ++ bytes)
-with_bytes (field.NameLength left last) part bytes = (field.NameLength left last, part ++ bytes)
-with_bytes (field.Name left last size) part bytes = (field.Name left last size, part ++ bytes)
-with_bytes field.Executable part bytes = (field.Executable, part ++ bytes)
-with_bytes field.FileLength part bytes = (field.FileLength, part ++ bytes)
 with_bytes (field.Contents size taken) part bytes = (field.Contents size (taken + length bytes), part)
-with_bytes field.TargetLength part bytes = (field.TargetLength, part ++ bytes)
-with_bytes (field.Target size) part bytes = (field.Target size, part ++ bytes)
-with_bytes field.End part bytes = (field.End, part ++ bytes)
+with_bytes f part bytes = (f, part ++ bytes)
+
+abbrev pub IsContents : NextField → Type 0
+IsContents (field.Contents size taken) = Unit {0}
+IsContents f = ⊥
+
+-- the bytes of a whole field, of which a file's contents are not asked for
+abbrev pub IsWholeField : NextField → List ℕ → Type 0
+IsWholeField (field.Contents size taken) bytes = Unit {0}
+IsWholeField f bytes = length bytes ≡ field_width f
+
+-- a name and a target are text
+abbrev pub IsReadableField : NextField → List ℕ → Type 0
+IsReadableField (field.Name left last size) bytes = is_utf8 bytes ≡ true
+IsReadableField (field.Target size) bytes = is_utf8 bytes ≡ true
+IsReadableField f bytes = Unit {0}
 
 -- what a whole field breaks beside its own length, in so many open folders and behind so many bytes
 abbrev pub own_reason_at : ℕ → ℕ → NextField → List ℕ → Option Reason
@@ -99,7 +88,7 @@ own_reason_at depth at field.Count part = None
 own_reason_at depth at (field.NameLength left last) part = length_reason (at + 2) 255 part
 own_reason_at depth at (field.Name left last size) part = either_reason (unless (is_name part) reasons.Name) (unless (follows last part) reasons.Order)
 own_reason_at depth at field.Executable part = unless (first_byte part == 0 || first_byte part == 1) reasons.Exec
-own_reason_at depth at field.FileLength part = large_past (at + 8 + from_be_bytes w64 part)
+own_reason_at depth at (field.FileLength exec) part = large_past (at + 8 + from_be_bytes w64 part)
 own_reason_at depth at (field.Contents size taken) part = None
 own_reason_at depth at field.TargetLength part = length_reason (at + 2) 4096 part
 own_reason_at depth at (field.Target size) part = unless (is_target part) reasons.Name
@@ -138,26 +127,31 @@ behind fs field.Tag part = behind_tag fs (first_byte part)
 behind fs field.Count part = behind_count fs (from_be_bytes w32 part)
 behind fs (field.NameLength left last) part = place fs (field.Name left last (from_be_bytes w16 part))
 behind fs (field.Name left last size) part = place (record { left = left; name = part } ∷ fs) field.Tag
-behind fs field.Executable part = place fs field.FileLength
-behind fs field.FileLength part = behind_file_length fs (from_be_bytes w64 part)
+behind fs field.Executable part = place fs (field.FileLength (first_byte part == 1))
+behind fs (field.FileLength exec) part = behind_file_length fs (from_be_bytes w64 part)
 behind fs (field.Contents size taken) part = behind_node fs
 behind fs field.TargetLength part = place fs (field.Target (from_be_bytes w16 part))
 behind fs (field.Target size) part = behind_node fs
 behind fs field.End part = place fs field.End
 
+-- how many folders become whole with a node
+abbrev pub closes : List ScannedFolder → ℕ
+closes [] = 0
+closes (f ∷ fs) = if nat_lt 0 f.left then 0 else suc (closes fs)
+
+-- how many folders become whole with a field
+abbrev pub closes_behind : List ScannedFolder → NextField → List ℕ → ℕ
+closes_behind fs field.Count part = if nat_lt 0 (from_be_bytes w32 part) then 0 else suc (closes fs)
+closes_behind fs (field.FileLength exec) part = if from_be_bytes w64 part == 0 then closes fs else 0
+closes_behind fs (field.Contents size taken) part = closes fs
+closes_behind fs (field.Target size) part = closes fs
+closes_behind fs f part = 0
+
 -- how long the name before the next one is, where it is kept
 abbrev pub length_before : NextField → ℕ
-length_before (field.Magic k) = 0
-length_before field.Tag = 0
-length_before field.Count = 0
 length_before (field.NameLength left last) = length (unwrap_or last [])
 length_before (field.Name left last size) = length (unwrap_or last [])
-length_before field.Executable = 0
-length_before field.FileLength = 0
-length_before (field.Contents size taken) = 0
-length_before field.TargetLength = 0
-length_before (field.Target size) = 0
-length_before field.End = 0
+length_before f = 0
 
 -- how many bytes a scanner keeps: those of the names of the open folders, of the name before the next one, and of the
 -- field that has begun
@@ -166,45 +160,19 @@ bytes_held s = sum (map (λ f. length f.name) s.folders.items) + length_before s
 
 -- how many bytes of a field are kept before it is whole, at most: none of a file's contents
 abbrev pub kept_width : NextField → ℕ
-kept_width (field.Magic k) = 1
-kept_width field.Tag = 1
-kept_width field.Count = 4
-kept_width (field.NameLength left last) = 2
-kept_width (field.Name left last size) = size
-kept_width field.Executable = 1
-kept_width field.FileLength = 8
 kept_width (field.Contents size taken) = 0
-kept_width field.TargetLength = 2
-kept_width (field.Target size) = size
-kept_width field.End = 1
+kept_width f = field_width f
 
 -- the most that this may be
 abbrev pub most_kept : NextField → ℕ
-most_kept (field.Magic k) = 1
-most_kept field.Tag = 1
-most_kept field.Count = 4
-most_kept (field.NameLength left last) = 2
 most_kept (field.Name left last size) = 255
-most_kept field.Executable = 1
-most_kept field.FileLength = 8
-most_kept (field.Contents size taken) = 0
-most_kept field.TargetLength = 2
 most_kept (field.Target size) = 4096
-most_kept field.End = 1
+most_kept f = kept_width f
 
 -- how many folders may be open there: one more before a tag, which may break the rule of depth
 abbrev pub most_open : NextField → ℕ
-most_open (field.Magic k) = 64
 most_open field.Tag = 65
-most_open field.Count = 64
-most_open (field.NameLength left last) = 64
-most_open (field.Name left last size) = 64
-most_open field.Executable = 64
-most_open field.FileLength = 64
-most_open (field.Contents size taken) = 64
-most_open field.TargetLength = 64
-most_open (field.Target size) = 64
-most_open field.End = 64
+most_open f = 64
 
 -- what is kept at a place is within the rules of depth, names and targets
 pub record IsSmallPlace (p : Place) : Type 0 where

@@ -1,16 +1,19 @@
 -- What a scan was fed, and what its calls answer: as a decoder does, but that no tree is handed over.
-use Rattle.std.specs.Prelude.{◌≡◌, ℕ, List, length, None, Some, Result, Ok, Err}
+use Rattle.std.specs.Prelude.{◌≡◌, ◌++◌, ℕ, List, length, take, None, Some, Result, Ok, Err}
 use Rattle.tree_canon.specs.declared.node.Node.{Node}
 use Rattle.tree_canon.specs.declared.fault.Reason.TheVariants as reasons
 use Rattle.tree_canon.specs.declared.fault.DecodeFault.{DecodeFault}
 use Rattle.tree_canon.specs.declared.fault.DecodeFault.TheVariants as faults
+use Rattle.tree_canon.specs.declared.event.Step.{Step}
 use Rattle.tree_canon.specs.declared.scanner.Scanner.{Scanner}
 use Rattle.tree_canon.specs.declared.scan.Scan.{Scan}
 use Rattle.tree_canon.specs.CutTree.{CutTree}
 use Rattle.tree_canon.specs.Division.{Spells, IsShort}
-use Rattle.tree_canon.specs.Reading.{Reads}
+use Rattle.tree_canon.specs.Reading.{SpellsUpTo}
 use Rattle.tree_canon.specs.Feeding.{Fed, Feeds}
-use Rattle.tree_canon.specs.Scanning.{HasReached, bytes_held}
+use Rattle.tree_canon.specs.Scanning.{HasReached, IsContents, bytes_held}
+use Rattle.tree_canon.specs.Events.{Told, events_of, closed}
+use Rattle.tree_canon.specs.Telling.{HasTold}
 
 -- the bytes are those of a cut tree, in which every field meets its rules, and a part of the next field, at which the
 -- scanner is
@@ -18,7 +21,7 @@ pub record HasRead (s : Scanner) (bytes : List ℕ) : Type 0 where
   pub count : ℕ
   pub cut : CutTree
   pub part : List ℕ
-  pub reads : Reads count cut part bytes
+  pub reads : SpellsUpTo count cut part bytes
   pub reached : HasReached s count cut part
 
 -- the bytes that a scan was fed, while nothing in them is broken, and else the fault that it keeps
@@ -31,6 +34,31 @@ pub record ScanFeeds (fed : Fed) (piece : List ℕ) (result : Result Unit Decode
   pub next : Fed
   pub feeds : Feeds fed piece result next
   pub scans : Scans new next
+
+-- what `next` answers and leaves: it takes some of the bytes, or a fault comes with all of them
+abbrev pub ScanTakes : Fed → List ℕ → Result Step DecodeFault → Scan → Type 0
+ScanTakes fed input (Ok step) new = ScanFeeds fed (take step.used input) (Ok tt) new
+ScanTakes fed input (Err fault) new = ScanFeeds fed input (Err fault) new
+
+-- how many folders are whole, whose ends were not given yet
+abbrev pub owed : Scan → ℕ
+owed s = s.scanner.owed
+
+-- the next byte is one of a file's contents
+abbrev pub IsInContents : Scan → Type 0
+IsInContents s = IsContents s.scanner.next
+
+-- Nothing in the bytes is broken, and what was given is what the events of the cut tree tell that they spell, but for
+-- the ends that are owed.
+pub record HasGiven (s : Scan) (bytes : List ℕ) (given : List Told) : Type 0 where
+  pub unbroken : s.fault ≡ None
+  pub told : HasTold s.scanner bytes given
+
+-- the bytes spell a tree, and what was given is what its events tell, but for the ends that are owed
+pub record GivesTree (bytes : List ℕ) (given : List Told) (owed : ℕ) : Type 0 where
+  pub root : Node
+  pub spells : Spells root bytes
+  pub is : given ++ closed owed ≡ events_of root
 
 -- what `finish` answers: whether a tree is spelled, and else that the bytes are short
 abbrev pub ScanEnds : Fed → Result Unit DecodeFault → Type 0

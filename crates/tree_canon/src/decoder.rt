@@ -1,22 +1,32 @@
 // Reading a tree from bytes that come in pieces.
-ghost use Rattle.std.specs.Prelude.{◌≡◌, ◌↔◌, ◌++◌, [], ℕ, List, Result, Ok, Err, IfOk};
+ghost use Rattle.std.specs.Prelude.{◌≡◌, ◌↔◌, ◌<◌, ◌++◌, [], ℕ, List, Result, Ok, Err, IfOk, OnOk};
 ghost use Rattle.tree_canon.specs.declared.node.Node.{Node};
+ghost use Rattle.tree_canon.specs.declared.fault.Reason.{Reason};
+ghost use Rattle.tree_canon.specs.declared.fault.DecodeFault.TheVariants as faults;
 ghost use Rattle.tree_canon.specs.Division.{Spells, IsDivided};
 ghost use Rattle.tree_canon.specs.Feeding.{DecodesTo};
+ghost use Rattle.tree_canon.specs.Reading.{State, Stuck, run};
+ghost use Rattle.tree_canon.specs.Scanning.{bytes_taken, field_width, IsSmall, IsAt};
+ghost use Rattle.tree_canon.specs.Decoding.{HasMade, HasSamePlace};
 
-use crate::cut::Hole;
+use crate::building::{Building, Current};
+use crate::event::Event;
 use crate::fault::{DecodeFault, Reason};
-use crate::reader::Reader;
+use crate::scanner::Scanner;
 use crate::tree::Tree;
 use cnb_world::Memory;
 use std::alloc::Global;
 use std::marker::Model;
 
+/// The most bytes that a scanner is given at once.
+const MOST_GIVEN: usize = 65536;
+
 /// Reads a tree from bytes that come in pieces. Contracts see the bytes that were fed while nothing in them is broken,
 /// and from then on the fault that every later call answers.
 #[derive(Drop)]
 pub struct Decoder {
-    reader: Reader,
+    scanner: Scanner,
+    building: Building,
     fault: Option<DecodeFault>,
 }
 
@@ -26,11 +36,11 @@ impl Model for Decoder {
 
     ghost Value = { Result (List ℕ) DecodeFault };
 
-    ghost use Rattle.tree_canon.specs.Readers.{fed_by, IsReading};
+    ghost use Rattle.tree_canon.specs.Decoding.{fed_by, IsDecoding};
 
-    ghost view = { λ d. fed_by d.reader d.fault };
+    ghost view = { λ d. fed_by d.scanner d.building d.fault };
 
-    ghost invariant = { λ d. IsReading d.reader d.fault };
+    ghost invariant = { λ d. IsDecoding d.scanner d.building d.fault };
 }
 
 impl Decoder {
@@ -41,7 +51,8 @@ impl Decoder {
         ensures { IfOk result (λ decoder. decoder ≡ Ok []) }
     {
         Ok(Decoder {
-            reader: Reader::new(alloc),
+            scanner: Scanner::new(alloc),
+            building: Building::new(alloc),
             fault: None,
         })
     }
@@ -55,7 +66,7 @@ impl Decoder {
         if let Some(fault) = self.fault {
             return Err(fault);
         }
-        match self.reader.read(piece) {
+        match read(&mut self.scanner, &mut self.building, piece) {
             Ok(()) => Ok(()),
             Err(fault) => {
                 self.fault = Some(fault);
@@ -69,25 +80,66 @@ impl Decoder {
         ensures ends { Ends self result }
         ensures exact { (tree : Node) (bytes : List ℕ) → self ≡ Ok bytes → ((result ≡ Ok tree) ↔ Spells tree bytes) }
     {
-        let Decoder { reader, fault } = self;
+        let Decoder {
+            scanner,
+            building,
+            fault,
+        } = self;
         if let Some(fault) = fault {
             return Err(fault);
         }
-        let Reader {
+        let Building {
             alloc: _,
-            at,
             folders: _,
-            hole,
-            part,
-        } = reader;
-        match hole {
-            Hole::End(root) => Ok(Tree::measured(root, at)),
+            current,
+        } = building;
+        match current {
+            Current::Whole(root) => Ok(Tree::measured(root, scanner.at)),
             _ => Err(DecodeFault::Bad {
-                at: at + part.len() as u64,
+                at: scanner.at.saturating_add(scanner.taken()),
                 reason: Reason::Short,
             }),
         }
     }
+}
+
+/// Reads bytes up to the first field that breaks a rule, and adds to the tree what they tell.
+fn read(scanner: &mut Scanner, building: &mut Building, piece: &[u8]) -> Result<(), DecodeFault>
+    requires partial { bytes_taken scanner.old.next scanner.old.part.items < field_width scanner.old.next }
+    requires small { IsSmall scanner.old }
+    requires owed { scanner.old.owed ≡ 0 }
+    ensures partial { OnOk result (bytes_taken scanner.new.next scanner.new.part.items < field_width scanner.new.next) }
+    ensures small { OnOk result (IsSmall scanner.new) }
+    ensures owed { OnOk result (scanner.new.owed ≡ 0) }
+    ensures made { OnOk result ((bytes : List ℕ) → HasMade scanner.old building.old bytes
+        → HasMade scanner.new building.new (bytes ++ piece.now)) }
+    ensures bad { (state : State) → IsAt scanner.old state → (at : ℕ) (reason : Reason)
+        → result ≡ Err (faults.Bad at reason) → run state piece.now ≡ Stuck at reason }
+{
+    let mut rest = piece;
+    while !rest.is_empty() {
+        let (input, _) = rest.split_at(rest.len().min(MOST_GIVEN));
+        let step = scanner.next(input)?;
+        let (taken, behind) = rest.split_at(step.used as usize);
+        building.add(step.event, taken, behind.len())?;
+        close(scanner, building)?;
+        rest = behind;
+    }
+    Ok(())
+}
+
+/// Adds the ends of the folders that are whole, which the scanner has still to tell.
+fn close(scanner: &mut Scanner, building: &mut Building) -> Result<(), Memory>
+    ensures owed { OnOk result (scanner.new.owed ≡ 0) }
+    ensures place { OnOk result (HasSamePlace scanner.old scanner.new) }
+    ensures made { OnOk result ((bytes : List ℕ) → HasMade scanner.old building.old bytes
+        → HasMade scanner.new building.new bytes) }
+{
+    while 0 < scanner.owed {
+        scanner.owed -= 1;
+        building.add(Event::Close, &[], 0)?;
+    }
+    Ok(())
 }
 
 /// The tree that these bytes spell; `Bad` is the fault that feeding them gives. Nothing is kept of the bytes but what

@@ -1,7 +1,12 @@
 // The values of whole fields.
-ghost use Rattle.std.specs.Prelude.{◌≡◌, length};
+ghost use Rattle.std.specs.Prelude.{◌≡◌, IfOk, length, true};
 ghost use Rattle.std.specs.Int.{from_be_bytes, w16, w32, w64};
+ghost use Rattle.std.specs.Str.{is_utf8};
 ghost use Rattle.tree_canon.specs.Rules.{first_byte};
+
+use cnb_world::{Memory, Text};
+use std::alloc::Global;
+use std::str;
 
 /// The first byte.
 pub fn first_byte(field: &[u8]) -> u8
@@ -40,5 +45,16 @@ pub fn u64_of(field: &[u8]) -> u64
     match field {
         [a, b, c, d, e, f, g, h] => u64::from_be_bytes([*a, *b, *c, *d, *e, *f, *g, *h]),
         _ => 0,
+    }
+}
+
+/// The text of bytes that are UTF-8.
+pub fn text_of(alloc: Global, bytes: &[u8]) -> Result<Text, Memory>
+    requires { is_utf8 bytes.now ≡ true }
+    ensures { IfOk result (λ text. text ≡ bytes.now) }
+{
+    match str::from_utf8(bytes) {
+        Ok(text) => Text::of(alloc, text),
+        Err(_) => unreachable!(),
     }
 }

@@ -2,17 +2,17 @@
 //! has one tree. docs/FORMATS.md describes the bytes.
 #![tactic(auto)]
 
+mod building;
 mod copying;
-mod cut;
 mod decoder;
 mod digest;
+mod event;
 mod fault;
 mod field;
 mod fitting;
 mod judging;
 mod next_field;
 mod node;
-mod reader;
 mod rules;
 mod scan;
 mod scanner;
@@ -21,6 +21,7 @@ mod tree;
 
 pub use decoder::{Decoder, decode};
 pub use digest::Digest;
+pub use event::{Event, Step};
 pub use fault::{DecodeFault, Reason, TreeFault};
 pub use fitting::is_target;
 pub use judging::{Judged, judge};

@@ -5,63 +5,20 @@ ghost use Rattle.std.specs.Option.{option_copied};
 ghost use Rattle.tree_canon.specs.declared.fault.Reason.TheVariants as reasons;
 ghost use Rattle.tree_canon.specs.Spelling.{limit, magic};
 ghost use Rattle.tree_canon.specs.Names.{is_name, is_target, follows};
-ghost use Rattle.tree_canon.specs.CutTree.{width, last_name};
-ghost use Rattle.tree_canon.specs.Scanning.{field_width, own_reason_at, reason_at, bytes_taken};
-ghost use Rattle.tree_canon.specs.Rules.{unless, either_reason, large_past, first_byte, is_tag, length_reason, own_reason, reason_of};
+ghost use Rattle.tree_canon.specs.Scanning.{field_width, own_reason_at, reason_at, IsWholeField};
+ghost use Rattle.tree_canon.specs.Rules.{unless, either_reason, large_past, first_byte, is_tag, length_reason};
 
-use crate::cut::Hole;
 use crate::fault::Reason;
 use crate::field::{first_byte, u16_of, u64_of};
 use crate::fitting::{MAX_DEPTH, MAX_NAME, MAX_TARGET, follows, is_name, is_target};
 use crate::next_field::NextField;
-use crate::node::Named;
 use crate::tree::MAX_LENGTH;
-use cnb_world::Bytes;
-
-impl Hole {
-    /// The first reason that a whole field gives.
-    pub fn reason_of(&self, depth: usize, at: u64, field: &[u8]) -> Option<Reason>
-        requires { length field.now ≡ width self.now }
-        ensures { result ≡ reason_of depth at self.now field.now }
-    {
-        if is_past(at, self.width()) {
-            return Some(Reason::Large);
-        }
-        self.own_reason(depth, at, field)
-    }
-
-    fn own_reason(&self, depth: usize, at: u64, field: &[u8]) -> Option<Reason>
-        requires length { length field.now ≡ width self.now }
-        requires at { at ≤ limit }
-        ensures { result ≡ own_reason depth at self.now field.now }
-    {
-        match self {
-            Hole::Magic(k) => magic_reason(*k, field),
-            Hole::Tag => tag_reason(depth, field),
-            Hole::Count => None,
-            Hole::NameLength {
-                count: _,
-                before: _,
-            } => length_reason(at + 2, MAX_NAME, field),
-            Hole::Name {
-                count: _,
-                before,
-                size: _,
-            } => name_reason(last_name(before.as_slice()), field),
-            Hole::Executable => executable_reason(field),
-            Hole::FileLength { exec: _ } => file_length_reason(at + 8, field),
-            Hole::Contents { exec: _, size: _ } => None,
-            Hole::TargetLength => length_reason(at + 2, MAX_TARGET, field),
-            Hole::Target { size: _ } => target_reason(field),
-            Hole::End(_) => Some(Reason::Rest),
-        }
-    }
-}
+use cnb_world::List;
 
 impl NextField {
     /// The first reason that a whole field gives. Of a file's contents no byte is asked for.
     pub fn reason_of(&self, depth: usize, at: u64, part: &[u8]) -> Option<Reason>
-        requires { bytes_taken self.now part.now ≡ field_width self.now }
+        requires { IsWholeField self.now part.now }
         ensures { result ≡ reason_at depth at self.now part.now }
     {
         if is_past(at, self.width()) {
@@ -71,7 +28,7 @@ impl NextField {
     }
 
     fn own_reason(&self, depth: usize, at: u64, part: &[u8]) -> Option<Reason>
-        requires taken { bytes_taken self.now part.now ≡ field_width self.now }
+        requires whole { IsWholeField self.now part.now }
         requires at { at ≤ limit }
         ensures { result ≡ own_reason_at depth at self.now part.now }
     {
@@ -86,7 +43,7 @@ impl NextField {
                 size: _,
             } => name_reason(bytes_of(last), part),
             NextField::Executable => executable_reason(part),
-            NextField::FileLength => file_length_reason(at + 8, part),
+            NextField::FileLength { exec: _ } => file_length_reason(at + 8, part),
             NextField::Contents { size: _, taken: _ } => None,
             NextField::TargetLength => length_reason(at + 2, MAX_TARGET, part),
             NextField::Target { size: _ } => target_reason(part),
@@ -95,7 +52,7 @@ impl NextField {
     }
 }
 
-fn bytes_of(name: &Option<Bytes>) -> Option<&[u8]>
+fn bytes_of(name: &Option<List<u8>>) -> Option<&[u8]>
     ensures { option_copied result ≡ name.now }
 {
     match name {
@@ -130,7 +87,8 @@ fn magic_reason(k: u8, field: &[u8]) -> Option<Reason>
 }
 
 fn tag_reason(depth: usize, field: &[u8]) -> Option<Reason>
-    ensures { result ≡ either_reason (unless (nat_le depth 64) reasons.Deep) (unless (is_tag (first_byte field.now)) reasons.Tag) }
+    ensures { result ≡ either_reason (unless (nat_le depth 64) reasons.Deep)
+        (unless (is_tag (first_byte field.now)) reasons.Tag) }
 {
     if depth > MAX_DEPTH {
         return Some(Reason::Deep);
@@ -159,7 +117,8 @@ fn length_reason(end: u64, most: u16, field: &[u8]) -> Option<Reason>
 }
 
 fn name_reason(last: Option<&[u8]>, field: &[u8]) -> Option<Reason>
-    ensures { result ≡ either_reason (unless (is_name field.now) reasons.Name) (unless (follows (option_copied last.entry) field.now) reasons.Order) }
+    ensures { result ≡ either_reason (unless (is_name field.now) reasons.Name)
+        (unless (follows (option_copied last.entry) field.now) reasons.Order) }
 {
     if !is_name(field) {
         return Some(Reason::Name);
@@ -168,16 +127,6 @@ fn name_reason(last: Option<&[u8]>, field: &[u8]) -> Option<Reason>
         None
     } else {
         Some(Reason::Order)
-    }
-}
-
-/// The name of the last of these entries.
-fn last_name(entries: &[Named]) -> Option<&[u8]>
-    ensures { option_copied result ≡ last_name entries.now }
-{
-    match entries.last() {
-        Some(entry) => Some(entry.name.as_str().as_bytes()),
-        None => None,
     }
 }
 

@@ -1,16 +1,20 @@
 // Whether bytes that come in pieces spell a tree.
-ghost use Rattle.std.specs.Prelude.{◌≡◌, ◌<◌, ◌≤◌, [], Ok, IfOk};
+ghost use Rattle.std.specs.Prelude.{◌≡◌, ◌<◌, ◌≤◌, ◌++◌, ℕ, List as Seq, [], length, take, Ok, IfOk, OnOk};
+ghost use Rattle.tree_canon.specs.declared.event.Event.TheVariants as events;
+ghost use Rattle.tree_canon.specs.Events.{Told, told};
 ghost use Rattle.tree_canon.specs.Feeding.{Fed};
 ghost use Rattle.tree_canon.specs.Scanning.{bytes_taken, field_width, IsSmall};
 
+use crate::event::Step;
 use crate::fault::{DecodeFault, Reason};
 use crate::next_field::NextField;
 use crate::scanner::Scanner;
 use cnb_world::Memory;
 use std::alloc::Global;
 
-/// Judges bytes that come in pieces as `Decoder` does, and makes no tree of them. It keeps one name of each open
-/// folder, the name before the one under way, and of the field that has begun all bytes but a file's contents.
+/// Judges bytes that come in pieces as `Decoder` does, and makes no tree of them: `feed` judges a piece, and `next`
+/// tells what it says of the tree besides, event by event. It keeps one name of each open folder, the name before the
+/// one under way, and of the field that has begun all bytes but a file's contents.
 #[derive(Drop)]
 pub struct Scan {
     scanner: Scanner,
@@ -20,11 +24,12 @@ pub struct Scan {
 }
 
 impl Scan {
-    ghost use Rattle.tree_canon.specs.Scans.{Scans, ScanFeeds, ScanEnds, held};
+    ghost use Rattle.tree_canon.specs.Scans.{Scans, ScanFeeds, ScanTakes, ScanEnds, HasGiven, GivesTree, IsInContents, held, owed};
 
     /// A scan that was fed no byte.
     pub fn new(alloc: Global) -> Result<Scan, Memory>
-        ensures { IfOk result (λ scan. Scans scan (Ok [])) }
+        ensures fed { IfOk result (λ scan. Scans scan (Ok [])) }
+        ensures given { IfOk result (λ scan. HasGiven scan [] []) }
     {
         Ok(Scan {
             scanner: Scanner::new(alloc),
@@ -49,6 +54,37 @@ impl Scan {
         }
     }
 
+    /// Takes the next bytes up to the first event that they bring, and answers that event. Where they bring none, it
+    /// takes all of them and answers `More`. A `Close` takes no byte: it comes before the next field, once for each
+    /// folder that is whole, the innermost first.
+    pub fn next(&mut self, input: &[u8]) -> Result<Step, DecodeFault>
+        requires { length input.now ≤ 65536 }
+        ensures takes { (fed : Fed) → Scans self.old fed → ScanTakes fed input.now result self.new }
+        ensures gives { IfOk result (λ step. (bytes : Seq ℕ) (given : Seq Told) → HasGiven self.old bytes given
+            → HasGiven self.new (bytes ++ take step.used input.now)
+            (given ++ told step.event (take step.used input.now))) }
+        ensures used { IfOk result (λ step. step.used ≤ length input.now) }
+        ensures part { IfOk result (λ step. (n : ℕ) → step.event ≡ events.Part n → (0 < n) × (n ≤ step.used)) }
+        ensures all { IfOk result (λ step. (n : ℕ) → step.event ≡ events.Part n → step.used < length input.now
+            → IsInContents self.new → ⊥) }
+        // Nothing that the bytes tell is left.
+        ensures more { IfOk result (λ step. step.event ≡ events.More
+            → (step.used ≡ length input.now) × (owed self.new ≡ 0)) }
+        ensures close { 0 < owed self.old → IfOk result (λ step. (step.used ≡ 0) × (step.event ≡ events.Close)) }
+    {
+        if let Some(fault) = self.fault {
+            return Err(fault);
+        }
+        match self.scanner.next(input) {
+            Ok(step) => Ok(step),
+            Err(fault) => {
+                self.scanner = Scanner::new(self.scanner.alloc);
+                self.fault = Some(fault);
+                Err(fault)
+            }
+        }
+    }
+
     /// How many bytes it keeps: the last names of the open folders, and of the field that has begun all bytes but a
     /// file's contents. At most these are 64 names of 255 bytes and 4,095 bytes of a target.
     pub fn held(&self) -> usize
@@ -60,7 +96,9 @@ impl Scan {
 
     /// Whether all bytes fed spell a tree; else what `Decoder::finish` answers.
     pub fn finish(self) -> Result<(), DecodeFault>
-        ensures { (fed : Fed) → Scans self fed → ScanEnds fed result }
+        ensures ends { (fed : Fed) → Scans self fed → ScanEnds fed result }
+        ensures given { (bytes : Seq ℕ) (given : Seq Told) → HasGiven self bytes given
+            → OnOk result (GivesTree bytes given (owed self)) }
     {
         let Scan { scanner, fault } = self;
         if let Some(fault) = fault {

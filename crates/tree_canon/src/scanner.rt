@@ -1,21 +1,26 @@
 // Scanning a spelling field by field, over the names of the open folders.
-ghost use Rattle.std.specs.Prelude.{◌≡◌, ◌+◌, ◌-◌, ◌<◌, ◌≤◌, ℕ, List as Seq, [], length, reverse, IfOk, OnOk, Err, None, Some};
+ghost use Rattle.std.specs.Prelude.{◌≡◌, ◌+◌, ◌-◌, ◌<◌, ◌≤◌, ◌++◌, ℕ, List as Seq, [], length, nat_lt, suc, take, ◌==◌, if◌then◌else◌, reverse, IfOk, OnOk, IsTrue, Err, None, Some};
 ghost use Rattle.tree_canon.specs.declared.fault.Reason.{Reason};
 ghost use Rattle.tree_canon.specs.declared.fault.DecodeFault.TheVariants as faults;
+ghost use Rattle.tree_canon.specs.declared.event.Event.TheVariants as events;
 ghost use Rattle.tree_canon.specs.declared.next_field.NextField.TheVariants as next_fields;
 ghost use Rattle.tree_canon.specs.declared.next_field.ScannedFolder.{ScannedFolder};
-ghost use Rattle.tree_canon.specs.Scanning.{behind, behind_count, behind_file_length, behind_node, behind_tag, bytes_taken, field_width, place, reason_at, with_bytes, bytes_held, IsSmall, IsAt};
+ghost use Rattle.tree_canon.specs.Scanning.{behind, behind_count, behind_file_length, behind_node, behind_tag, bytes_taken, closes, closes_behind, field_width, place, reason_at, with_bytes, bytes_held, IsContents, IsWholeField, IsSmallPlace, IsSmall, IsAt};
 ghost use Rattle.tree_canon.specs.Reading.{State, Stuck, run};
+ghost use Rattle.tree_canon.specs.Events.{Told, told};
+ghost use Rattle.tree_canon.specs.Fields.{event_by};
+ghost use Rattle.tree_canon.specs.Telling.{HasTold};
 
+use crate::event::{Event, Step};
 use crate::fault::DecodeFault;
 use crate::field::{first_byte, u16_of, u32_of, u64_of};
-use crate::next_field::{NextField, ScannedFolder};
-use cnb_world::{Bytes, Memory};
+use crate::next_field::{NextField, ScannedFolder, kept};
+use cnb_world::Memory;
 use std::alloc::Global;
 use std::mem;
 
-/// The field that comes next, and its first bytes. `at` counts the bytes before that field, and the innermost folder
-/// stands last.
+/// The field that comes next, and its first bytes. `at` counts the bytes before that field, the innermost folder stands
+/// last, and `owed` counts the folders that are whole, whose ends were not told yet.
 #[derive(Drop)]
 pub struct Scanner {
     pub alloc: Global,
@@ -23,6 +28,7 @@ pub struct Scanner {
     pub folders: Vec<ScannedFolder>,
     pub next: NextField,
     pub part: Vec<u8>,
+    pub owed: usize,
 }
 
 impl Scanner {
@@ -32,6 +38,9 @@ impl Scanner {
         ensures folders { result.folders.items ≡ [] }
         ensures next { result.next ≡ next_fields.Magic 0 }
         ensures part { result.part.items ≡ [] }
+        ensures owed { result.owed ≡ 0 }
+        ensures partial { bytes_taken result.next result.part.items < field_width result.next }
+        ensures small { IsSmall result }
     {
         Scanner {
             alloc,
@@ -39,6 +48,7 @@ impl Scanner {
             folders: Vec::new(alloc),
             next: NextField::Magic(0),
             part: Vec::new(alloc),
+            owed: 0,
         }
     }
 
@@ -77,28 +87,122 @@ impl Scanner {
     {
         let mut rest = piece;
         while !rest.is_empty() {
-            let need = (self.next.width() - self.taken()) as usize;
-            if rest.len() < need {
-                self.keep(rest)?;
-                return Ok(());
-            }
-            let (front, back) = rest.split_at(need);
-            self.keep(front)?;
-            self.take_field()?;
+            let (front, back) = rest.split_at(self.share(rest.len()));
+            self.take(front, false)?;
             rest = back;
         }
         Ok(())
     }
 
-    /// Takes bytes of the next field.
+    /// Reads bytes up to the first event that they bring, or to the first field that breaks a rule.
+    pub fn next(&mut self, input: &[u8]) -> Result<Step, DecodeFault>
+        requires partial { bytes_taken self.old.next self.old.part.items < field_width self.old.next }
+        requires small { IsSmall self.old }
+        requires few { length input.now ≤ 65536 }
+        ensures partial { OnOk result (bytes_taken self.new.next self.new.part.items < field_width self.new.next) }
+        ensures small { OnOk result (IsSmall self.new) }
+        ensures used { IfOk result (λ step. step.used ≤ length input.now) }
+        ensures some { self.old.owed ≡ 0 → 0 < length input.now → IfOk result (λ step. 0 < step.used) }
+        ensures runs { IfOk result (λ step. (state : State) → IsAt self.old state
+            → IsAt self.new (run state (take step.used input.now))) }
+        ensures bad { (state : State) → IsAt self.old state → (at : ℕ) (reason : Reason)
+            → result ≡ Err (faults.Bad at reason) → run state input.now ≡ Stuck at reason }
+        ensures told { IfOk result (λ step. (bytes : Seq ℕ) (given : Seq Told) → HasTold self.old bytes given
+            → HasTold self.new (bytes ++ take step.used input.now)
+            (given ++ told step.event (take step.used input.now))) }
+        ensures part { IfOk result (λ step. (n : ℕ) → step.event ≡ events.Part n → (0 < n) × (n ≤ step.used)) }
+        ensures all { IfOk result (λ step. (n : ℕ) → step.event ≡ events.Part n → step.used < length input.now
+            → IsContents self.new.next → ⊥) }
+        ensures more { IfOk result (λ step. step.event ≡ events.More
+            → (step.used ≡ length input.now) × (self.new.owed ≡ 0)) }
+        ensures close { 0 < self.old.owed → IfOk result (λ step. (step.used ≡ 0) × (step.event ≡ events.Close)) }
+    {
+        if 0 < self.owed {
+            self.owed -= 1;
+            return Ok(Step {
+                used: 0,
+                event: Event::Close,
+            });
+        }
+        let mut used = 0;
+        while used < input.len() {
+            let rest = &input[used..];
+            let share = self.share(rest.len());
+            let event = self.take(&rest[..share], true)?;
+            used += share;
+            if !event.is_more() {
+                return Ok(Step {
+                    used: used as u32,
+                    event,
+                });
+            }
+        }
+        Ok(Step {
+            used: used as u32,
+            event: Event::More,
+        })
+    }
+
+    /// How many of so many bytes belong to the next field.
+    fn share(&self, count: usize) -> usize
+        requires { bytes_taken self.now.next self.now.part.items < field_width self.now.next }
+        ensures some { 0 < count → 0 < result }
+        ensures within { result ≤ count }
+        ensures fits { bytes_taken self.now.next self.now.part.items + result ≤ field_width self.now.next }
+        ensures all { result < count
+            → bytes_taken self.now.next self.now.part.items + result ≡ field_width self.now.next }
+    {
+        let need = self.next.width() - self.taken();
+        need.min(count as u64) as usize
+    }
+
+    /// Takes bytes of the next field, and answers the event that they bring, if it is to be told, and else `More`.
+    fn take(&mut self, bytes: &[u8], tell: bool) -> Result<Event, DecodeFault>
+        requires partial { bytes_taken self.old.next self.old.part.items < field_width self.old.next }
+        requires fits { bytes_taken self.old.next self.old.part.items + length bytes.now ≤ field_width self.old.next }
+        requires small { IsSmall self.old }
+        requires few { IsTrue tell → length bytes.now ≤ 65536 }
+        ensures partial { OnOk result (bytes_taken self.new.next self.new.part.items < field_width self.new.next) }
+        ensures small { OnOk result (IsSmall self.new) }
+        ensures runs { OnOk result ((state : State) → IsAt self.old state → IsAt self.new (run state bytes.now)) }
+        ensures bad { (state : State) → IsAt self.old state → (at : ℕ) (reason : Reason)
+            → result ≡ Err (faults.Bad at reason) → run state bytes.now ≡ Stuck at reason }
+        ensures told { IfOk result (λ event. IsTrue tell → self.old.owed ≡ 0 → (seen : Seq ℕ) (given : Seq Told)
+            → HasTold self.old seen given → HasTold self.new (seen ++ bytes.now) (given ++ told event bytes.now)) }
+        ensures part { IfOk result (λ event. IsTrue tell → (n : ℕ) → event ≡ events.Part n → n ≡ length bytes.now) }
+        ensures all { IfOk result (λ event. IsTrue tell → (n : ℕ) → event ≡ events.Part n
+            → bytes_taken self.old.next self.old.part.items + length bytes.now ≡ field_width self.old.next
+            → IsContents self.new.next → ⊥) }
+        ensures more { IfOk result (λ event. IsTrue tell → self.old.owed ≡ 0 → event ≡ events.More
+            → self.new.owed ≡ 0) }
+    {
+        let need = self.next.width() - self.taken();
+        if (bytes.len() as u64) < need {
+            self.keep(bytes)?;
+            if tell && self.next.is_contents() {
+                return Ok(Event::Part(bytes.len() as u32));
+            }
+            return Ok(Event::More);
+        }
+        if self.part.is_empty() {
+            return self.take_field(bytes, tell);
+        }
+        self.keep(bytes)?;
+        let part = mem::replace(&mut self.part, Vec::new(self.alloc));
+        self.take_field(&part, tell)
+    }
+
+    /// Keeps bytes of the next field, which isn't whole, or has a part that was kept before.
     fn keep(&mut self, bytes: &[u8]) -> Result<(), Memory>
         requires { bytes_taken self.old.next self.old.part.items + length bytes.now ≤ field_width self.old.next }
         ensures next { OnOk result (self.new.next ≡ (with_bytes self.old.next self.old.part.items bytes.now).0) }
         ensures part { OnOk result (self.new.part.items ≡ (with_bytes self.old.next self.old.part.items bytes.now).1) }
-        ensures rest { (self.new.at ≡ self.old.at) × (self.new.folders ≡ self.old.folders) }
+        ensures rest { (self.new.at ≡ self.old.at) × (self.new.folders ≡ self.old.folders)
+            × (self.new.owed ≡ self.old.owed) }
     {
         match &mut self.next {
             NextField::Contents { size, taken } => {
+                // The proof takes from this line that the size has 64 bits.
                 let _size = *size;
                 *taken += bytes.len() as u64;
             }
@@ -107,75 +211,90 @@ impl Scanner {
         Ok(())
     }
 
-    /// Judges the field, which is whole, and moves behind it.
-    fn take_field(&mut self) -> Result<(), DecodeFault>
-        requires whole { bytes_taken self.old.next self.old.part.items ≡ field_width self.old.next }
-        requires small { IsSmall self.old }
+    /// Judges the next field, which is whole, and moves behind it. Of a file's contents the last bytes are enough.
+    fn take_field(&mut self, field: &[u8], tell: bool) -> Result<Event, DecodeFault>
+        requires whole { IsWholeField self.old.next field.now }
+        requires small { IsSmallPlace (place (reverse self.old.folders.items) self.old.next) }
+        requires empty { self.old.part.items ≡ [] }
+        requires few { IsTrue tell → length field.now ≤ 65536 }
         ensures meets { OnOk result (reason_at (length self.old.folders.items) self.old.at self.old.next
-            self.old.part.items ≡ None) }
+            field.now ≡ None) }
         ensures at { OnOk result (self.new.at ≡ self.old.at + field_width self.old.next) }
         ensures place { OnOk result (place (reverse self.new.folders.items) self.new.next
-            ≡ behind (reverse self.old.folders.items) self.old.next self.old.part.items) }
+            ≡ behind (reverse self.old.folders.items) self.old.next field.now) }
         ensures empty { OnOk result (self.new.part.items ≡ []) }
         ensures partial { OnOk result (bytes_taken self.new.next self.new.part.items < field_width self.new.next) }
         ensures small { OnOk result (IsSmall self.new) }
+        ensures owed { OnOk result (self.new.owed
+            ≡ closes_behind (reverse self.old.folders.items) self.old.next field.now) }
+        ensures event { IfOk result (λ event. IsTrue tell → event ≡ event_by self.old.next field.now) }
         ensures bad { (at : ℕ) (reason : Reason) → result ≡ Err (faults.Bad at reason) → (at ≡ self.old.at)
-            × (reason_at (length self.old.folders.items) self.old.at self.old.next self.old.part.items ≡ Some reason) }
+            × (reason_at (length self.old.folders.items) self.old.at self.old.next field.now ≡ Some reason) }
     {
         let depth = self.folders.len();
-        if let Some(reason) = self.next.reason_of(depth, self.at, &self.part) {
+        if let Some(reason) = self.next.reason_of(depth, self.at, field) {
             return Err(DecodeFault::Bad {
                 at: self.at,
                 reason,
             });
         }
+        let event = if tell {
+            self.next.event(self.alloc, field)?
+        } else {
+            Event::More
+        };
         self.at += self.next.width();
         let next = mem::replace(&mut self.next, NextField::Tag);
-        self.next = behind(self.alloc, &mut self.folders, next, &mut self.part)?;
-        self.part.clear();
-        Ok(())
+        let behind = behind(self.alloc, &mut self.folders, next, field)?;
+        self.next = behind.0;
+        self.owed = behind.1;
+        Ok(event)
     }
 }
 
-/// The field behind one that meets its rules.
+/// The field behind one that meets its rules, and how many folders that one ends.
 fn behind(
     alloc: Global,
     folders: &mut Vec<ScannedFolder>,
     next: NextField,
-    part: &mut Vec<u8>,
-) -> Result<NextField, Memory>
-    requires { bytes_taken next part.old.items ≡ field_width next }
-    ensures { IfOk result (λ after. place (reverse folders.new.items) after
-        ≡ behind (reverse folders.old.items) next part.old.items) }
+    field: &[u8],
+) -> Result<(NextField, usize), Memory>
+    requires whole { IsWholeField next field.now }
+    requires few { length folders.old.items ≤ 65 }
+    ensures place { IfOk result (λ after. place (reverse folders.new.items) after.0
+        ≡ behind (reverse folders.old.items) next field.now) }
+    ensures closes { IfOk result (λ after. after.1 ≡ closes_behind (reverse folders.old.items) next field.now) }
 {
     match next {
-        NextField::Magic(k) => Ok(if k < 4 {
-            NextField::Magic(k + 1)
-        } else {
-            NextField::Tag
-        }),
-        NextField::Tag => Ok(behind_tag(first_byte(part))),
-        NextField::Count => Ok(behind_count(folders, u32_of(part))),
-        NextField::NameLength { left, last } => Ok(NextField::Name {
-            left,
-            last,
-            size: u16_of(part),
-        }),
+        NextField::Magic(k) if k < 4 => Ok((NextField::Magic(k + 1), 0)),
+        NextField::Magic(_) => Ok((NextField::Tag, 0)),
+        NextField::Tag => Ok((behind_tag(first_byte(field)), 0)),
+        NextField::Count => Ok(behind_count(folders, u32_of(field))),
+        NextField::NameLength { left, last } => {
+            let size = u16_of(field);
+            Ok((NextField::Name { left, last, size }, 0))
+        }
         NextField::Name {
             left,
-            last: _,
+            last,
             size: _,
         } => {
-            let name = Bytes::from_vec(mem::replace(part, Vec::new(alloc)));
+            let name = kept(alloc, last, field)?;
             folders.push(ScannedFolder { left, name })?;
-            Ok(NextField::Tag)
+            Ok((NextField::Tag, 0))
         }
-        NextField::Executable => Ok(NextField::FileLength),
-        NextField::FileLength => Ok(behind_file_length(folders, u64_of(part))),
+        NextField::Executable => {
+            let exec = first_byte(field) == 1;
+            Ok((NextField::FileLength { exec }, 0))
+        }
+        NextField::FileLength { exec: _ } => Ok(behind_file_length(folders, u64_of(field))),
         NextField::Contents { size: _, taken: _ } => Ok(behind_node(folders)),
-        NextField::TargetLength => Ok(NextField::Target { size: u16_of(part) }),
+        NextField::TargetLength => {
+            let size = u16_of(field);
+            Ok((NextField::Target { size }, 0))
+        }
         NextField::Target { size: _ } => Ok(behind_node(folders)),
-        NextField::End => Ok(NextField::End),
+        NextField::End => Ok((NextField::End, 0)),
     }
 }
 
@@ -192,40 +311,50 @@ fn behind_tag(tag: u8) -> NextField
 }
 
 /// In a folder of this count, before its first entry.
-fn behind_count(folders: &mut Vec<ScannedFolder>, count: u32) -> NextField
-    ensures { place (reverse folders.new.items) result ≡ behind_count (reverse folders.old.items) count }
+fn behind_count(folders: &mut Vec<ScannedFolder>, count: u32) -> (NextField, usize)
+    requires { length folders.old.items ≤ 65 }
+    ensures place { place (reverse folders.new.items) result.0 ≡ behind_count (reverse folders.old.items) count }
+    ensures closes { result.1 ≡ (if nat_lt 0 count then 0 else suc (closes (reverse folders.old.items))) }
 {
     if 0 < count {
-        return NextField::NameLength {
+        let next = NextField::NameLength {
             left: count - 1,
             last: None,
         };
+        return (next, 0);
     }
-    behind_node(folders)
+    let (next, closed) = behind_node(folders);
+    (next, closed + 1)
 }
 
 /// In a file of this length, before its contents.
-fn behind_file_length(folders: &mut Vec<ScannedFolder>, size: u64) -> NextField
-    ensures { place (reverse folders.new.items) result ≡ behind_file_length (reverse folders.old.items) size }
+fn behind_file_length(folders: &mut Vec<ScannedFolder>, size: u64) -> (NextField, usize)
+    ensures place { place (reverse folders.new.items) result.0 ≡ behind_file_length (reverse folders.old.items) size }
+    ensures closes { result.1 ≡ (if size == 0 then closes (reverse folders.old.items) else 0) }
 {
     if size == 0 {
         return behind_node(folders);
     }
-    NextField::Contents { size, taken: 0 }
+    (NextField::Contents { size, taken: 0 }, 0)
 }
 
-/// A node is whole: its folder goes on, or is whole too.
-fn behind_node(folders: &mut Vec<ScannedFolder>) -> NextField
-    ensures { place (reverse folders.new.items) result ≡ behind_node (reverse folders.old.items) }
+/// A node is whole: its folder goes on, or is whole too. Counts the folders that are.
+fn behind_node(folders: &mut Vec<ScannedFolder>) -> (NextField, usize)
+    ensures place { place (reverse folders.new.items) result.0 ≡ behind_node (reverse folders.old.items) }
+    ensures closes { result.1 ≡ closes (reverse folders.old.items) }
+    ensures few { result.1 ≤ length folders.old.items }
 {
+    let mut closed = 0;
     while let Some(folder) = folders.pop() {
         let ScannedFolder { left, name } = folder;
         if 0 < left {
-            return NextField::NameLength {
+            let next = NextField::NameLength {
                 left: left - 1,
                 last: Some(name),
             };
+            return (next, closed);
         }
+        closed += 1;
     }
-    NextField::End
+    (NextField::End, closed)
 }

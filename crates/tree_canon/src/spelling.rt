@@ -15,7 +15,8 @@ use std::alloc::Global;
 pub fn encode(alloc: Global, tree: &Tree) -> Result<Bytes, Memory>
     ensures spelled { IfOk result (λ bytes. Spells tree.now bytes) }
     // No other tree has these bytes, and this one has no others.
-    ensures same { IfOk result (λ bytes. (other : Node) (spelling : List ℕ) → Spells other spelling → ((spelling ≡ bytes) ↔ (other ≡ tree.now))) }
+    ensures same { IfOk result (λ bytes. (other : Node) (spelling : List ℕ) → Spells other spelling
+        → ((spelling ≡ bytes) ↔ (other ≡ tree.now))) }
 {
     let mut out = Vec::with_capacity(alloc, tree.length() as usize)?;
     out.extend_from_slice(b"CNBT\x01")?;

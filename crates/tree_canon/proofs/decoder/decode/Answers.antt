@@ -1,6 +1,4 @@
-use Rattle.std.proofs.Common.{List, ℕ, arith}
-use Rattle.tree_canon.specs.Reading.{IsBytes}
-use Rattle.tree_canon.specs.Division.{IsDivided}
+use Rattle.std.proofs.Common.{arith}
 use Rattle.tree_canon.proofs.Total.{one_of_three}
 use Rattle.tree_canon.proofs.Divided.{divided}
 use Rattle.tree_canon.proofs.decoder.decode.Goals as goal
