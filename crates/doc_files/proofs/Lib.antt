@@ -1,3 +1,4 @@
 pub mod Blame
 pub mod Counts
 pub mod NamesRead
+pub mod Written

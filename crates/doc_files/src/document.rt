@@ -1,5 +1,5 @@
 // One document.
-ghost use Rattle.std.specs.Prelude.{◌≡◌, IfErr, IfSome};
+ghost use Rattle.std.specs.Prelude.{◌≡◌, IfErr, IfSome, unwrap_or, []};
 ghost use Rattle.std.specs.Option.{option_map};
 ghost use Rattle.cnb_world.specs.Calls.{MayMisuse};
 ghost use Rattle.cnb_world.specs.Tree.{is_file_or_absent, item_at};
@@ -10,11 +10,8 @@ ghost use Rattle.doc_files.specs.Faults.{read_cause};
 ghost use Rattle.doc_files.specs.Reading.{BlamesOnly, document_at};
 
 use crate::fault::{ReadFault, blamed};
-use cnb_world::{Bytes, LimitKind, Path, Whole, World, read_whole};
+use cnb_world::{Bytes, LONGEST_DOCUMENT, LimitKind, Path, Whole, World, read_whole};
 use std::alloc::Global;
-
-/// The longest document, in bytes.
-const LONGEST_DOCUMENT: u64 = 1048576;
 
 /// The bytes of the document at a path, where one is there. What is neither a file nor absent can't be read: `File`.
 #[tactic(auto, using(crate::proofs::Blame::blamed_last))]
@@ -29,10 +26,20 @@ pub fn read_document<W: World>(
     ensures misused { MayMisuse (option_map (λ files. is_file_or_absent (item_at files path.now)) (W.tree world.old))
         (W.misused world.old) (W.misused world.new) }
 {
-    match read_whole(world, path, LONGEST_DOCUMENT) {
+    match read_whole(world, path, LONGEST_DOCUMENT as u64) {
         Ok(Whole::Absent) => Ok(None),
         Ok(Whole::Large(_)) => Err(ReadFault::Limit(LimitKind::Document)),
         Ok(Whole::Bytes(bytes)) => Ok(Some(bytes)),
         Err(fault) => Err(blamed(alloc, path, fault)),
+    }
+}
+
+/// The bytes of a document, of which there are none where it isn't there.
+pub fn bytes_of(found: &Option<Bytes>) -> &[u8]
+    ensures { result.now ≡ unwrap_or found.now [] }
+{
+    match found {
+        Some(bytes) => bytes.as_slice(),
+        None => &[],
     }
 }
