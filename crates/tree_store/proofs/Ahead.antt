@@ -104,7 +104,7 @@ leaves_damaged path s a asked found bad = record { stays = refl; around = around
 pub leaves_memory : {A : Type 0} (path : List ℕ) (s : KeptBytes) (a : Seen) → Leaves {A = A} path s a (Err Memory) s a
 leaves_memory path s a = record { stays = refl; around = around.itself path a; untold = untold_same a.files a.misused a.misused refl; children = refl; counts = omega arith; blames = tt }
 
-blames_at : {A : Type 0} (path file : List ℕ) (r : Result A StoreFault) → IfErr r (BlamesAt path) → IfErr r (BlamesEither path file)
+pub blames_at : {A : Type 0} (path file : List ℕ) (r : Result A StoreFault) → IfErr r (BlamesAt path) → IfErr r (BlamesEither path file)
 blames_at path file (Ok v) h = tt
 blames_at path file (Err (File blamed)) h = inl (ap (is_within path) h ∙ within_itself path)
 blames_at path file (Err (OddFile odd)) h = tt
@@ -171,7 +171,7 @@ leaves_called ghosts path s answer result old new counted counts blames children
   blames = blames_at path s.path result blames;
 }
 
-blames_wider : {A : Type 0} (folder name path file : List ℕ) (r : Result A StoreFault) → path ≡ joined folder name → 0 < length name → IfErr r (BlamesEither path file) → IfErr r (BlamesEither folder file)
+pub blames_wider : {A : Type 0} (folder name path file : List ℕ) (r : Result A StoreFault) → path ≡ joined folder name → 0 < length name → IfErr r (BlamesEither path file) → IfErr r (BlamesEither folder file)
 blames_wider folder name path file (Ok v) is some h = tt
 blames_wider folder name path file (Err (File blamed)) is some (inl h) = inl (within_child folder name blamed some (ap (λ p. is_within p blamed) (sym is) ∙ h))
 blames_wider folder name path file (Err (File blamed)) is some (inr h) = inr h

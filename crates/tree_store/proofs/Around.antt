@@ -32,7 +32,7 @@ unfolding KeptAround
 kept_itself path None o1 e = subst (KeptAround path None) (sym e) tt
 kept_itself path (Some files) o1 e = subst (KeptAround path (Some files)) (sym e) (λ other away. inl refl)
 
-kept_so : (path : List ℕ) (o o1 : Option Tree) (change : Tree → Tree) → o1 ≡ option_map change o → IfSome o (λ files. KeepsAround path files (change files)) → KeptAround path o o1
+pub kept_so : (path : List ℕ) (o o1 : Option Tree) (change : Tree → Tree) → o1 ≡ option_map change o → IfSome o (λ files. KeepsAround path files (change files)) → KeptAround path o o1
 unfolding KeptAround
 kept_so path None o1 change e h = subst (KeptAround path None) (sym e) tt
 kept_so path (Some files) o1 change e h = subst (KeptAround path (Some files)) (sym e) h
@@ -49,7 +49,7 @@ keeps_on path a b c first next other away = by (first other away) (next other aw
     by (inr made) (inl f) = inr (is_made path other a b c made f)
     by (inr made) (inr again) = absurd (let no : Some item.Folder ≡ None = sym made.after ∙ again.before in cc)
 
-kept_on : (path : List ℕ) (a b c : Option Tree) → KeptAround path a b → KeptAround path b c → KeptAround path a c
+pub kept_on : (path : List ℕ) (a b c : Option Tree) → KeptAround path a b → KeptAround path b c → KeptAround path a c
 unfolding KeptAround
 kept_on path None None None h k = tt
 kept_on path None None (Some c) h k = k
@@ -96,7 +96,7 @@ keeps_inserted : (path : List ℕ) (x : Item) (files : Tree) → KeepsAround pat
 keeps_inserted path x files other away = inl (item_same files (insert files path x) other
     (get-insert_bytes files path x other ∙ ap (λ v. cond v (Some x) (get files other)) (away_parts path other away).1))
 
-at_one : (P : List ℕ → Bool) (ps : List (List ℕ)) (q : List ℕ) → list_all P ps ≡ true → list_any (bytes_eq q) ps ≡ true → P q ≡ true
+pub at_one : (P : List ℕ → Bool) (ps : List (List ℕ)) (q : List ℕ) → list_all P ps ≡ true → list_any (bytes_eq q) ps ≡ true → P q ≡ true
 at_one P [] q all h = absurd (cc)
 at_one P (p ∷ ps) q all h = by (bytes_eq q p) refl h (at_one P ps q (and_parts (P p) (list_all P ps) all).1)
   where

@@ -25,7 +25,7 @@ use Rattle.tree_canon.proofs.Equations.{fits_folder, fits_file, fits_link}
 use Rattle.tree_canon.proofs.Keeps.{entries_fit_push}
 use Rattle.tree_canon.proofs.LastNames.{last_from-push}
 use Rattle.tree_canon.proofs.Lengths.{folder_length, file_length, link_length, entry_length}
-use Rattle.tree_store.specs.Reading.{Sized, FitsFrom}
+use Rattle.tree_store.specs.Reading.{FitsFrom}
 
 -- these names may stand behind a last one
 abbrev pub FollowAll : Option (List ℕ) → List (List ℕ) → Type 0
@@ -88,7 +88,7 @@ file_fits exec bytes size total len depth l is deep = (fits_file exec bytes dept
 pub link_fits : (target : List ℕ) (size total depth : ℕ) → is_target target ≡ true → total ≡ size + (3 + length target) → depth ≤ 64 → FitsFrom depth size (Link target, total)
 link_fits target size total depth form is deep = (fits_link target depth ∙ and_from _ _ (le-leb depth 64 deep) form, is ∙ ap (λ n. size + n) (sym (link_length target)))
 
-few_entries : (es : List Named) → length es ≤ length (entries_bytes es)
+pub few_entries : (es : List Named) → length es ≤ length (entries_bytes es)
 few_entries [] = omega arith
 few_entries (e ∷ es) = let rest : length es ≤ length (entries_bytes es) = few_entries es in omega (arith, length-append (entry_bytes e) (entries_bytes es), entry_length e)
 
@@ -119,7 +119,7 @@ root_measured root size fit few = record { fit = fit.0; few = few; is = omega (a
 -- ---- one name more
 
 -- the names at a place of a list
-next_name : (names : List (List ℕ)) (i : ℕ) (name : List ℕ) → i < length names → name ≡ get_or names i name → drop i names ≡ name ∷ drop (i + 1) names
+pub next_name : (names : List (List ℕ)) (i : ℕ) (name : List ℕ) → i < length names → name ≡ get_or names i name → drop i names ≡ name ∷ drop (i + 1) names
 next_name names i name lt is = rw add-one (drop-cons names i name lt ∙ ap (λ y. y ∷ drop (suc i) names) (sym is))
 
 pub pushed_names : (names : List (List ℕ)) (i : ℕ) (name : List ℕ) → i < length names → name ≡ get_or names i name → AreNames (drop i names) → AreNames (drop (i + 1) names)

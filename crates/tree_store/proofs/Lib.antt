@@ -23,3 +23,8 @@ pub mod Standing
 pub mod Stored
 pub mod StorePaths
 pub mod Ways
+pub mod Apart
+pub mod Written
+pub mod Descents
+pub mod Settled
+pub mod FolderPuts

@@ -196,7 +196,7 @@ free_of digest bytes (NoTree d) free = absurd (cc)
 free_of digest bytes (Damaged a f b) free = absurd (cc)
 free_of digest bytes (Clash d) free = absurd (cc)
 
-unless_free : (fault : StoreFault) (P : Type 0) → IsTrue (is_free fault) → WhereDecided (cause_of fault) P
+pub unless_free : (fault : StoreFault) (P : Type 0) → IsTrue (is_free fault) → WhereDecided (cause_of fault) P
 unless_free (File path) P free = tt
 unless_free Memory P free = tt
 unless_free (OddFile path) P free = absurd (cc)

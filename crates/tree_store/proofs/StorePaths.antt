@@ -30,7 +30,7 @@ five a b c d e p q r s t = and_from _ _ (and_from _ _ (and_from _ _ (and_from _ 
 long_part : (name : List ℕ) → 2 < length name → length name ≤ 255 → list_all is_part_byte name ≡ true → IsTrue (is_part name)
 long_part name long short plain = five _ _ _ _ _ (lt-ltb 0 (length name) (omega arith)) (le-leb (length name) 255 short) (ap not (not_longer name (46 ∷ []) (omega arith))) (ap not (not_longer name (46 ∷ 46 ∷ []) (omega arith))) plain
 
-digits : (text : List ℕ) → is_digest_text text ≡ true → (length text ≡ 64) × (list_all is_part_byte text ≡ true)
+pub digits : (text : List ℕ) → is_digest_text text ≡ true → (length text ≡ 64) × (list_all is_part_byte text ≡ true)
 digits text h = let p = and_parts (length text == 64) (list_all is_lower_digit text) h in (eqb-true (length text) 64 p.0, plain_digits text p.1)
 
 pub digest_part : (text name : List ℕ) → name ≡ text → is_digest_text text ≡ true → IsTrue (is_part name)

@@ -1,21 +1,21 @@
 -- Laying a tree as the bytes of its file are read: what lies ahead of the reader, and what each call does.
-use Rattle.std.specs.Prelude.{ℕ, false, ◌≡◌, ◌≤◌, ◌+◌, ◌-◌, ◌⊎◌, List, length, take, drop, Option, Some, None, Result, IfErr, IfOk, OnOk, IsTrue}
+use Rattle.std.specs.Prelude.{ℕ, false, ◌≡◌, ◌≤◌, ◌+◌, ◌-◌, List, length, take, drop, Option, Some, None, Result, IfErr, IfOk, OnOk, IsTrue}
 use Rattle.std.specs.Option.{option_map}
 use Rattle.cnb_world.specs.Calls.{MayMisuse}
-use Rattle.cnb_world.specs.Tree.{Tree, item_at, is_file, is_within, bytes_of}
+use Rattle.cnb_world.specs.Tree.{Tree, item_at, is_file, bytes_of}
 use Rattle.cnb_world.specs.declared.world.Item.{Item}
 use Rattle.steps.specs.Causes.{CountsFiles}
 use Rattle.steps.specs.Outside.{Seen}
 use Rattle.steps.specs.Steps.{Allows}
 use Rattle.tree_canon.specs.Spelling.{limit}
 use Rattle.tree_store.specs.Answers.{cause_of, is_free}
+pub use Rattle.tree_store.specs.Answers.{BlamesEither}
 use Rattle.tree_store.specs.Around.{LeavesAround}
 use Rattle.tree_store.specs.Overlay.{tree_laid}
 use Rattle.tree_store.specs.Right.{AreFolders}
 use Rattle.tree_store.specs.Steps.{can_lay}
 use Rattle.tree_canon.specs.declared.node.Node.{Node}
 use Rattle.tree_store.specs.declared.fault.StoreFault.{StoreFault}
-use Rattle.tree_store.specs.declared.fault.StoreFault.TheVariants.{OddFile, Limit, File, NoTree, Damaged, Clash, Memory}
 use Rattle.tree_store.specs.declared.kept_bytes.KeptBytes.{KeptBytes}
 
 -- of what stands at the reader's path, these bytes lie behind its place, and it holds the first of them
@@ -29,16 +29,6 @@ pub record IsAhead (source : KeptBytes) (found : Option Item) (bytes : List ℕ)
 unfoldable pub Ahead : KeptBytes → Option Tree → List ℕ → Type 0
 Ahead source None bytes = ⊥
 Ahead source (Some files) bytes = IsAhead source (item_at files source.path) bytes
-
--- `File` carries this path, one below it, or that of a tree's file
-abbrev pub BlamesEither : List ℕ → List ℕ → StoreFault → Type 0
-BlamesEither path file (File blamed) = IsTrue (is_within path blamed) ⊎ (blamed ≡ file)
-BlamesEither path file (OddFile odd) = Unit {0}
-BlamesEither path file (Limit kind) = Unit {0}
-BlamesEither path file (NoTree digest) = Unit {0}
-BlamesEither path file (Damaged asked found bad) = Unit {0}
-BlamesEither path file (Clash digest) = Unit {0}
-BlamesEither path file Memory = Unit {0}
 
 -- What a call leaves, whatever bytes it reads: all that isn't at a path or below it. Where files aren't told it makes no call
 -- on a path of the wrong kind.

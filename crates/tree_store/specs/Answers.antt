@@ -1,5 +1,5 @@
 -- What a call on trees in files answers.
-use Rattle.std.specs.Prelude.{ℕ, Bool, true, false, ◌≡◌, List, Result, Ok, Err, IsTrue}
+use Rattle.std.specs.Prelude.{ℕ, Bool, true, false, ◌≡◌, ◌⊎◌, List, IsTrue}
 use Rattle.cnb_world.specs.Tree.{is_within}
 use Rattle.cnb_world.specs.declared.world.FileFault.{FileFault}
 use Rattle.cnb_world.specs.declared.world.Kind.{Kind}
@@ -57,6 +57,16 @@ BlamesWithin path (NoTree digest) = Unit {0}
 BlamesWithin path (Damaged asked found bad) = Unit {0}
 BlamesWithin path (Clash digest) = Unit {0}
 BlamesWithin path Memory = Unit {0}
+
+-- `File` carries this path, one below it, or that of a tree's file
+abbrev pub BlamesEither : List ℕ → List ℕ → StoreFault → Type 0
+BlamesEither path file (File blamed) = IsTrue (is_within path blamed) ⊎ (blamed ≡ file)
+BlamesEither path file (OddFile odd) = Unit {0}
+BlamesEither path file (Limit kind) = Unit {0}
+BlamesEither path file (NoTree digest) = Unit {0}
+BlamesEither path file (Damaged asked found bad) = Unit {0}
+BlamesEither path file (Clash digest) = Unit {0}
+BlamesEither path file Memory = Unit {0}
 
 -- a call on a path that failed is a refusal of that path, or memory ran out
 abbrev pub Blames : List ℕ → FileFault → StoreFault → Type 0

@@ -9,3 +9,4 @@ pub mod Reading
 pub mod Right
 pub mod Steps
 pub mod Store
+pub mod Writing

@@ -4,17 +4,19 @@ use Rattle.std.specs.Option.{option_map}
 use Rattle.sha2.specs.Sha256.{sha256}
 use Rattle.cnb_world.specs.Tree.{Tree, can_make_folder, item_at, is_file, is_file_or_absent, is_within}
 use Rattle.cnb_world.specs.Whole.{can_write}
-use Rattle.steps.specs.Causes.{Cause, FileFailed, ChildFailed, OutOfMemory, Decided, IsReadCause}
+use Rattle.steps.specs.Causes.{Cause, FileFailed, ChildFailed, OutOfMemory, Decided, IsAnswer, IsReadCause, WhereDecided}
 use Rattle.steps.specs.Outside.{Seen}
 use Rattle.steps.specs.Steps.{◌>>=◌, Allows, Same, reads, yields}
 use Rattle.tree_canon.specs.Spelling.{spelling_of}
 use Rattle.tree_canon.specs.declared.node.Node.{Node}
 use Rattle.tree_store.specs.Answers.{BlamesAt, cause_of}
-use Rattle.tree_store.specs.Around.{LeavesAround}
+use Rattle.tree_store.specs.Around.{KeptAround, LeavesAround}
 use Rattle.tree_store.specs.Overlay.{can_stand, parts_of, tree_laid}
 use Rattle.tree_store.specs.Reading.{tree_in}
 use Rattle.tree_store.specs.Store.{Gets, LeavesStore, Puts, tree_path, tree_put}
+use Rattle.tree_store.specs.Writing.{IsCleared, bytes_put, can_begin, new_path, trees_of}
 use Rattle.tree_store.specs.declared.fault.StoreFault.{StoreFault}
+use Rattle.tree_store.specs.declared.fault.StoreFault.TheVariants.{OddFile, Limit, File, NoTree, Damaged, Clash, Memory}
 
 -- the tree of a folder is read
 unfoldable pub reads_tree : List ℕ → Seen → Result Node StoreFault → Seen → Type 0
@@ -66,9 +68,56 @@ pub record PutsTree (store : List ℕ) (tree : Node) (old : Seen) (result : Resu
 unfoldable pub puts_tree : List ℕ → Node → Seen → Result (List ℕ) StoreFault → Seen → Type 0
 puts_tree store tree old result new = PutsTree store tree old result new
 
+-- where the file of a tree that was read may get its name
+abbrev pub can_name : List ℕ → Result Node StoreFault → Tree → Bool
+can_name store (Ok tree) files = is_file_or_absent (item_at files (tree_path store (sha256 (spelling_of tree))))
+can_name store (Err fault) files = true
+
+-- where a folder's tree may be put: where its file may be begun, and may get its name
+abbrev pub can_put_folder : List ℕ → List ℕ → Tree → Bool
+can_put_folder store path files = can_begin store files && can_name store (tree_in path files) files
+
+-- the files where a tree is put and nothing stands where its file is written
+abbrev pub folder_put : List ℕ → Node → Tree → Tree
+folder_put store tree = bytes_put store (spelling_of tree)
+
+-- what putting the tree of a folder answers, by what reading it answers
+abbrev pub PutsRead : List ℕ → Result Node StoreFault → Tree → Result (List ℕ) StoreFault → Type 0
+PutsRead store (Ok tree) files result = Puts store tree files result
+PutsRead store (Err refusal) files result = IsAnswer cause_of result (Err refusal)
+
+-- What is left of the files where a folder's tree was put: its file, and nothing where that is written. Where it was refused,
+-- all stands but what stood there, and folders above it may have been made; and where what was read or stood decided that,
+-- nothing stands there, or nothing was changed.
+abbrev pub LeavesFolder : List ℕ → List ℕ → Seen → Result (List ℕ) StoreFault → Seen → Type 0
+LeavesFolder store path old (Ok digest) new =
+    (tree : Node) × (digest ≡ sha256 (spelling_of tree)) × IfSome old.files (λ files. tree_in path files ≡ Ok tree) × (new.files ≡ option_map (folder_put store tree) old.files)
+LeavesFolder store path old (Err fault) new =
+    KeptAround (new_path store) old.files new.files × WhereDecided (cause_of fault) (IsCleared store new.files ⊎ (new.files ≡ old.files))
+
+-- `File` carries a path at or below the folder, or at or below the folder of the trees' files
+abbrev pub BlamesFolder : List ℕ → List ℕ → StoreFault → Type 0
+BlamesFolder store path (File blamed) = IsTrue (is_within path blamed) ⊎ IsTrue (is_within (trees_of store) blamed)
+BlamesFolder store path (OddFile odd) = Unit {0}
+BlamesFolder store path (Limit kind) = Unit {0}
+BlamesFolder store path (NoTree digest) = Unit {0}
+BlamesFolder store path (Damaged asked found bad) = Unit {0}
+BlamesFolder store path (Clash digest) = Unit {0}
+BlamesFolder store path Memory = Unit {0}
+
+-- The tree of a folder is read and written, and its file is named by its digest, or one of that name has its bytes. A refusal
+-- for a failed call comes with the path whose call failed last.
+pub record PutsFolder (store path : List ℕ) (old : Seen) (result : Result (List ℕ) StoreFault) (new : Seen) : Type 0 where
+  pub answer : IfSome old.files (λ files. PutsRead store (tree_in path files) files result)
+  pub leaves : LeavesFolder store path old result new
+  pub blames : IfErr result (BlamesFolder store path)
+  pub cause : IfErr result (λ fault. IsReadCause new.failed_at (cause_of fault))
+  pub runs : new.runs ≡ old.runs
+  pub allows : Allows (can_put_folder store path) old new
+
 -- the tree of a folder is put into the store
 unfoldable pub puts_folder : List ℕ → List ℕ → Seen → Result (List ℕ) StoreFault → Seen → Type 0
-puts_folder store path = reads_tree path >>= puts_tree store
+puts_folder store path old result new = PutsFolder store path old result new
 
 -- refused for a failed call at a path or below it, or for want of memory
 abbrev pub IsCauseWithin : List ℕ → Cause → Type 0

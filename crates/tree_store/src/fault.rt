@@ -1,7 +1,7 @@
 // Why a tree was not read or written.
-ghost use Rattle.std.specs.Prelude.{◌≡◌, ℕ, IfErr, OnOk, OnErr, IsTrue, is_ok, is_err};
-ghost use Rattle.cnb_world.specs.Calls.{CountsFailed};
-ghost use Rattle.steps.specs.Causes.{CountsFiles};
+ghost use Rattle.std.specs.Prelude.{◌≡◌, ℕ, List as Seq, Option, IfErr, OnOk, OnErr, IsTrue, is_ok, is_err};
+ghost use Rattle.cnb_world.specs.Calls.{CountsFailed, LastFailed};
+ghost use Rattle.steps.specs.Causes.{CountsFiles, IsReadCause};
 ghost use Rattle.tree_store.specs.Answers.{Blames, BlamesAt, is_free, is_odd_file, cause_of};
 
 use cnb_world::{FileFault, LimitKind, Memory, Path};
@@ -73,6 +73,7 @@ pub(crate) fn odd(alloc: Global, path: &Path) -> StoreFault
 }
 
 /// The answer of a call on a path, whose fault blames the path.
+#[tactic(auto, using(crate::proofs::Blames::blamed_last))]
 pub(crate) fn or_blame(
     alloc: Global,
     path: &Path,
@@ -82,6 +83,8 @@ pub(crate) fn or_blame(
     ensures err { OnErr result (IsTrue (is_err answer)) }
     ensures free { IfErr result (λ fault. IsTrue (is_free fault)) }
     ensures blames { IfErr result (BlamesAt path.now) }
+    ensures last { (before now : Option (Seq ℕ)) → LastFailed path.now answer before now
+        → IfErr result (λ fault. IsReadCause now (cause_of fault)) }
     ensures counts { (before now : ℕ) → CountsFailed answer before now → CountsFiles cause_of result before now }
 {
     match answer {

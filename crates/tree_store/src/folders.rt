@@ -6,20 +6,45 @@ ghost use Rattle.steps.specs.Outside.{seen};
 ghost use Rattle.tree_store.specs.Answers.{cause_of};
 ghost use Rattle.tree_store.specs.Steps.{checks_tree, lays_stored, puts_folder};
 ghost use Rattle.tree_store.specs.Store.{tree_path};
+ghost use Rattle.tree_store.specs.Writing.{AreApart, new_path};
 
 use crate::checking::check_file;
 use crate::fault::StoreFault;
 use crate::kept_bytes::KeptBytes;
 use crate::laying::write_tree;
 use crate::laying_kept::{is_within, lay_kept};
+use crate::naming::{cleared, put_written};
+use crate::putting::put_tree;
 use crate::reading::read_tree;
-use crate::store::{get, put, tree_file};
+use crate::store::{get, tree_file};
+use crate::writing::{Writer, new_file};
 use cnb_world::{Path, World};
 use std::alloc::Global;
-use tree_canon::Digest;
+use tree_canon::{Digest, encode};
 
-/// Puts the tree of a folder into the store, as reading and then putting it do.
-pub fn put_folder<W: World>(
+// Puts the tree of a folder as it is read, which lies apart from what is written.
+fn put_walked<W: World>(
+    alloc: Global,
+    world: &mut W,
+    store: &Path,
+    path: &Path,
+) -> Result<Digest, StoreFault>
+    requires store { length store.now ≤ 8192 }
+    requires path { length path.now ≤ 8192 }
+    requires apart { AreApart (new_path store.now) path.now }
+    ensures steps { puts_folder store.now path.now (seen W.World world.old) result (seen W.World world.new) }
+    ensures files { CountsFiles cause_of result (W.file_faults world.old) (W.file_faults world.new) }
+    ensures children { W.child_faults world.new ≡ W.child_faults world.old }
+{
+    let mut writer = Writer::begin(alloc, world, store)?;
+    match put_tree(alloc, world, &mut writer, path) {
+        Ok(len) => put_written(alloc, world, store, writer, len),
+        Err(fault) => Err(cleared(alloc, world, store, writer.path(), fault)),
+    }
+}
+
+// Puts the tree of a folder, which is read before anything is written.
+fn put_whole<W: World>(
     alloc: Global,
     world: &mut W,
     store: &Path,
@@ -32,12 +57,38 @@ pub fn put_folder<W: World>(
     ensures children { W.child_faults world.new ≡ W.child_faults world.old }
 {
     let tree = read_tree(alloc, world, path)?;
-    let digest = put(alloc, world, store, &tree)?;
-    Ok(digest)
+    let bytes = encode(alloc, &tree)?;
+    let mut writer = Writer::begin(alloc, world, store)?;
+    writer.add_all(alloc, world, bytes.as_slice())?;
+    put_written(alloc, world, store, writer, bytes.as_slice().len() as u64)
 }
 
-/// Sees that the store has a tree under a digest, and refuses as `get` does. The file is read in pieces of 65,536 bytes,
-/// and nothing of the tree is kept but the names of the folders round the place that was read.
+/// Puts the tree of a folder into the store, as `put` does. The folder is walked once: while it is read its bytes are
+/// hashed and written, in pieces of at most 65,536 bytes, to the file `new` beside the trees' files, which then gets
+/// the name of the digest. Nothing of the tree is kept but two pieces and the names of the folders round the place that
+/// is read. Where the folder and that file lie in one another, the tree is read whole and then written.
+pub fn put_folder<W: World>(
+    alloc: Global,
+    world: &mut W,
+    store: &Path,
+    path: &Path,
+) -> Result<Digest, StoreFault>
+    requires store { length store.now ≤ 8192 }
+    requires path { length path.now ≤ 8192 }
+    ensures steps { puts_folder store.now path.now (seen W.World world.old) result (seen W.World world.new) }
+    ensures files { CountsFiles cause_of result (W.file_faults world.old) (W.file_faults world.new) }
+    ensures children { W.child_faults world.new ≡ W.child_faults world.old }
+{
+    let file = new_file(alloc, store)?;
+    if is_within(path.as_str(), file.as_str()) || is_within(file.as_str(), path.as_str()) {
+        put_whole(alloc, world, store, path)
+    } else {
+        put_walked(alloc, world, store, path)
+    }
+}
+
+/// Sees that the store has a tree under a digest, and refuses as `get` does. The file is read in pieces of 65,536
+/// bytes, and nothing of the tree is kept but the names of the folders round the place that was read.
 #[tactic(auto, using(crate::proofs::Checked::checked_so))]
 pub fn check_tree<W: World>(
     alloc: Global,
@@ -100,10 +151,10 @@ fn lay_judged<W: World>(
     lay_kept(alloc, world, &mut source, root, place)
 }
 
-/// Lays a stored tree at a place under a folder, by the rule of `write_tree`. The tree's file is read twice, in pieces of
-/// 65,536 bytes: it is judged as `check_tree` does, and then each node is laid as its bytes come. Nothing of the tree is
-/// kept but two pieces and the names on the way. Where the file stands at the root or below it, where laying could change
-/// it, the tree is got whole and then written.
+/// Lays a stored tree at a place under a folder, by the rule of `write_tree`. The tree's file is read twice, in pieces
+/// of 65,536 bytes: it is judged as `check_tree` does, and then each node is laid as its bytes come. Nothing of the
+/// tree is kept but two pieces and the names on the way. Where the file stands at the root or below it, where laying
+/// could change it, the tree is got whole and then written.
 pub fn lay_stored<W: World>(
     alloc: Global,
     world: &mut W,

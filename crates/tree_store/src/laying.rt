@@ -26,10 +26,11 @@ use tree_canon::{Named, Node, Tree};
 const PIECE: usize = 65536;
 
 // The end of the piece that begins here.
-fn piece_end(done: usize, len: usize) -> usize
+pub(crate) fn piece_end(done: usize, len: usize) -> usize
     requires { done < len }
     ensures more { done < result }
     ensures within { result ≤ len }
+    ensures piece { result - done ≤ 65536 }
 {
     if len - done > PIECE {
         done + PIECE
@@ -244,6 +245,7 @@ fn lay_entry<W: World>(
     ensures around { LeavesAround (joined folder.now entry.now.name) (seen W.World world.old) (seen W.World world.new) }
     ensures right { AreFolders (way_into folder.now) (W.tree world.old) → W.misused world.new ≡ W.misused world.old }
 {
+    // The proof takes from this call what each path keeps to.
     let _folder = folder.as_str();
     let path = folder.below(alloc, entry.name.as_str())?;
     lay_node(alloc, world, &path, &entry.node, depth)?;
@@ -280,6 +282,7 @@ fn lay_under<W: World>(
     ensures around { LeavesAround folder.now (seen W.World world.old) (seen W.World world.new) }
     ensures right { AreFolders (way_to folder.now) (W.tree world.old) → W.misused world.new ≡ W.misused world.old }
 {
+    // The proof takes from this call what each path keeps to.
     let _folder = folder.as_str();
     or_blame(alloc, folder, lay_folder(world, folder))?;
     match next_part(way) {
@@ -343,9 +346,9 @@ fn lay_at<W: World>(
     }
 }
 
-/// Lays a tree at a place under a folder, which is made with those above it. The place is a path as seen from that folder.
-/// A folder merges into a folder and takes the place of anything else, also on the way to the place; a file or a link takes
-/// the place of whatever stands. No link is followed. After a refusal a part may stand.
+/// Lays a tree at a place under a folder, which is made with those above it. The place is a path as seen from that
+/// folder. A folder merges into a folder and takes the place of anything else, also on the way to the place; a file or
+/// a link takes the place of whatever stands. No link is followed. After a refusal a part may stand.
 pub fn write_tree<W: World>(
     alloc: Global,
     world: &mut W,

@@ -229,6 +229,7 @@ fn lay_kept_entry<W: World>(
     if depth > MAX_DEPTH {
         return Err(source.broken(Reason::Deep));
     }
+    // The proof takes from this call what each path keeps to.
     let _folder = folder.as_str();
     let name = source.name(alloc, world)?;
     let path = folder.below(alloc, name.as_str())?;
@@ -251,6 +252,7 @@ fn lay_kept_under<W: World>(
         → Lays (node_bytes node ++ rest) rest (laid_under node (way_parts way.now) folder.now) (way_to folder.now) []
         source.old (seen W.World world.old) result source.new (seen W.World world.new) }
 {
+    // The proof takes from this call what each path keeps to.
     let _folder = folder.as_str();
     or_blame(alloc, folder, lay_folder(world, folder))?;
     match next_part(way) {

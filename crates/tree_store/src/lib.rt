@@ -1,4 +1,5 @@
-//! Trees in files: reading a folder as a tree, laying a tree over files, and a store that keeps trees under their digests.
+//! Trees in files: reading a folder as a tree, laying a tree over files, and a store that keeps trees under their
+//! digests.
 #![tactic(auto)]
 
 mod checking;
@@ -8,8 +9,11 @@ mod judging;
 mod kept_bytes;
 mod laying;
 mod laying_kept;
+mod naming;
+mod putting;
 mod reading;
 mod store;
+mod writing;
 
 pub use fault::StoreFault;
 pub use folders::{check_tree, lay_stored, put_folder};

@@ -3,11 +3,13 @@ ghost use Rattle.std.specs.Prelude.{◌≡◌, ◌≤◌, ◌+◌, ◌*◌, ◌-
 ghost use Rattle.cnb_world.specs.Calls.{AreNames};
 ghost use Rattle.cnb_world.specs.Listing.{names_in};
 ghost use Rattle.cnb_world.specs.Path.{is_part, joined};
-ghost use Rattle.cnb_world.specs.Tree.{item_at, kind_of};
+ghost use Rattle.cnb_world.specs.Tree.{Lists, item_at, kind_of, target_of};
 ghost use Rattle.cnb_world.specs.declared.world.Kind.TheVariants as kind;
 ghost use Rattle.tree_canon.specs.Fits.{entries_fit};
-ghost use Rattle.tree_canon.specs.Names.{is_name};
+ghost use Rattle.tree_canon.specs.Names.{is_name, is_target};
 ghost use Rattle.tree_canon.specs.Spelling.{limit, entries_bytes};
+ghost use Rattle.tree_canon.specs.declared.node.Node.TheVariants.{Link};
+ghost use Rattle.tree_store.specs.Writing.{sized_as};
 ghost use Rattle.steps.specs.Causes.{CountsFiles, IsAnswer};
 ghost use Rattle.steps.specs.Outside.{seen};
 ghost use Rattle.steps.specs.Reading.{ReadFrame};
@@ -24,10 +26,10 @@ use tree_canon::{Named, Node, Tree, is_target};
 const MAX_LENGTH: u64 = 1073741824;
 
 /// How many levels of nodes a tree may have.
-const MAX_LEVELS: u32 = 65;
+pub(crate) const MAX_LEVELS: u32 = 65;
 
 // So many bytes of a spelling, where it has room for them.
-fn room(size: u64, head: u64, len: u64) -> Result<u64, StoreFault>
+pub(crate) fn room(size: u64, head: u64, len: u64) -> Result<u64, StoreFault>
     requires { size + head ≤ 4294967296 }
     ensures { result ≡ room (size + (head + len)) }
 {
@@ -58,10 +60,15 @@ pub(crate) fn kind_at<W: World>(
 
 // The names in a folder.
 #[tactic(auto, using(crate::proofs::Blames::blamed_last))]
-fn listed<W: World>(alloc: Global, world: &mut W, path: &Path) -> Result<List<Text>, StoreFault>
+pub(crate) fn listed<W: World>(
+    alloc: Global,
+    world: &mut W,
+    path: &Path,
+) -> Result<List<Text>, StoreFault>
     requires kind { IfSome (W.tree world.old) (λ files. kind.Folder ≡ kind_of (item_at files path.now)) }
     ensures names { IfOk result AreNames }
     ensures told { IfSome (W.tree world.old) (λ files. IfOk result (λ names. names ≡ names_in files path.now)) }
+    ensures lists { IfSome (W.tree world.old) (λ files. IfOk result (Lists files path.now)) }
     ensures free { IfErr result (λ fault. IsTrue (is_free fault)) }
     ensures blames { IfErr result (BlamesAt path.now) }
     ensures frame { ReadFrame cause_of result (seen W.World world.old) (seen W.World world.new) }
@@ -105,14 +112,62 @@ fn read_file<W: World>(
     }
 }
 
-fn too_deep() -> StoreFault
+pub(crate) fn too_deep() -> StoreFault
     ensures { result ≡ StoreFault.Limit LimitKind.Depth }
 {
     StoreFault::Limit(LimitKind::Depth)
 }
 
-// A link as a node, where so many levels may stand.
+// How many bytes the spelling has with a link, where so many levels may stand.
 #[tactic(auto, using(crate::proofs::Fitting::link_fits))]
+pub(crate) fn link_size(
+    alloc: Global,
+    path: &Path,
+    target: &str,
+    levels: u32,
+    size: u64,
+) -> Result<u64, StoreFault>
+    requires levels { levels ≤ 65 }
+    requires size { size ≤ 1073742081 }
+    ensures reads { IsAnswer cause_of (sized_as (Link target.now) result) (link_of path.now levels size target.now) }
+    ensures fit { IfOk result (λ total. FitsFrom (65 - levels) size (Link target.now, total)) }
+    ensures few { IfOk result (λ total. total ≤ limit) }
+    ensures target { OnOk result (IsTrue (is_target target.now)) }
+    ensures blames { IfErr result (BlamesAt path.now) }
+    ensures counts { (n : ℕ) → CountsFiles cause_of result n n }
+{
+    if !is_target(target.as_bytes()) {
+        return Err(odd(alloc, path));
+    }
+    if levels == 0 {
+        return Err(too_deep());
+    }
+    let size = room(size, 3, target.len() as u64)?;
+    Ok(size)
+}
+
+// The target of the link at a path.
+#[tactic(auto, using(crate::proofs::Blames::blamed_last))]
+pub(crate) fn target_at<W: World>(
+    alloc: Global,
+    world: &mut W,
+    path: &Path,
+) -> Result<Text, StoreFault>
+    requires { IfSome (W.tree world.old) (λ files. kind.Link ≡ kind_of (item_at files path.now)) }
+    ensures told { IfSome (W.tree world.old) (λ files. IfOk result
+        (λ target. target ≡ target_of (item_at files path.now))) }
+    ensures free { IfErr result (λ fault. IsTrue (is_free fault)) }
+    ensures blames { IfErr result (BlamesAt path.now) }
+    ensures frame { ReadFrame cause_of result (seen W.World world.old) (seen W.World world.new) }
+    ensures misused { W.misused world.new ≡ W.misused world.old }
+{
+    match world.read_link(path) {
+        Ok(target) => Ok(target),
+        Err(fault) => Err(blamed(alloc, path, fault)),
+    }
+}
+
+// A link as a node, where so many levels may stand.
 fn link_node(
     alloc: Global,
     path: &Path,
@@ -128,13 +183,7 @@ fn link_node(
     ensures blames { IfErr result (BlamesAt path.now) }
     ensures counts { (n : ℕ) → CountsFiles cause_of result n n }
 {
-    if !is_target(target.as_str().as_bytes()) {
-        return Err(odd(alloc, path));
-    }
-    if levels == 0 {
-        return Err(too_deep());
-    }
-    let size = room(size, 3, target.as_str().len() as u64)?;
+    let size = link_size(alloc, path, target.as_str(), levels, size)?;
     Ok((Node::Link { target }, size))
 }
 
@@ -170,7 +219,7 @@ fn push_entry(entries: &mut Vec<Named>, name: Text, node: Node) -> Result<(), Me
 }
 
 // How many bytes stand before the node of an entry of this name.
-fn head_length(name: &Text) -> u64
+pub(crate) fn head_length(name: &Text) -> u64
     requires { IsTrue (is_part name.now) }
     ensures length { result ≡ 2 + length name.now }
     ensures name { is_name name.now ≡ true }
@@ -330,8 +379,8 @@ fn tree_at<W: World>(alloc: Global, world: &mut W, path: &Path) -> Result<Tree, 
     }
 }
 
-/// The tree of the folder at a path. `OddFile` is the first path, a folder before its names and names ascending, that is
-/// neither a folder nor a file nor a link whose target a tree can have, or the path itself where it is no folder;
+/// The tree of the folder at a path. `OddFile` is the first path, a folder before its names and names ascending, that
+/// is neither a folder nor a file nor a link whose target a tree can have, or the path itself where it is no folder;
 /// `Limit` is the first node that lies too deep, or with which the spelling is too long. Of these the first decides.
 #[tactic(auto, using(crate::proofs::CallSteps::tree_read))]
 pub fn read_tree<W: World>(alloc: Global, world: &mut W, path: &Path) -> Result<Tree, StoreFault>

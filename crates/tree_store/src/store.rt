@@ -1,10 +1,10 @@
 // The store of trees: each tree's bytes in a file that is named after their digest.
-ghost use Rattle.std.specs.Prelude.{◌≡◌, ◌≤◌, ◌+◌, ◌*◌, ◌-◌, ◌<◌, ◌↔◌, IfErr, IfOk, IfSome, IsTrue, Ok, OnOk, OnErr, length, take, drop, is_some, not, false, ℕ};
+ghost use Rattle.std.specs.Prelude.{◌≡◌, ◌≤◌, ◌+◌, ◌*◌, ◌-◌, ◌<◌, ◌↔◌, IfErr, IfOk, IfSome, IsTrue, Ok, OnOk, OnErr, length, take, drop, is_some, not, false, true, ℕ};
 ghost use Rattle.std.specs.Option.{option_map};
 ghost use Rattle.sha2.specs.Sha256.{sha256};
 ghost use Rattle.cnb_world.specs.Calls.{MayMisuse};
-ghost use Rattle.cnb_world.specs.Path.{is_path, beside};
-ghost use Rattle.cnb_world.specs.Tree.{item_at, is_file, is_file_or_absent, is_root, bytes_of};
+ghost use Rattle.cnb_world.specs.Path.{is_path, beside, parent_of};
+ghost use Rattle.cnb_world.specs.Tree.{item_at, is_file, is_file_or_absent, is_root, is_within, bytes_of};
 ghost use Rattle.cnb_world.specs.Whole.{can_write, written, LeavesPart};
 ghost use Rattle.tree_canon.specs.Spelling.{spelling_of};
 ghost use Rattle.steps.specs.Causes.{CountsFiles, IsAnswer};
@@ -12,6 +12,7 @@ ghost use Rattle.steps.specs.Outside.{seen};
 ghost use Rattle.steps.specs.Reading.{ReadFrame};
 ghost use Rattle.tree_store.specs.Answers.{BlamesAt, is_free, is_file_kind, is_absent_kind, cause_of};
 ghost use Rattle.tree_store.specs.Steps.{gets_tree, looks_for_tree, puts_tree};
+ghost use Rattle.tree_store.specs.Writing.{AreApart, new_path, trees_of};
 ghost use Rattle.tree_store.specs.Store.{tree_path, tree_put, kept_or_written, Gets, IsJudgedTree, Keeps, Puts, LeavesStore};
 
 use crate::fault::{StoreFault, blamed};
@@ -30,6 +31,9 @@ pub(crate) fn tree_file(alloc: Global, store: &Path, digest: &Digest) -> Result<
     ensures path { IfOk result (λ path. path ≡ tree_path store.now digest.now) }
     ensures beside { IfOk result (λ path. IsTrue (is_path (beside path))) }
     ensures not_root { IfOk result (λ path. is_root path ≡ false) }
+    ensures apart { IfOk result (AreApart (new_path store.now)) }
+    ensures parent { IfOk result (λ path. parent_of path ≡ trees_of store.now) }
+    ensures within { IfOk result (λ path. is_within (trees_of store.now) path ≡ true) }
 {
     let trees = store.below(alloc, "trees")?;
     let name = digest.text(alloc)?;
@@ -164,7 +168,11 @@ fn has_bytes<W: World>(
 
 // Whether nothing stands at a path.
 #[tactic(auto, using(crate::proofs::Puts::absent_told))]
-fn is_absent_at<W: World>(alloc: Global, world: &mut W, path: &Path) -> Result<bool, StoreFault>
+pub(crate) fn is_absent_at<W: World>(
+    alloc: Global,
+    world: &mut W,
+    path: &Path,
+) -> Result<bool, StoreFault>
     ensures told { IfSome (W.tree world.old) (λ files. IfOk result
         (λ absent. absent ≡ not (is_some (item_at files path.now)))) }
     ensures free { IfErr result (λ fault. IsTrue (is_free fault)) }
@@ -280,8 +288,8 @@ fn put_file<W: World>(
     Ok(digest)
 }
 
-/// Puts a tree into the store, as `<store>/trees/<64 digits>`. A tree that is there is left. `Clash` comes where the file
-/// of that name has other bytes.
+/// Puts a tree into the store, as `<store>/trees/<64 digits>`. A tree that is there is left. `Clash` comes where the
+/// file of that name has other bytes.
 #[tactic(auto, using(crate::proofs::CallSteps::put_so))]
 pub fn put<W: World>(
     alloc: Global,
@@ -358,8 +366,8 @@ fn get_file<W: World>(
     }
 }
 
-/// The tree that the store has under a digest. The digest of the file's bytes is judged first: `bad` is none where it is
-/// another, and else says why the bytes spell no tree.
+/// The tree that the store has under a digest. The digest of the file's bytes is judged first: `bad` is none where it
+/// is another, and else says why the bytes spell no tree.
 #[tactic(auto, using(crate::proofs::CallSteps::got_so))]
 pub fn get<W: World>(
     alloc: Global,

@@ -14,7 +14,7 @@ returns-then-not-same-clause-checks c bytes h =
 pub returns-in-Ok-clause-checks : goal.returns-in-Ok-clause-checks
 returns-in-Ok-clause-checks c bytes h =
     let is = c.from_bytes-found.ensures ∙ c.finalize.ensures bytes h.hashed in
-    ends_well c.args.self c.args.digest.now bytes _ h is c.if-not-same.ensures c.in-Ok.ensures
+    ends_well c.args.self c.args.digest.now bytes _ h is c.if-not-same.ensures c.in-Ok.ensures.ends
 
 pub returns-in-Err-Bad-clause-checks : goal.returns-in-Err-Bad-clause-checks
 returns-in-Err-Bad-clause-checks c bytes h =
@@ -23,4 +23,4 @@ returns-in-Err-Bad-clause-checks c bytes h =
     let bad : c.in-Err-Bad.field-0 ≡ faults.Bad c.in-Err-Bad.field-0-0 c.in-Err-Bad.reason = cc in
     subst (ChecksOf c.args.digest.now bytes) (sym (ap Err c.damaged-in-Err-Bad.ensures))
     (ends_badly c.args.self c.args.digest.now bytes _ c.in-Err-Bad.field-0-0 c.in-Err-Bad.reason h is c.if-not-same.ensures
-    (λ fed scans. subst (λ (f : DecodeFault). ScanEnds fed (Err f)) bad (c.in-Err-Bad.ensures fed scans)))
+    (λ fed scans. subst (λ (f : DecodeFault). ScanEnds fed (Err f)) bad (c.in-Err-Bad.ensures.ends fed scans)))
