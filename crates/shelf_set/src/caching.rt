@@ -27,9 +27,9 @@ fn spell(alloc: Global, rows: &[LayerRow], trees: &[Tree]) -> Result<Vec<TreeByt
     Ok(all)
 }
 
-/// Puts the trees of the layers that a cache keeps on each shelf that stands, in order, and then their rows. `trees` has
-/// the trees of the layers, in their order. Answers the numbers of the shelves that were dropped. Where memory runs out,
-/// some shelves may have been changed.
+/// Puts the trees of the layers that a cache keeps on each shelf that stands, in order, and then their rows. `trees`
+/// has the trees of the layers, in their order. Answers the numbers of the shelves that were dropped. Where memory runs
+/// out, some shelves may have been changed.
 pub fn store_all(
     alloc: Global,
     shelves: &mut Shelves,

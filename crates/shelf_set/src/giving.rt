@@ -8,7 +8,7 @@ ghost use Rattle.shelf_set.specs.Giving.{Gives, GivesEach, GivesMore, KeepsRow, 
 
 use crate::turns::{Shelves, has_failed, settle};
 use cnb_toml::DocFault;
-use cnb_world::{List, Memory, Shelf, ShelfFault};
+use cnb_world::{LONGEST_DOCUMENT, List, Memory, Shelf, ShelfFault};
 use image_docs::{LayerRow, read_cache};
 use std::alloc::Global;
 
@@ -18,8 +18,6 @@ pub(crate) struct Given {
     pub number: u32,
     pub rows: Option<List<LayerRow>>,
 }
-
-const LONGEST_DOCUMENT: usize = 1_048_576;
 
 fn document_rows(alloc: Global, document: &[u8]) -> Result<Option<List<LayerRow>>, Memory>
     ensures { IfOk result (λ rows. rows ≡ document_rows document.now) }
