@@ -14,7 +14,8 @@ use std::alloc::Global;
 use std::collections::BTreeSet;
 
 fn add_names<'a>(names: &mut Vec<&'a str>, row: &KeptRow<'a>) -> Result<(), Memory>
-    ensures { OnOk result (map (λ name. name.now) names.new.items ≡ map (λ name. name.now) names.old.items ++ names_of row.now) }
+    ensures { OnOk result (map (λ name. name.now) names.new.items
+        ≡ map (λ name. name.now) names.old.items ++ names_of row.now) }
 {
     for name in row.provides() {
         names.push(name.as_str())?;
@@ -38,7 +39,8 @@ fn all_names<'a>(alloc: Global, kept: &[KeptRow<'a>]) -> Result<Vec<&'a str>, Me
 
 /// Names in ascending order, each once.
 pub fn ascending<'a>(alloc: Global, mut names: Vec<&'a str>) -> Result<Vec<&'a str>, Memory>
-    ensures { IfOk result (λ sorted. map (λ name. name.now) sorted.items ≡ ascending (map (λ name. name.now) names.entry.items)) }
+    ensures { IfOk result (λ sorted. map (λ name. name.now) sorted.items
+        ≡ ascending (map (λ name. name.now) names.entry.items)) }
 {
     let mut set = BTreeSet::new(alloc);
     while let Some(name) = names.pop() {
@@ -78,7 +80,8 @@ fn add_needs(
 
 /// All that is required of a name.
 fn requirements(alloc: Global, kept: &[KeptRow], name: &str) -> Result<List<Need>, Memory>
-    ensures { IfOk result (λ needs. needs ≡ flat_map (λ k. filter (λ need. bytes_eq need.name name.now) k.row.needs) kept.now) }
+    ensures { IfOk result (λ needs. needs
+        ≡ flat_map (λ k. filter (λ need. bytes_eq need.name name.now) k.row.needs) kept.now) }
 {
     let mut needs = List::new(alloc);
     for row in kept {

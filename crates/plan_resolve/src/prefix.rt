@@ -8,8 +8,8 @@ use crate::pruning::are_provided;
 use cnb_world::Memory;
 use std::alloc::Global;
 
-/// The rows of a trial that are chosen so far, and the places of those whose requirements are provided, each at or before
-/// its place and by a row of these places.
+/// The rows of a trial that are chosen so far, and the places of those whose requirements are provided, each at or
+/// before its place and by a row of these places.
 #[derive(Drop)]
 pub struct Prefix<'a> {
     rows: Vec<BorrowedRow<'a>>,

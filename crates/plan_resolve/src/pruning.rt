@@ -112,7 +112,8 @@ fn sweep(trial: &[BorrowedRow], set: &mut Vec<u32>) -> bool
     ensures way { OnTrue result (IsOnTheWay trial.now set.new.items) }
     ensures fails { OnFalse result (kept_of trial.now ≡ None) }
     ensures fewer { length set.new.items ≤ length set.old.items }
-    ensures closed { OnTrue result (length set.new.items ≡ length set.old.items → IsTrue (is_closed trial.now set.new.items)) }
+    ensures closed { OnTrue result (length set.new.items ≡ length set.old.items
+        → IsTrue (is_closed trial.now set.new.items)) }
 {
     let all = set.len();
     let mut index = all;

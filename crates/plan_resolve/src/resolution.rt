@@ -56,8 +56,8 @@ fn resolved<'a>(
     })
 }
 
-/// The first of all trials that passes. Those that begin with a dead prefix are passed over. Where a trial fails at once,
-/// the buildpack that it fails by is most likely the one that the next trial fails by.
+/// The first of all trials that passes. Those that begin with a dead prefix are passed over. Where a trial fails at
+/// once, the buildpack that it fails by is most likely the one that the next trial fails by.
 fn first_passing(alloc: Global, rows: &[AliveRow], trials: u32) -> Result<Option<Resolved>, Memory>
     requires len { length rows.now < 2 ^ 32 }
     requires count { trials ≡ choice_count rows.now }
