@@ -9,12 +9,12 @@ use Rattle.bp_docs.specs.declared.descriptor.Body.{Body}
 use Rattle.bp_docs.specs.declared.descriptor.Body.TheVariants.{Component, Composite, Foreign}
 use Rattle.bp_docs.specs.declared.descriptor.Descriptor.{Descriptor}
 use Rattle.order_expand.specs.declared.member.Member.{Member}
-use Rattle.order_expand.specs.declared.begun.Chosen.{Chosen}
+use Rattle.order_expand.specs.declared.begun.MemberComponent.{MemberComponent}
 use Rattle.order_expand.specs.declared.begun.Place.{Place}
 use Rattle.order_expand.specs.declared.begun.Place.TheVariants.{Entries, Groups, Nowhere}
 use Rattle.order_expand.specs.declared.begun.Begun.{Begun}
 use Rattle.order_expand.specs.Begun.{joined, IsEnd, groups_in, groups_later, groups_with, groups_of, groups_of_waiting}
-use Rattle.order_expand.specs.Chosen.{member_of, clears_env}
+use Rattle.order_expand.specs.MemberComponent.{member_of, clears_env}
 use Rattle.order_expand.specs.Groups.{in_front, in_front_of, raw_groups, expanded}
 use Rattle.order_expand.specs.Steps.{body_steps, named_steps, entries_steps, order_steps, place_steps, later_steps, steps_of, steps_of_waiting}
 use Rattle.order_expand.proofs.Joined.{map_same, fold-snoc, joined-append, joined-one, joined-last, joined-assoc, one_member_more}
@@ -31,13 +31,13 @@ pub later_steps-snoc : (catalog : List Descriptor) (later : List Place) (place :
 later_steps-snoc catalog later place = fold-snoc (λ behind place. place_steps catalog place behind) 0 later place
 
 -- behind the last entry of a place comes the next place
-pub back_to_later : (catalog : List Descriptor) (members : List Chosen) (later : List Place) (place : Place) →
+pub back_to_later : (catalog : List Descriptor) (members : List MemberComponent) (later : List Place) (place : Place) →
     groups_with catalog members (groups_in catalog place) later ≡ groups_with catalog members ([] ∷ []) (later ++ place ∷ [])
 back_to_later catalog members later place =
     ap (map (λ group. map member_of members ++ group))
     (sym (joined-one (groups_later catalog (later ++ place ∷ [])) ∙ groups_later-snoc catalog later place))
 
-pub nothing_later : (catalog : List Descriptor) (members : List Chosen) → groups_with catalog members ([] ∷ []) [] ≡ map member_of members ∷ []
+pub nothing_later : (catalog : List Descriptor) (members : List MemberComponent) → groups_with catalog members ([] ∷ []) [] ≡ map member_of members ∷ []
 nothing_later catalog members = ap (λ group. group ∷ []) (append-nil (map member_of members))
 
 pub at_end : (place : Place) (levels : ℕ) (entries : Bor (List Entry)) → place ≡ Entries levels entries → entries.now ≡ [] → IsEnd place
@@ -55,7 +55,7 @@ steps_at_end catalog Nowhere behind e = absurd e
 
 -- ---- one entry
 
-pub component_chosen : (catalog : List Descriptor) (members : List Chosen) (chosen : Chosen) (groups : List (List Member)) (later : List Place) →
+pub component_chosen : (catalog : List Descriptor) (members : List MemberComponent) (chosen : MemberComponent) (groups : List (List Member)) (later : List Place) →
     groups_with catalog (members ++ chosen ∷ []) groups later ≡ groups_with catalog members (map (λ group. member_of chosen ∷ group) groups) later
 component_chosen catalog members chosen groups later =
     ap (λ (front : List Member). map (λ group. front ++ group) (joined groups (groups_later catalog later))) (map-append member_of members (chosen ∷ []))
@@ -65,7 +65,7 @@ one_or_none : (optional : Bool) (groups : List (List Member)) → joined (cond o
 one_or_none true groups = joined-one groups
 one_or_none false groups = refl
 
-pub composite_opened : (catalog : List Descriptor) (members : List Chosen) (own : List (List Member)) (optional : Bool) (later : List Place) (place : Place) →
+pub composite_opened : (catalog : List Descriptor) (members : List MemberComponent) (own : List (List Member)) (optional : Bool) (later : List Place) (place : Place) →
     groups_with catalog members (own ++ cond optional ([] ∷ []) []) (later ++ place ∷ [])
     ≡ groups_with catalog members (joined own (groups_in catalog place) ++ cond optional (groups_in catalog place) []) later
 composite_opened catalog members own optional later place =
@@ -78,13 +78,13 @@ composite_opened catalog members own optional later place =
 
 -- ---- one group of several
 
-pub groups_with-append : (catalog : List Descriptor) (members : List Chosen) (some others : List (List Member)) (later : List Place) →
+pub groups_with-append : (catalog : List Descriptor) (members : List MemberComponent) (some others : List (List Member)) (later : List Place) →
     groups_with catalog members (some ++ others) later ≡ groups_with catalog members some later ++ groups_with catalog members others later
 groups_with-append catalog members some others later =
     ap (map (λ group. map member_of members ++ group)) (joined-append some others (groups_later catalog later))
     ∙ map-append (λ group. map member_of members ++ group) (joined some (groups_later catalog later)) (joined others (groups_later catalog later))
 
-pub group_chosen : (catalog : List Descriptor) (members : List Chosen) (first others none : List (List Member)) (later : List Place) (waiting : List (List Member)) →
+pub group_chosen : (catalog : List Descriptor) (members : List MemberComponent) (first others none : List (List Member)) (later : List Place) (waiting : List (List Member)) →
     groups_with catalog members first later ++ (groups_with catalog members (others ++ none) later ++ waiting)
     ≡ groups_with catalog members ((first ++ others) ++ none) later ++ waiting
 group_chosen catalog members first others none later waiting =
@@ -103,7 +103,7 @@ steps_of_waiting-snoc catalog waiting begun = fold-snoc (λ others begun. others
 
 -- ---- what an entry names
 
-pub component_met : (groups_of : List (List Entry) → List (List Member)) (entry : Entry) (found : Option Descriptor) (chosen : Chosen) (clear_env : Bool) (behind : List (List Member)) →
+pub component_met : (groups_of : List (List Entry) → List (List Member)) (entry : Entry) (found : Option Descriptor) (chosen : MemberComponent) (clear_env : Bool) (behind : List (List Member)) →
     Some chosen.descriptor.now ≡ found → chosen.descriptor.now.body ≡ Component clear_env → chosen.optional ≡ entry.optional →
     map (λ group. member_of chosen ∷ group) behind ≡ in_front_of groups_of entry found behind
 component_met groups_of entry found chosen clear_env behind n b o =
@@ -131,7 +131,7 @@ steps_met order_steps found descriptor body behind n b =
 
 -- ---- the beginning
 
-pub first_groups : (catalog : List Descriptor) (order : List (List Entry)) (members : List Chosen) (later : List Place) (waiting : List Begun) →
+pub first_groups : (catalog : List Descriptor) (order : List (List Entry)) (members : List MemberComponent) (later : List Place) (waiting : List Begun) →
     members ≡ [] → later ≡ [] → waiting ≡ [] →
     groups_with catalog members (flat_map (expanded (raw_groups 16 catalog) catalog) order ++ []) later ++ groups_of_waiting catalog waiting ≡ raw_groups 17 catalog order
 first_groups catalog order members later waiting a b w =

@@ -6,9 +6,9 @@ use Rattle.std.proofs.lemmas.List.{map-append}
 use Rattle.std.proofs.lemmas.List.Elements.{filter-append}
 use Rattle.std.proofs.lemmas.Map.Views.{any-filter_same}
 use Rattle.std.proofs.lemmas.Slice.Eq.{bytes_eq-Decides}
-use Rattle.order_expand.specs.declared.begun.Chosen.{Chosen}
+use Rattle.order_expand.specs.declared.begun.MemberComponent.{MemberComponent}
 use Rattle.order_expand.specs.declared.member.Member.{Member}
-use Rattle.order_expand.specs.Chosen.{member_of}
+use Rattle.order_expand.specs.MemberComponent.{member_of}
 use Rattle.order_expand.specs.Groups.{distinct, same_id}
 use Rattle.order_expand.proofs.Walks.{take_next}
 
@@ -43,7 +43,7 @@ same_id-trans a b c p q =
     (bytes_eq-Decides a.key.id c.key.id).1 ((bytes_eq-Decides a.key.id b.key.id).0 p ∙ (bytes_eq-Decides b.key.id c.key.id).0 q)
 
 -- where the members up to a place are done, a member that has no other's id is put at the end, and another is left out
-pub done_push : (group : List Chosen) (i : ℕ) (d : Chosen) (done : List Member) → i < length group → d ≡ get_or group i d → done ≡ distinct same_id (map member_of (take i group)) →
+pub done_push : (group : List MemberComponent) (i : ℕ) (d : MemberComponent) (done : List Member) → i < length group → d ≡ get_or group i d → done ≡ distinct same_id (map member_of (take i group)) →
     cond (list_any (λ m. same_id m (member_of d)) done) done (done ++ member_of d ∷ []) ≡ distinct same_id (map member_of (take (i + 1) group))
 done_push group i d done h e so_far =
     ap (λ ms. cond (list_any (λ m. same_id m (member_of d)) ms) ms (ms ++ member_of d ∷ [])) so_far

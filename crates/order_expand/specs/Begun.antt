@@ -3,13 +3,13 @@ use Rattle.std.specs.Prelude.{◌≡◌, ℕ, ◌<◌, List, [], ◌∷◌, ◌+
 use Rattle.std.specs.List.{flat_map, fold}
 use Rattle.bp_docs.specs.declared.descriptor.Descriptor.{Descriptor}
 use Rattle.order_expand.specs.declared.member.Member.{Member}
-use Rattle.order_expand.specs.declared.begun.Chosen.{Chosen}
+use Rattle.order_expand.specs.declared.begun.MemberComponent.{MemberComponent}
 use Rattle.order_expand.specs.declared.begun.Place.{Place}
 use Rattle.order_expand.specs.declared.begun.Place.TheVariants.{Entries, Groups, Nowhere}
 use Rattle.order_expand.specs.declared.begun.Begun.{Begun}
 use Rattle.order_expand.specs.declared.begun.Reached.{Reached}
 use Rattle.order_expand.specs.declared.begun.Reached.TheVariants.{On, Complete, End}
-use Rattle.order_expand.specs.Chosen.{member_of}
+use Rattle.order_expand.specs.MemberComponent.{member_of}
 use Rattle.order_expand.specs.Groups.{raw_groups, expanded}
 use Rattle.order_expand.specs.Steps.{steps_left}
 
@@ -34,7 +34,7 @@ abbrev pub groups_later : List Descriptor → List Place → List (List Member)
 groups_later catalog places = fold (λ behind place. joined (groups_in catalog place) behind) ([] ∷ []) places
 
 -- members, and behind them some groups and those of the places that come later
-abbrev pub groups_with : List Descriptor → List Chosen → List (List Member) → List Place → List (List Member)
+abbrev pub groups_with : List Descriptor → List MemberComponent → List (List Member) → List Place → List (List Member)
 groups_with catalog members groups later = map (λ group. map member_of members ++ group) (joined groups (groups_later catalog later))
 
 -- the groups that one that is begun comes to

@@ -5,7 +5,7 @@ pub mod Examples
 pub mod Fingerprints
 pub mod Groups
 pub mod Places
-pub mod Chosen
+pub mod MemberComponent
 pub mod Begun
 pub mod Steps
 pub mod Sizes

@@ -5,7 +5,7 @@ ghost use Rattle.bp_docs.specs.declared.descriptor.Descriptor.{Descriptor};
 ghost use Rattle.order_expand.specs.declared.begun.Begun.{Begun};
 ghost use Rattle.order_expand.specs.declared.begun.Place.TheVariants.{Entries, Nowhere};
 ghost use Rattle.order_expand.specs.Begun.{joined, groups_in, groups_of, groups_of_waiting, groups_with, groups_left, IsEnd, IsComplete, Reaches};
-ghost use Rattle.order_expand.specs.Chosen.{member_of};
+ghost use Rattle.order_expand.specs.MemberComponent.{member_of};
 ghost use Rattle.order_expand.specs.Groups.{raw_groups, expanded};
 ghost use Rattle.order_expand.specs.Steps.{entries_steps, groups_steps, order_steps, place_steps, later_steps, steps_of, steps_of_waiting, steps_left};
 
@@ -16,7 +16,7 @@ use std::alloc::Global;
 
 /// A component that stands in a group.
 #[derive(Clone, Copy)]
-pub(crate) struct Chosen<'a> {
+pub(crate) struct MemberComponent<'a> {
     pub(crate) descriptor: &'a Descriptor,
     pub(crate) optional: bool,
 }
@@ -41,7 +41,7 @@ pub(crate) enum Place<'a> {
 /// A group that is begun: its members so far, where it goes on, and where later, of which the last comes first.
 #[derive(Drop)]
 pub(crate) struct Begun<'a> {
-    pub(crate) members: Vec<Chosen<'a>>,
+    pub(crate) members: Vec<MemberComponent<'a>>,
     pub(crate) next: Place<'a>,
     pub(crate) later: Vec<Place<'a>>,
 }
@@ -72,7 +72,7 @@ fn place_of_order<'a>(levels: u32, order: &'a Order, optional: bool) -> Place<'a
 /// Adds a member, and goes on at the entries behind it.
 fn add_member<'a>(
     begun: &mut Begun<'a>,
-    chosen: Chosen<'a>,
+    chosen: MemberComponent<'a>,
     levels: u32,
     behind: &'a [Entry],
 ) -> Result<(), Memory>
@@ -142,7 +142,7 @@ fn meet_entry<'a>(
         Some(found) => match &found.descriptor.body {
             Body::Component { .. } => {
                 let descriptor = found.descriptor;
-                let chosen = Chosen {
+                let chosen = MemberComponent {
                     descriptor,
                     optional,
                 };

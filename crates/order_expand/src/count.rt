@@ -17,7 +17,10 @@ use std::alloc::Global;
 /// The size of the groups behind a composite with each of its own groups in front, and where it is optional, with none
 /// of them last.
 fn with_composite(fronts: Size, optional: bool, behind: Size) -> Size
-    ensures { (front_groups : List (List Member)) → (groups : List (List Member)) → fronts ≡ size_of front_groups → behind ≡ size_of groups → result ≡ size_of (flat_map (λ front. map (λ group. front ++ group) groups) front_groups ++ (if optional then groups else [])) }
+    ensures { (front_groups : List (List Member)) → (groups : List (List Member)) → fronts ≡ size_of front_groups
+        → behind ≡ size_of groups → result
+        ≡ size_of (flat_map (λ front. map (λ group. front ++ group) groups) front_groups
+        ++ (if optional then groups else [])) }
 {
     let joined = fronts.times(behind);
     if optional {
@@ -30,7 +33,9 @@ fn with_composite(fronts: Size, optional: bool, behind: Size) -> Size
 /// The size of the groups of an entry and of those behind it.
 fn in_front(catalog: &Catalog, below: &[Size], entry: &Entry, behind: Size) -> Size
     requires { length below.now ≡ length catalog.now }
-    ensures { (levels : ℕ) → (groups : List (List Member)) → below.now ≡ sizes_at levels catalog.now → behind ≡ size_of groups → result ≡ size_of (in_front_of (raw_groups levels catalog.now) entry.now (named catalog.now entry.now) groups) }
+    ensures { (levels : ℕ) → (groups : List (List Member)) → below.now ≡ sizes_at levels catalog.now
+        → behind ≡ size_of groups → result
+        ≡ size_of (in_front_of (raw_groups levels catalog.now) entry.now (named catalog.now entry.now) groups) }
 {
     match catalog.named(entry) {
         None => of_none(),
@@ -48,7 +53,8 @@ fn in_front(catalog: &Catalog, below: &[Size], entry: &Entry, behind: Size) -> S
 /// The size of the groups that one group of an order stands for.
 fn of_group(catalog: &Catalog, below: &[Size], entries: &[Entry]) -> Size
     requires { length below.now ≡ length catalog.now }
-    ensures { (levels : ℕ) → below.now ≡ sizes_at levels catalog.now → result ≡ size_of (expanded (raw_groups levels catalog.now) catalog.now entries.now) }
+    ensures { (levels : ℕ) → below.now ≡ sizes_at levels catalog.now
+        → result ≡ size_of (expanded (raw_groups levels catalog.now) catalog.now entries.now) }
 {
     let mut size = of_one();
     let mut place = entries.len();
@@ -63,7 +69,8 @@ fn of_group(catalog: &Catalog, below: &[Size], entries: &[Entry]) -> Size
 #[tactic(auto, using(crate::proofs::Levels::raw_groups_suc))]
 pub(crate) fn of_order(catalog: &Catalog, below: &[Size], order: &[List<Entry>]) -> Size
     requires { length below.now ≡ length catalog.now }
-    ensures { (levels : ℕ) → below.now ≡ sizes_at levels catalog.now → result ≡ size_of (raw_groups (suc levels) catalog.now order.now) }
+    ensures { (levels : ℕ) → below.now ≡ sizes_at levels catalog.now
+        → result ≡ size_of (raw_groups (suc levels) catalog.now order.now) }
 {
     let mut size = of_none();
     for group in order {
@@ -76,7 +83,8 @@ pub(crate) fn of_order(catalog: &Catalog, below: &[Size], order: &[List<Entry>])
 #[tactic(auto, using(crate::proofs::Levels::raw_groups_of_none))]
 fn of_body(catalog: &Catalog, below: &[Size], body: &Body) -> Size
     requires { length below.now ≡ length catalog.now }
-    ensures { (levels : ℕ) → below.now ≡ sizes_at levels catalog.now → result ≡ size_of (raw_groups (suc levels) catalog.now (order_of_body body.now)) }
+    ensures { (levels : ℕ) → below.now ≡ sizes_at levels catalog.now
+        → result ≡ size_of (raw_groups (suc levels) catalog.now (order_of_body body.now)) }
 {
     match body {
         Body::Composite(order) => of_order(catalog, below, order.as_slice()),
@@ -88,7 +96,8 @@ fn of_body(catalog: &Catalog, below: &[Size], body: &Body) -> Size
 /// The sizes down to one level more.
 fn level_above(alloc: Global, catalog: &Catalog, below: &[Size]) -> Result<Vec<Size>, Memory>
     requires { length below.now ≡ length catalog.now }
-    ensures above { IfOk result (λ above. (levels : ℕ) → below.now ≡ sizes_at levels catalog.now → above.items ≡ sizes_at (suc levels) catalog.now) }
+    ensures above { IfOk result (λ above. (levels : ℕ) → below.now ≡ sizes_at levels catalog.now
+        → above.items ≡ sizes_at (suc levels) catalog.now) }
     ensures length { IfOk result (λ above. length above.items ≡ length catalog.now) }
 {
     let mut above = Vec::new(alloc);

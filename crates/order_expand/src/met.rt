@@ -40,7 +40,8 @@ fn add_order<'a>(waiting: &mut Vec<&'a Entry>, order: &'a [List<Entry>]) -> Resu
 
 /// Puts the entries of a descriptor's own order in front of those that wait.
 fn add_body<'a>(waiting: &mut Vec<&'a Entry>, body: &'a Body) -> Result<(), Memory>
-    ensures { OnOk result (waiting_in waiting.new.items ≡ entries_of (order_of_body body.now) ++ waiting_in waiting.old.items) }
+    ensures { OnOk result (waiting_in waiting.new.items
+        ≡ entries_of (order_of_body body.now) ++ waiting_in waiting.old.items) }
 {
     match body {
         Body::Composite(order) => add_order(waiting, order.as_slice()),
@@ -58,9 +59,13 @@ fn meet<'a>(
 ) -> Result<(), Memory>
     requires { length marks.old.items ≡ length catalog.now }
     ensures length { length marks.new.items ≡ length catalog.now }
-    ensures marks { OnOk result ((met : List Key) → marks.old.items ≡ marks_of met catalog.now → marks.new.items ≡ marks_of (with_met met (named catalog.now entry.now)) catalog.now) }
-    ensures waiting { OnOk result ((met : List Key) → marks.old.items ≡ marks_of met catalog.now → waiting_in waiting.new.items ≡ entries_behind met (named catalog.now entry.now) ++ waiting_in waiting.old.items) }
-    ensures left { OnOk result (length waiting.new.items + unmet_count marks.new.items catalog.now ≡ length waiting.old.items + unmet_count marks.old.items catalog.now) }
+    ensures marks { OnOk result ((met : List Key) → marks.old.items ≡ marks_of met catalog.now
+        → marks.new.items ≡ marks_of (with_met met (named catalog.now entry.now)) catalog.now) }
+    ensures waiting { OnOk result ((met : List Key) → marks.old.items ≡ marks_of met catalog.now
+        → waiting_in waiting.new.items
+        ≡ entries_behind met (named catalog.now entry.now) ++ waiting_in waiting.old.items) }
+    ensures left { OnOk result (length waiting.new.items + unmet_count marks.new.items catalog.now
+        ≡ length waiting.old.items + unmet_count marks.old.items catalog.now) }
 {
     let Some(found) = catalog.named(entry) else {
         return Ok(());

@@ -14,7 +14,8 @@ use std::alloc::Global;
 /// Whether an entry's composites nest deeper.
 fn is_deeper(catalog: &Catalog, nests: &[bool], entry: &Entry) -> bool
     requires { length nests.now ≡ length catalog.now }
-    ensures { (levels : ℕ) → nests.now ≡ nests_at levels catalog.now → result ≡ nests_deeper levels catalog.now entry.now }
+    ensures { (levels : ℕ) → nests.now ≡ nests_at levels catalog.now
+        → result ≡ nests_deeper levels catalog.now entry.now }
 {
     match catalog.named(entry) {
         Some(found) => at(nests, found.place),
@@ -25,7 +26,8 @@ fn is_deeper(catalog: &Catalog, nests: &[bool], entry: &Entry) -> bool
 /// The first entry of a group whose composites nest deeper.
 fn deeper_in_group<'a>(catalog: &Catalog, nests: &[bool], entries: &'a [Entry]) -> Option<&'a Entry>
     requires { length nests.now ≡ length catalog.now }
-    ensures { (levels : ℕ) → nests.now ≡ nests_at levels catalog.now → option_copied result ≡ find (nests_deeper levels catalog.now) entries.now }
+    ensures { (levels : ℕ) → nests.now ≡ nests_at levels catalog.now
+        → option_copied result ≡ find (nests_deeper levels catalog.now) entries.now }
 {
     for entry in entries {
         if is_deeper(catalog, nests, entry) {
@@ -42,7 +44,8 @@ pub(crate) fn deeper_in_order<'a>(
     order: &'a [List<Entry>],
 ) -> Option<&'a Entry>
     requires { length nests.now ≡ length catalog.now }
-    ensures { (levels : ℕ) → nests.now ≡ nests_at levels catalog.now → option_copied result ≡ find (nests_deeper levels catalog.now) (entries_of order.now) }
+    ensures { (levels : ℕ) → nests.now ≡ nests_at levels catalog.now
+        → option_copied result ≡ find (nests_deeper levels catalog.now) (entries_of order.now) }
 {
     for group in order {
         if let Some(entry) = deeper_in_group(catalog, nests, group.as_slice()) {
@@ -55,7 +58,8 @@ pub(crate) fn deeper_in_order<'a>(
 /// Whether a composite nests deeper by one level more.
 fn nests_above(catalog: &Catalog, nests: &[bool], body: &Body) -> bool
     requires { length nests.now ≡ length catalog.now }
-    ensures { (levels : ℕ) → nests.now ≡ nests_at levels catalog.now → result ≡ order_nests (suc levels) catalog.now (order_of_body body.now) }
+    ensures { (levels : ℕ) → nests.now ≡ nests_at levels catalog.now
+        → result ≡ order_nests (suc levels) catalog.now (order_of_body body.now) }
 {
     match body {
         Body::Composite(order) => deeper_in_order(catalog, nests, order.as_slice()).is_some(),
@@ -88,7 +92,8 @@ fn level_zero(alloc: Global, catalog: &Catalog) -> Result<Vec<bool>, Memory>
 /// Which descriptors nest deeper by one level more.
 fn level_above(alloc: Global, catalog: &Catalog, nests: &[bool]) -> Result<Vec<bool>, Memory>
     requires { length nests.now ≡ length catalog.now }
-    ensures { IfOk result (λ above. (levels : ℕ) → nests.now ≡ nests_at levels catalog.now → above.items ≡ nests_at (suc levels) catalog.now) }
+    ensures { IfOk result (λ above. (levels : ℕ) → nests.now ≡ nests_at levels catalog.now
+        → above.items ≡ nests_at (suc levels) catalog.now) }
 {
     let mut above = Vec::new(alloc);
     for descriptor in catalog.descriptors() {

@@ -87,8 +87,8 @@ fn deep_or_count(alloc: Global, order: &Order, catalog: &Catalog) -> Result<u32,
     }
 }
 
-/// The number of listed groups. No group is listed for it: time and memory go by the sizes of the order and the catalog,
-/// however many groups there are.
+/// The number of listed groups. No group is listed for it: time and memory go by the sizes of the order and the
+/// catalog, however many groups there are.
 pub fn check(alloc: Global, order: &Order, catalog: &Catalog) -> Result<u32, OrderFault>
     ensures answer { IsAnswer cause_of result (checked catalog.now order.now) }
     ensures number { IfOk result (λ number. number ≡ length (listed_groups catalog.now order.now)) }

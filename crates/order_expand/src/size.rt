@@ -42,7 +42,8 @@ pub(crate) fn of_one() -> Size
 impl Size {
     /// The size of the groups with a member in front of each.
     pub(crate) fn with_member(self) -> Size
-        ensures { (groups : List (List Member)) → (member : Member) → self ≡ size_of groups → result ≡ size_of (map (λ group. member ∷ group) groups) }
+        ensures { (groups : List (List Member)) → (member : Member) → self ≡ size_of groups
+            → result ≡ size_of (map (λ group. member ∷ group) groups) }
     {
         if self.groups == 0 {
             return self;
@@ -55,7 +56,8 @@ impl Size {
 
     /// The size of both lists of groups.
     pub(crate) fn plus(self, other: Size) -> Size
-        ensures { (groups : List (List Member)) → (others : List (List Member)) → self ≡ size_of groups → other ≡ size_of others → result ≡ size_of (groups ++ others) }
+        ensures { (groups : List (List Member)) → (others : List (List Member)) → self ≡ size_of groups
+            → other ≡ size_of others → result ≡ size_of (groups ++ others) }
     {
         Size {
             groups: MANY.min(self.groups.saturating_add(other.groups)),
@@ -65,7 +67,9 @@ impl Size {
 
     /// The size of each group joined with each of those behind it.
     pub(crate) fn times(self, behind: Size) -> Size
-        ensures { (fronts : List (List Member)) → (groups : List (List Member)) → self ≡ size_of fronts → behind ≡ size_of groups → result ≡ size_of (flat_map (λ front. map (λ group. front ++ group) groups) fronts) }
+        ensures { (fronts : List (List Member)) → (groups : List (List Member)) → self ≡ size_of fronts
+            → behind ≡ size_of groups → result
+            ≡ size_of (flat_map (λ front. map (λ group. front ++ group) groups) fronts) }
     {
         if self.groups == 0 || behind.groups == 0 {
             return of_none();

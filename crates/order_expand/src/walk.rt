@@ -2,11 +2,11 @@
 ghost use Rattle.std.specs.Prelude.{◌≡◌, ◌++◌, ◌∷◌, [], if◌then◌else◌, IfOk, OnOk, OnErr, IsOk, MatchOption, map};
 ghost use Rattle.std.specs.List.{list_any};
 ghost use Rattle.order_expand.specs.Check.{checked};
-ghost use Rattle.order_expand.specs.Chosen.{member_of};
+ghost use Rattle.order_expand.specs.MemberComponent.{member_of};
 ghost use Rattle.order_expand.specs.Fingerprints.{member_fingerprint};
 ghost use Rattle.order_expand.specs.Groups.{distinct, same_id, listed_groups};
 
-use crate::begun::{Begun, Chosen, Place, complete_next};
+use crate::begun::{Begun, MemberComponent, Place, complete_next};
 use crate::catalog::Catalog;
 use crate::fingerprints::fingerprint_of;
 use crate::member::{Group, Member};
@@ -40,7 +40,7 @@ impl<'a> Model for Walk<'a> {
     ghost view = { λ walk. map (distinct same_id) (groups_left walk.catalog.now walk.current walk.waiting.items) };
 }
 
-fn member(alloc: Global, chosen: &Chosen) -> Result<Member, Memory>
+fn member(alloc: Global, chosen: &MemberComponent) -> Result<Member, Memory>
     ensures { IfOk result (λ member. member ≡ member_of chosen.now) }
 {
     let key = chosen.descriptor.key.copy(alloc)?;
@@ -57,7 +57,7 @@ fn member(alloc: Global, chosen: &Chosen) -> Result<Member, Memory>
 }
 
 /// Whether a member has a component's id: their fingerprints tell most ids apart.
-fn is_of_id(member: &Member, print: u32, chosen: &Chosen, wanted: u32) -> bool
+fn is_of_id(member: &Member, print: u32, chosen: &MemberComponent, wanted: u32) -> bool
     requires print { print ≡ member_fingerprint member.now }
     requires wanted { wanted ≡ member_fingerprint (member_of chosen.now) }
     ensures { result ≡ same_id member.now (member_of chosen.now) }
@@ -69,7 +69,7 @@ fn is_of_id(member: &Member, print: u32, chosen: &Chosen, wanted: u32) -> bool
 }
 
 /// Whether some member has a component's id.
-fn has_id(members: &[Member], prints: &[u32], chosen: &Chosen, wanted: u32) -> bool
+fn has_id(members: &[Member], prints: &[u32], chosen: &MemberComponent, wanted: u32) -> bool
     requires prints { prints.now ≡ map member_fingerprint members.now }
     requires wanted { wanted ≡ member_fingerprint (member_of chosen.now) }
     ensures { result ≡ list_any (λ member. same_id member (member_of chosen.now)) members.now }
@@ -87,7 +87,7 @@ fn add_unless_met(
     alloc: Global,
     members: &mut Group,
     prints: &mut Vec<u32>,
-    chosen: &Chosen,
+    chosen: &MemberComponent,
 ) -> Result<(), Memory>
     requires { prints.old.items ≡ map member_fingerprint members.old }
     ensures members { OnOk result (members.new ≡ (if list_any (λ member. same_id member (member_of chosen.now))
@@ -104,7 +104,7 @@ fn add_unless_met(
 }
 
 /// The members of a group, of those with one id the first.
-fn members(alloc: Global, group: &[Chosen]) -> Result<Group, Memory>
+fn members(alloc: Global, group: &[MemberComponent]) -> Result<Group, Memory>
     ensures { IfOk result (λ members. members ≡ distinct same_id (map member_of group.now)) }
 {
     let mut members = List::new(alloc);

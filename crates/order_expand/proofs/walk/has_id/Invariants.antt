@@ -1,6 +1,6 @@
 use Rattle.std.proofs.Common.{◌≡◌, false, take}
 use Rattle.std.specs.List.{list_any}
-use Rattle.order_expand.specs.Chosen.{member_of}
+use Rattle.order_expand.specs.MemberComponent.{member_of}
 use Rattle.order_expand.specs.Groups.{same_id}
 use Rattle.order_expand.proofs.walk.has_id.Given as goal
 

@@ -1,5 +1,5 @@
 use Rattle.std.proofs.Common.{◌≡◌, map, take}
-use Rattle.order_expand.specs.Chosen.{member_of}
+use Rattle.order_expand.specs.MemberComponent.{member_of}
 use Rattle.order_expand.specs.Fingerprints.{member_fingerprint}
 use Rattle.order_expand.specs.Groups.{distinct, same_id}
 use Rattle.order_expand.proofs.walk.members.Given as goal

@@ -3,12 +3,12 @@ use Rattle.std.specs.Prelude.{Bool, false}
 use Rattle.bp_docs.specs.declared.descriptor.Body.{Body}
 use Rattle.bp_docs.specs.declared.descriptor.Body.TheVariants.{Component, Composite, Foreign}
 use Rattle.order_expand.specs.declared.member.Member.{Member}
-use Rattle.order_expand.specs.declared.begun.Chosen.{Chosen}
+use Rattle.order_expand.specs.declared.begun.MemberComponent.{MemberComponent}
 
 abbrev pub clears_env : Body → Bool
 clears_env (Component clear_env) = clear_env
 clears_env (Composite order) = false
 clears_env (Foreign api) = false
 
-abbrev pub member_of : Chosen → Member
+abbrev pub member_of : MemberComponent → Member
 member_of chosen = record { key = chosen.descriptor.now.key; optional = chosen.optional; clear_env = clears_env chosen.descriptor.now.body }
