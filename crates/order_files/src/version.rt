@@ -83,7 +83,8 @@ pub(crate) fn with_versions<W: World>(
     requires short { length folder.now ≤ 4352 }
     requires vacant { (version : Seq ℕ) → has_place catalog id_folder.now version ≡ false }
     ensures reads { IfSome (W.tree world.old) (λ files.
-        IsAnswer read_cause result (followed_by (Ok catalog) (versions_in files folder.now id_folder.now versions.now))) }
+        IsAnswer read_cause result (followed_by (Ok catalog)
+        (versions_in files folder.now id_folder.now versions.now))) }
     ensures blames { IfErr result (BlamesOne (IsOfId folder.now)) }
     ensures others { IfOk result (KeepsOtherIds id_folder.now catalog) }
     ensures frame { ReadFrame read_cause result (seen W.World world.old) (seen W.World world.new) }
