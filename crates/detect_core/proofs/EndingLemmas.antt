@@ -1,10 +1,11 @@
 -- How a group without a trial ends, and which buildpacks a choice names.
 use Rattle.std.proofs.Common.{◌≡◌, ◌∙◌, refl, sym, ap, subst, ℕ, ◌+◌, ◌*◌, ◌<◌, Bool, true, false, List, [], ◌∷◌, ◌++◌, map, take, get_or, length, arith}
-use Rattle.std.specs.Prelude.{◌&&◌, codes, nat_lt, slice_get, Option, Some, None, Ok}
+use Rattle.std.specs.Prelude.{◌&&◌, nat_lt, slice_get, Option, Some, None, Ok}
 use Rattle.std.specs.List.{flat_map, list_all, cons_option}
 use Rattle.std.proofs.lemmas.Bool.{false≢true, lt-ltb}
 use Rattle.std.proofs.lemmas.List.{map-append, take_more}
 use Rattle.std.proofs.lemmas.List.Elements.{filter_map-append}
+use Rattle.cnb_toml.specs.Api.{buildpack_api}
 use Rattle.cnb_toml.specs.declared.names.Key.{Key}
 use Rattle.bp_docs.specs.declared.build_plan.PlanOption.{PlanOption}
 use Rattle.run_docs.specs.declared.group.GroupRow.{GroupRow}
@@ -70,7 +71,7 @@ one_more_place rows places at group found lt looked so_far =
     ap (λ g. g ++ group_rows (keys (cons_option found []))) so_far
     ∙ sym (ap (λ rs. group_rows (keys rs)) pushed
     ∙ (ap group_rows (map-append (λ (r : AliveRow). r.key) (at_places rows front) (cons_option found []))
-    ∙ map-append (λ (key : Key). let row : GroupRow = record { key = key; api = codes "0.10" } in row) (keys (at_places rows front)) (keys (cons_option found []))))
+    ∙ map-append (λ (key : Key). let row : GroupRow = record { key = key; api = buildpack_api } in row) (keys (at_places rows front)) (keys (cons_option found []))))
 
 -- a group with a buildpack without alternatives does not end the search
 pub no_ending : (place : ℕ) (alive : Option (List AliveRow)) (rows : List AliveRow) (asked : List Key) →

@@ -12,13 +12,13 @@ use Rattle.order_expand.specs.declared.member.Member.{Member}
 use Rattle.detect_core.specs.declared.chosen.DetectFrame.{DetectFrame}
 
 -- where its child writes a Build Plan
-abbrev pub plan_path : List ℕ → Key → List ℕ
-plan_path work key = joined (joined work (codes "detect")) (plan_name_of key)
+abbrev pub build_plan_path : List ℕ → Key → List ℕ
+build_plan_path work key = joined (joined work (codes "detect")) (plan_name_of key)
 
 -- the handed-in environment, the platform's files unless the buildpack clears them, and the lifecycle's own variables
 abbrev pub detect_env : DetectFrame → Member → List Variable
 detect_env frame member =
-    with_value (codes "CNB_BUILD_PLAN_PATH") (plan_path frame.work member.key)
+    with_value (codes "CNB_BUILD_PLAN_PATH") (build_plan_path frame.work member.key)
     (with_value (codes "CNB_PLATFORM_DIR") frame.platform
     (with_value (codes "CNB_BUILDPACK_DIR") (buildpack_folder frame.buildpacks member.key)
     (if member.clear_env then base_env frame.env else with_files frame.files (base_env frame.env))))
@@ -29,7 +29,7 @@ detect_job frame member = record {
   version = member.key.version;
   program = joined (joined (buildpack_folder frame.buildpacks member.key) (codes "bin")) (codes "detect");
   platform = frame.platform;
-  plan = plan_path frame.work member.key;
+  plan = build_plan_path frame.work member.key;
   env = detect_env frame member;
   dir = frame.app;
 }

@@ -1,6 +1,7 @@
 -- What a call that detects says of its answer, of the children that it ran and of the spawners' faults.
-use Rattle.std.specs.Prelude.{ℕ, ◌≡◌, ◌&&◌, Bool, List, codes, length, map, nat_le, Option, Some, None, Result, Ok, Err, OnErr}
+use Rattle.std.specs.Prelude.{ℕ, ◌≡◌, ◌&&◌, Bool, List, length, map, nat_le, Option, Some, None, Result, Ok, Err, OnErr}
 use Rattle.cnb_world.specs.Runs.{Ran}
+use Rattle.cnb_toml.specs.Api.{buildpack_api}
 use Rattle.cnb_toml.specs.declared.names.Key.{Key}
 use Rattle.run_docs.specs.declared.group.GroupRow.{GroupRow}
 use Rattle.bp_docs.specs.declared.descriptor.Descriptor.{Descriptor}
@@ -20,7 +21,7 @@ use Rattle.steps.specs.Outside.{SpawnerSeen}
 
 -- the chosen group, each buildpack with the API that it is written for
 abbrev pub group_rows : List Key → List GroupRow
-group_rows keys = map (λ key. record { key = key; api = codes "0.10" }) keys
+group_rows keys = map (λ key. record { key = key; api = buildpack_api }) keys
 
 -- a choice is that of the first trial that passes
 pub record IsChoice (chosen : Chosen) (at : ℕ) (resolved : Resolved) (kept keys : List Key) : Type 0 where

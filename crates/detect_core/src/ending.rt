@@ -12,13 +12,11 @@ ghost use Rattle.detect_core.specs.Search.{IsChoice, group_rows};
 use crate::chosen::{Chosen, DetectEnd};
 use crate::judging::Judged;
 use crate::kept::Kept;
+use cnb_toml::BUILDPACK_API;
 use cnb_world::{List, Memory, Text};
 use plan_resolve::{AliveRow, PlanFault, Resolved, resolve};
 use run_docs::{GroupDoc, GroupRow};
 use std::alloc::Global;
-
-/// The Buildpack API that the buildpacks of a group are written for.
-const API: &str = "0.10";
 
 /// The choice that a judged group comes to, where one of its trials passes. A buildpack without alternatives leaves the
 /// group without a trial.
@@ -62,7 +60,8 @@ fn choice(
     place: u32,
     kept: &Kept,
 ) -> Result<Chosen, Memory>
-    ensures { IfOk result (λ chosen. IsChoice chosen place resolved (map (λ row. row.key) (at_places rows.now resolved.kept)) (keys_of kept.now)) }
+    ensures { IfOk result (λ chosen. IsChoice chosen place resolved
+        (map (λ row. row.key) (at_places rows.now resolved.kept)) (keys_of kept.now)) }
 {
     let group = group_of(alloc, rows, resolved.kept.as_slice())?;
     let asked = kept.keys(alloc)?;
@@ -98,6 +97,6 @@ fn group_row(alloc: Global, row: &AliveRow) -> Result<GroupRow, Memory>
     ensures { IfOk result (λ new. group_rows (row.now.key ∷ []) ≡ new ∷ []) }
 {
     let key = row.key.copy(alloc)?;
-    let api = Text::of(alloc, API)?;
+    let api = Text::of(alloc, BUILDPACK_API)?;
     Ok(GroupRow { key, api })
 }

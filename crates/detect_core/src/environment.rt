@@ -1,7 +1,7 @@
 // The environment of a detect child.
 ghost use Rattle.std.specs.Prelude.{◌≡◌, IfOk};
 ghost use Rattle.cnb_env.specs.Buildpack.{buildpack_folder};
-ghost use Rattle.detect_core.specs.Job.{plan_path, detect_env};
+ghost use Rattle.detect_core.specs.Job.{build_plan_path, detect_env};
 
 use crate::chosen::DetectFrame;
 use cnb_env::{base_env, platform, set_path};
@@ -18,7 +18,7 @@ pub fn environment(
     plan: &Path,
 ) -> Result<Env, Memory>
     requires folder { folder.now ≡ buildpack_folder frame.now.buildpacks member.now.key }
-    requires plan { plan.now ≡ plan_path frame.now.work member.now.key }
+    requires plan { plan.now ≡ build_plan_path frame.now.work member.now.key }
     ensures { IfOk result (λ env. env ≡ detect_env frame.now member.now) }
 {
     let mut env = base_env(alloc, &frame.env)?;

@@ -1,7 +1,7 @@
 // The detect child of a buildpack.
 ghost use Rattle.std.specs.Prelude.{◌≡◌, ◌≤◌, IfOk, IsTrue, codes, length};
 ghost use Rattle.cnb_world.specs.Path.{joined};
-ghost use Rattle.detect_core.specs.Job.{plan_path, detect_job};
+ghost use Rattle.detect_core.specs.Job.{build_plan_path, detect_job};
 ghost use Rattle.detect_core.specs.Search.{is_short};
 
 use crate::chosen::DetectFrame;
@@ -48,7 +48,7 @@ fn program(alloc: Global, folder: &Path) -> Result<Path, Memory>
 // Where the child of a buildpack writes a Build Plan.
 fn plan(alloc: Global, work: &Path, key: &Key) -> Result<Path, Memory>
     requires { length work.now ≤ 4096 }
-    ensures { IfOk result (λ plan. plan ≡ plan_path work.now key.now) }
+    ensures { IfOk result (λ plan. plan ≡ build_plan_path work.now key.now) }
 {
     let name = plan_name(alloc, key)?;
     let folder = work.below(alloc, "detect")?;

@@ -13,8 +13,8 @@ use order_expand::Member;
 use plan_resolve::{Alive, AliveRow};
 use std::alloc::Global;
 
-/// What the children of a group say together: the buildpacks that passed, where every required one did and there is one,
-/// and whether one ended with an error.
+/// What the children of a group say together: the buildpacks that passed, where every required one did and there is
+/// one, and whether one ended with an error.
 #[derive(Drop)]
 pub struct Judged {
     pub alive: Option<Alive>,
@@ -56,7 +56,8 @@ fn have_required_passed(group: &[Member], kept: &Kept) -> bool
 
 // The members that passed, in order.
 fn passed_rows(alloc: Global, group: &[Member], kept: &Kept) -> Result<Alive, Memory>
-    ensures { IfOk result (λ rows. rows ≡ filter_map (λ member. alive_row member (kept_says kept.now member)) group.now) }
+    ensures { IfOk result (λ rows. rows
+        ≡ filter_map (λ member. alive_row member (kept_says kept.now member)) group.now) }
 {
     let mut rows = List::new(alloc);
     for member in group {
