@@ -1,31 +1,14 @@
 -- Names of documents are parts of paths, and the paths of documents are paths.
-use Rattle.std.proofs.Common.{◌≡◌, ◌∙◌, refl, ℕ, ◌+◌, ◌<◌, ◌≤◌, ◌==◌, nat_lt, nat_le, Bool, true, false, cond, not, IsTrue, List, [], ◌∷◌, ◌++◌, length, codes, arith, length-append}
-use Rattle.std.specs.Prelude.{◌&&◌, if◌then◌else◌}
+use Rattle.std.proofs.Common.{◌≡◌, ◌∙◌, refl, ℕ, ◌+◌, ◌<◌, ◌≤◌, ◌==◌, nat_lt, nat_le, true, false, not, IsTrue, List, [], ◌∷◌, length, codes, arith, length-append}
+use Rattle.std.specs.Prelude.{◌&&◌}
 use Rattle.std.specs.List.{list_all}
 use Rattle.std.specs.Str.{bytes_eq}
 use Rattle.std.proofs.lemmas.Bool.{and_parts, leb-true}
 use Rattle.std.proofs.lemmas.Bool.Decides.{nat_tests}
 use Rattle.std.proofs.lemmas.List.Folds.{list_all-append}
-use Rattle.cnb_world.specs.Path.{beside, is_part, is_part_byte, joined}
-use Rattle.cnb_world.specs.Tree.{is_root}
-use Rattle.cnb_world.proofs.Folders.{not_longer}
+use Rattle.cnb_world.specs.Path.{beside, is_part, is_part_byte}
 use Rattle.cnb_toml.specs.Names.{has_image_bytes, is_first_byte, is_image_byte, is_image_name}
 use Rattle.image_files.specs.Paths.{document_name}
-
-joined_by : (root : Bool) (path name : List ℕ) → length ((if root then path else path ++ 47 ∷ []) ++ name) ≤ length path + 1 + length name
-joined_by true path name = omega (arith, length-append path name)
-joined_by false path name = omega (arith, length-append (path ++ 47 ∷ []) name, length-append path (47 ∷ []))
-
-pub length_joined : (path name : List ℕ) → length (joined path name) ≤ length path + 1 + length name
-length_joined path name = joined_by (bytes_eq path (47 ∷ [])) path name
-
-pub part_within : (name : List ℕ) → IsTrue (is_part name) → length name ≤ 255
-part_within name h =
-    let (most, bytes) = and_parts (nat_lt 0 (length name) && nat_le (length name) 255 && not (bytes_eq name (46 ∷ [])) && not (bytes_eq name (46 ∷ 46 ∷ []))) (list_all is_part_byte name) h in
-    let (more, dots) = and_parts (nat_lt 0 (length name) && nat_le (length name) 255 && not (bytes_eq name (46 ∷ []))) (not (bytes_eq name (46 ∷ 46 ∷ []))) most in
-    let (sized, dot) = and_parts (nat_lt 0 (length name) && nat_le (length name) 255) (not (bytes_eq name (46 ∷ []))) more in
-    let (some, few) = and_parts (nat_lt 0 (length name)) (nat_le (length name) 255) sized in
-    leb-true (length name) 255 few
 
 part_bytes : (name : List ℕ) → IsTrue (is_part name) → list_all is_part_byte name ≡ true
 part_bytes name h =
@@ -95,12 +78,3 @@ image_name_fits (b ∷ name) is =
     let some : nat_lt 0 (length (b ∷ name)) ≡ true = grind (arith, nat_tests) in
     let within : nat_le (length (b ∷ name)) 255 ≡ true = grind (arith, nat_tests) in
     record { part = rw (some, within, first_byte_is_no_dot b first, first_byte_is_part b first, image_bytes name rest) refl; short = short }
-
-pub longer : (p : List ℕ) → length (beside p) ≡ length p + 4
-longer p = length-append p (46 ∷ 110 ∷ 101 ∷ 119 ∷ [])
-
-long_root : (p : List ℕ) → 1 < length p → is_root p ≡ false
-long_root p h = not_longer p (47 ∷ []) h
-
-pub no_root_below : (folder name : List ℕ) → 1 < length name → is_root (joined folder name) ≡ false
-no_root_below folder name h = long_root (joined folder name) (omega (arith, length-append (cond (bytes_eq folder (47 ∷ [])) folder (folder ++ 47 ∷ [])) name))

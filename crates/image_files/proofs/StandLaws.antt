@@ -17,7 +17,8 @@ use Rattle.steps.specs.Outside.{Seen}
 use Rattle.steps.specs.Steps.{Writes, writes}
 use Rattle.image_files.specs.Images.{ImageStands, RunImageStands, Stands, writes_readable_image, writes_readable_run_image}
 use Rattle.image_files.specs.Paths.{document_name, images_folder, runs_folder}
-use Rattle.image_files.proofs.PathLemmas.{document_length, no_root_below}
+use Rattle.doc_files.proofs.Written.{no_root_below}
+use Rattle.image_files.proofs.PathLemmas.{document_length}
 
 written_at : (folder name bytes : List ℕ) (tree : Tree) → 1 < length name → bytes_of (item_at (written (joined folder name) bytes tree) (joined folder name)) ≡ bytes
 written_at folder name bytes tree long =

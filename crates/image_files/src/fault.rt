@@ -1,10 +1,10 @@
 // Why the document of an image was not read or written.
 use cnb_toml::{DocFault, ImageName};
 use cnb_world::{LimitKind, Memory, Path};
-use doc_files::ReadFault;
+use doc_files::{FileRefusal, ReadFault};
 
-/// An image isn't there, a document is refused or too long, or the outside gave no answer. `File` has the path whose call
-/// failed.
+/// An image isn't there, a document is refused or too long, or the outside gave no answer. `File` has the path whose
+/// call failed.
 #[derive(Drop)]
 pub enum ImageFault {
     NoImage(ImageName),
@@ -12,6 +12,20 @@ pub enum ImageFault {
     Limit(LimitKind),
     File(Path),
     Memory,
+}
+
+impl FileRefusal for ImageFault {
+    ghost use Rattle.image_files.specs.Faults.{cause_of};
+
+    ghost cause = { cause_of };
+
+    fn file(path: Path) -> Self {
+        ImageFault::File(path)
+    }
+
+    fn memory() -> Self {
+        ImageFault::Memory
+    }
 }
 
 impl From<Memory> for ImageFault {

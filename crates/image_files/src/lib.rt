@@ -13,4 +13,4 @@ pub use fault::ImageFault;
 pub use images::{read_image, read_run_image};
 pub use paths::{image_path, run_path};
 pub use run_part::{base_of, image_env, push_run_rows};
-pub use writing::{save_image, save_run_image, write_document};
+pub use writing::{save_image, save_run_image};

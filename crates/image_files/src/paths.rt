@@ -22,7 +22,7 @@ pub(crate) fn document_name(alloc: Global, name: &ImageName) -> Result<Text, Mem
 }
 
 /// The folder of the images of a store.
-#[tactic(auto, using(crate::proofs::PathLemmas::length_joined))]
+#[tactic(auto, using(cnb_world::proofs::Lengths::length_joined))]
 pub(crate) fn images_folder(alloc: Global, store: &Path) -> Result<Path, Memory>
     requires { length store.now ≤ 4096 }
     ensures path { IfOk result (λ path. path ≡ images_folder store.now) }
@@ -33,7 +33,7 @@ pub(crate) fn images_folder(alloc: Global, store: &Path) -> Result<Path, Memory>
 }
 
 /// The folder of the run images of a store.
-#[tactic(auto, using(crate::proofs::PathLemmas::length_joined))]
+#[tactic(auto, using(cnb_world::proofs::Lengths::length_joined))]
 pub(crate) fn runs_folder(alloc: Global, store: &Path) -> Result<Path, Memory>
     requires { length store.now ≤ 4096 }
     ensures path { IfOk result (λ path. path ≡ runs_folder store.now) }
@@ -43,7 +43,7 @@ pub(crate) fn runs_folder(alloc: Global, store: &Path) -> Result<Path, Memory>
     Ok(path)
 }
 
-#[tactic(auto, using(crate::proofs::PathLemmas::length_joined))]
+#[tactic(auto, using(cnb_world::proofs::Lengths::length_joined))]
 fn document_of(alloc: Global, folder: &Path, name: &ImageName) -> Result<Path, Memory>
     requires { length folder.now ≤ 4352 }
     ensures { IfOk result (λ path. path ≡ joined folder.now (document_name name.now)) }
