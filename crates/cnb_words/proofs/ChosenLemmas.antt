@@ -2,7 +2,7 @@
 use Rattle.std.proofs.Common.{◌≡◌, Bool, cond, true, false, codes, refl, ℕ, List, Option, Some, None, Err, option_and_then}
 use Rattle.std.specs.Str.{bytes_eq}
 use Rattle.cnb_words.specs.Chosen.{phase_chosen}
-use Rattle.cnb_words.specs.Faults.{Reads}
+use Rattle.cnb_words.specs.Faults.{AreReadAs}
 use Rattle.cnb_words.specs.Options.{options_in}
 use Rattle.cnb_words.specs.Reading.{checked_for}
 use Rattle.cnb_words.specs.Words.{phase_asked, with_options}
@@ -13,7 +13,7 @@ use Rattle.cnb_words.specs.declared.options.Given.{Given}
 -- what is asked for where the options pass a check is refused where they don't
 pub refused_words : {T : Type 0} (once often words : List (List ℕ)) (asked : List Given → Option T) (fault : WordsFault)
     → ((options : List Given) → checked_for once often options ≡ None → asked options ≡ None)
-    → Reads (Err fault) (option_and_then (checked_for once often) (options_in words)) → Reads (Err fault) (option_and_then asked (options_in words))
+    → AreReadAs (Err fault) (option_and_then (checked_for once often) (options_in words)) → AreReadAs (Err fault) (option_and_then asked (options_in words))
 refused_words once often words asked Memory fails h = tt
 refused_words once often words asked Usage fails h = go (options_in words) h
   where

@@ -12,7 +12,7 @@ use Rattle.clap.specs.declared.error.kind.ErrorKind.{ErrorKind}
 use Rattle.clap.specs.declared.error.kind.ErrorKind.TheVariants as kind
 use Rattle.clap.specs.declared.parser.matches.ArgMatches.{ArgMatches}
 use Rattle.clap.proofs.WalkLemmas.{both}
-use Rattle.cnb_words.specs.Faults.{Reads}
+use Rattle.cnb_words.specs.Faults.{AreReadAs}
 use Rattle.cnb_words.specs.Options.{options_in}
 use Rattle.cnb_words.specs.Reading.{Finds, checked_for, dashed, fault_of_reading, given_by, is_plain, reader, texts_of, values_at}
 use Rattle.cnb_words.specs.declared.fault.WordsFault.{WordsFault}
@@ -20,7 +20,7 @@ use Rattle.cnb_words.proofs.ReaderLemmas.{simple_reader}
 use Rattle.cnb_words.proofs.ReadingLaw.{read_where_no_fault, unread_where_fault}
 
 by_kind : (k : ErrorKind) (kinds : Kinds) (want : Option (Unit {0})) → (k ≡ kind.OutOfMemory) ⊎ IsAmong k kinds → ((kinds ≡ [] → ⊥) → want ≡ None)
-    → Reads (Err (fault_of_reading k)) want
+    → AreReadAs (Err (fault_of_reading k)) want
 by_kind kind.OutOfMemory kinds want h none = tt
 by_kind k kinds want (inl e) none = cc
 by_kind k kinds want (inr among) none = none (λ e. subst (IsAmong k) e among)
@@ -31,10 +31,10 @@ module _ (once often words : List Text) (plain : list_all is_plain words ≡ tru
 
   -- where `clap` fails, words are refused, unless memory ran out
   pub refused_by : (e : Error) (fault : WordsFault) → fault ≡ fault_of_reading (kind_of e) → (is_simple_and_free app ≡ true → HasKind (fault_of app words) e)
-      → Reads (Err fault) (option_and_then (checked_for once often) (options_in words))
+      → AreReadAs (Err fault) (option_and_then (checked_for once often) (options_in words))
   refused_by e fault says fails =
       let kinds : HasKind (fault_of (reader once often) words) e = subst (λ a. HasKind (fault_of a words) e) is (fails simple_app) in
-      subst (λ f. Reads (Err f) (option_and_then (checked_for once often) (options_in words))) (sym says)
+      subst (λ f. AreReadAs (Err f) (option_and_then (checked_for once often) (options_in words))) (sym says)
       (by_kind (kind_of e) (fault_of (reader once often) words) _ kinds (unread_where_fault once often words plain))
 
   pub record Found (matches : ArgMatches) : Type 0 where

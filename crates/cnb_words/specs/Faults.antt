@@ -24,7 +24,7 @@ cause_of Usage = Decided
 cause_of Memory = OutOfMemory
 
 -- words are read as this value, and are refused where there is none, unless memory ran out
-abbrev pub Reads : {T : Type 0} → Result T WordsFault → Option T → Type 0
-Reads (Ok value) want = want ≡ Some value
-Reads (Err Usage) want = want ≡ None
-Reads (Err Memory) want = Unit {0}
+abbrev pub AreReadAs : {T : Type 0} → Result T WordsFault → Option T → Type 0
+AreReadAs (Ok value) want = want ≡ Some value
+AreReadAs (Err Usage) want = want ≡ None
+AreReadAs (Err Memory) want = Unit {0}

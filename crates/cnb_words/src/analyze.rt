@@ -1,7 +1,7 @@
 // The options of `analyze`.
 ghost use Rattle.std.specs.Prelude.{IfOk, map, string_bytes};
 ghost use Rattle.std.specs.Option.{option_and_then};
-ghost use Rattle.cnb_words.specs.Faults.{Reads};
+ghost use Rattle.cnb_words.specs.Faults.{AreReadAs};
 ghost use Rattle.cnb_words.specs.Options.{options_in};
 ghost use Rattle.cnb_words.specs.Analyze.{analyze_in, KeepsLimits};
 
@@ -23,7 +23,7 @@ pub struct AnalyzeWords {
 
 /// What the words behind `analyze` ask for.
 pub(crate) fn analyze_in(alloc: Global, words: &[String]) -> Result<AnalyzeWords, WordsFault>
-    ensures reads { Reads result (option_and_then analyze_in (options_in (map string_bytes words.now))) }
+    ensures reads { AreReadAs result (option_and_then analyze_in (options_in (map string_bytes words.now))) }
     ensures limits { IfOk result KeepsLimits }
 {
     let options = read_options(alloc, &["store", "run", "work", "previous"], &[], words)?;

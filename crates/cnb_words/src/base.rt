@@ -1,7 +1,7 @@
 // The options of `base`.
 ghost use Rattle.std.specs.Prelude.{IfOk, map, string_bytes};
 ghost use Rattle.std.specs.Option.{option_and_then};
-ghost use Rattle.cnb_words.specs.Faults.{Reads};
+ghost use Rattle.cnb_words.specs.Faults.{AreReadAs};
 ghost use Rattle.cnb_words.specs.Options.{options_in};
 ghost use Rattle.cnb_words.specs.Base.{base_in, KeepsLimits};
 
@@ -24,7 +24,7 @@ pub struct BaseWords {
 
 /// What the words behind `base` ask for.
 pub(crate) fn base_in(alloc: Global, words: &[String]) -> Result<BaseWords, WordsFault>
-    ensures reads { Reads result (option_and_then base_in (options_in (map string_bytes words.now))) }
+    ensures reads { AreReadAs result (option_and_then base_in (options_in (map string_bytes words.now))) }
     ensures limits { IfOk result KeepsLimits }
 {
     let options = read_options(alloc, &["store", "run", "os", "arch"], &["tree"], words)?;

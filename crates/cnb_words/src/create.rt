@@ -1,7 +1,7 @@
 // The options of `create`.
 ghost use Rattle.std.specs.Prelude.{IfOk, map, string_bytes};
 ghost use Rattle.std.specs.Option.{option_and_then};
-ghost use Rattle.cnb_words.specs.Faults.{Reads};
+ghost use Rattle.cnb_words.specs.Faults.{AreReadAs};
 ghost use Rattle.cnb_words.specs.Options.{options_in};
 ghost use Rattle.cnb_words.specs.Create.{create_in, create_values, image_options, ImageKeepsLimits, KeepsLimits};
 
@@ -39,7 +39,7 @@ struct ImageOptions {
 }
 
 fn image_options(alloc: Global, options: &Options) -> Result<ImageOptions, WordsFault>
-    ensures reads { Reads result (image_options options.now) }
+    ensures reads { AreReadAs result (image_options options.now) }
     ensures limits { IfOk result ImageKeepsLimits }
 {
     let store = path_of(alloc, options, "store")?;
@@ -59,7 +59,7 @@ fn image_options(alloc: Global, options: &Options) -> Result<ImageOptions, Words
 }
 
 fn create_values(alloc: Global, options: &Options) -> Result<CreateWords, WordsFault>
-    ensures reads { Reads result (create_values options.now) }
+    ensures reads { AreReadAs result (create_values options.now) }
     ensures limits { IfOk result KeepsLimits }
 {
     let detect = detect_values(alloc, options)?;
@@ -79,7 +79,7 @@ fn create_values(alloc: Global, options: &Options) -> Result<CreateWords, WordsF
 
 /// What the words behind `create` ask for.
 pub(crate) fn create_in(alloc: Global, words: &[String]) -> Result<CreateWords, WordsFault>
-    ensures reads { Reads result (option_and_then create_in (options_in (map string_bytes words.now))) }
+    ensures reads { AreReadAs result (option_and_then create_in (options_in (map string_bytes words.now))) }
     ensures limits { IfOk result KeepsLimits }
 {
     let options = read_options(

@@ -1,7 +1,7 @@
 // The options of `detect`.
 ghost use Rattle.std.specs.Prelude.{IfOk, map, string_bytes};
 ghost use Rattle.std.specs.Option.{option_and_then};
-ghost use Rattle.cnb_words.specs.Faults.{Reads};
+ghost use Rattle.cnb_words.specs.Faults.{AreReadAs};
 ghost use Rattle.cnb_words.specs.Options.{options_in};
 ghost use Rattle.cnb_words.specs.Detect.{detect_in, detect_values, KeepsLimits};
 
@@ -25,7 +25,7 @@ pub struct DetectWords {
 
 /// What the options ask for, where each that `detect` must have is given.
 pub(crate) fn detect_values(alloc: Global, options: &Options) -> Result<DetectWords, WordsFault>
-    ensures reads { Reads result (detect_values options.now) }
+    ensures reads { AreReadAs result (detect_values options.now) }
     ensures limits { IfOk result KeepsLimits }
 {
     let order = path_of(alloc, options, "order")?;
@@ -46,7 +46,7 @@ pub(crate) fn detect_values(alloc: Global, options: &Options) -> Result<DetectWo
 
 /// What the words behind `detect` ask for.
 pub(crate) fn detect_in(alloc: Global, words: &[String]) -> Result<DetectWords, WordsFault>
-    ensures reads { Reads result (option_and_then detect_in (options_in (map string_bytes words.now))) }
+    ensures reads { AreReadAs result (option_and_then detect_in (options_in (map string_bytes words.now))) }
     ensures limits { IfOk result KeepsLimits }
 {
     let options = read_options(

@@ -1,6 +1,6 @@
 // The words of `drill`.
 ghost use Rattle.std.specs.Prelude.{IfOk, map, string_bytes};
-ghost use Rattle.cnb_words.specs.Faults.{Reads};
+ghost use Rattle.cnb_words.specs.Faults.{AreReadAs};
 ghost use Rattle.cnb_words.specs.Drill.{drill_in, KeepsLimits};
 
 use crate::fault::WordsFault;
@@ -16,7 +16,7 @@ pub struct DrillWords {
 
 /// What the words behind `drill` ask for: a number from 0 to 4,095, in decimal.
 pub(crate) fn drill_in(words: &[String]) -> Result<DrillWords, WordsFault>
-    ensures reads { Reads result (drill_in (map string_bytes words.now)) }
+    ensures reads { AreReadAs result (drill_in (map string_bytes words.now)) }
     ensures limits { IfOk result KeepsLimits }
 {
     match words {

@@ -1,7 +1,7 @@
 // The options of `export`.
 ghost use Rattle.std.specs.Prelude.{IfOk, map, string_bytes};
 ghost use Rattle.std.specs.Option.{option_and_then};
-ghost use Rattle.cnb_words.specs.Faults.{Reads};
+ghost use Rattle.cnb_words.specs.Faults.{AreReadAs};
 ghost use Rattle.cnb_words.specs.Options.{options_in};
 ghost use Rattle.cnb_words.specs.Export.{export_in, KeepsLimits};
 
@@ -26,7 +26,7 @@ pub struct ExportWords {
 
 /// What the words behind `export` ask for.
 pub(crate) fn export_in(alloc: Global, words: &[String]) -> Result<ExportWords, WordsFault>
-    ensures reads { Reads result (option_and_then export_in (options_in (map string_bytes words.now))) }
+    ensures reads { AreReadAs result (option_and_then export_in (options_in (map string_bytes words.now))) }
     ensures limits { IfOk result KeepsLimits }
 {
     let options = read_options(

@@ -1,7 +1,7 @@
 // The words of `launch`.
 ghost use Rattle.std.specs.Prelude.{◌≡◌, IfOk, IsTrue, map, string_bytes};
 ghost use Rattle.cnb_toml.specs.Names.{is_process_type};
-ghost use Rattle.cnb_words.specs.Faults.{Reads};
+ghost use Rattle.cnb_words.specs.Faults.{AreReadAs};
 ghost use Rattle.cnb_words.specs.Launch.{call_in, direct_call, launch_at, launch_in, launch_in_root, process_at, IsCall, KeepsLimits};
 
 use crate::fault::WordsFault;
@@ -37,7 +37,7 @@ fn texts(alloc: Global, words: &[String]) -> Result<List<Text>, Memory>
 }
 
 fn direct_call(alloc: Global, words: &[String]) -> Result<Call, WordsFault>
-    ensures reads { Reads result (direct_call (map string_bytes words.now)) }
+    ensures reads { AreReadAs result (direct_call (map string_bytes words.now)) }
     ensures is_call { IfOk result IsCall }
 {
     if words.is_empty() {
@@ -48,7 +48,7 @@ fn direct_call(alloc: Global, words: &[String]) -> Result<Call, WordsFault>
 }
 
 fn call_in(alloc: Global, words: &[String]) -> Result<Call, WordsFault>
-    ensures reads { Reads result (call_in (map string_bytes words.now)) }
+    ensures reads { AreReadAs result (call_in (map string_bytes words.now)) }
     ensures is_call { IfOk result IsCall }
 {
     match words {
@@ -66,7 +66,7 @@ pub(crate) fn launch_at(
     root: &str,
     words: &[String],
 ) -> Result<LaunchWords, WordsFault>
-    ensures reads { Reads result (launch_at root.now (map string_bytes words.now)) }
+    ensures reads { AreReadAs result (launch_at root.now (map string_bytes words.now)) }
     ensures limits { IfOk result KeepsLimits }
 {
     let root = path_in(alloc, root)?;
@@ -75,7 +75,7 @@ pub(crate) fn launch_at(
 }
 
 fn launch_in_root(alloc: Global, words: &[String]) -> Result<LaunchWords, WordsFault>
-    ensures reads { Reads result (launch_in_root (map string_bytes words.now)) }
+    ensures reads { AreReadAs result (launch_in_root (map string_bytes words.now)) }
     ensures limits { IfOk result KeepsLimits }
 {
     match words {
@@ -86,7 +86,7 @@ fn launch_in_root(alloc: Global, words: &[String]) -> Result<LaunchWords, WordsF
 
 /// What the words behind `launch` ask for.
 pub(crate) fn launch_in(alloc: Global, words: &[String]) -> Result<LaunchWords, WordsFault>
-    ensures reads { Reads result (launch_in (map string_bytes words.now)) }
+    ensures reads { AreReadAs result (launch_in (map string_bytes words.now)) }
     ensures limits { IfOk result KeepsLimits }
 {
     match words {
@@ -103,7 +103,7 @@ pub(crate) fn process_at(
     words: &[String],
 ) -> Result<LaunchWords, WordsFault>
     requires { IsTrue (is_process_type kind.now) }
-    ensures reads { Reads result (process_at root.now kind.now (map string_bytes words.now)) }
+    ensures reads { AreReadAs result (process_at root.now kind.now (map string_bytes words.now)) }
     ensures limits { IfOk result KeepsLimits }
 {
     let root = path_in(alloc, root)?;

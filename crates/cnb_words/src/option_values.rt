@@ -1,7 +1,7 @@
 // The values that options are given.
 ghost use Rattle.std.specs.Prelude.{◌≡◌, ◌<◌, ◌≤◌, ◌^◌, All, IfOk, IsTrue, length, map};
 ghost use Rattle.cnb_toml.specs.Names.{is_target_name};
-ghost use Rattle.cnb_words.specs.Faults.{Reads};
+ghost use Rattle.cnb_words.specs.Faults.{AreReadAs};
 ghost use Rattle.cnb_words.specs.OptionValues.{caches_of, image_of, optional_image_of, path_of, paths_of, target_of, trees_of, workers_of};
 ghost use Rattle.cnb_words.specs.Reading.{dashed, paths_in};
 
@@ -18,7 +18,7 @@ const MOST_WORKERS: u32 = 64;
 
 /// The path of an option that must be given.
 pub(crate) fn path_of(alloc: Global, options: &Options, name: &str) -> Result<Path, WordsFault>
-    ensures reads { Reads result (path_of (dashed name.now) options.now) }
+    ensures reads { AreReadAs result (path_of (dashed name.now) options.now) }
     ensures short { IfOk result (λ path. length path ≤ 4096) }
 {
     match options.value_of(name) {
@@ -33,7 +33,7 @@ pub(crate) fn image_of(
     options: &Options,
     name: &str,
 ) -> Result<ImageName, WordsFault>
-    ensures { Reads result (image_of (dashed name.now) options.now) }
+    ensures { AreReadAs result (image_of (dashed name.now) options.now) }
 {
     match options.value_of(name) {
         Some(value) => image_in(alloc, value),
@@ -47,7 +47,7 @@ pub(crate) fn optional_image_of(
     options: &Options,
     name: &str,
 ) -> Result<Option<ImageName>, WordsFault>
-    ensures { Reads result (optional_image_of (dashed name.now) options.now) }
+    ensures { AreReadAs result (optional_image_of (dashed name.now) options.now) }
 {
     match options.value_of(name) {
         Some(value) => {
@@ -60,7 +60,7 @@ pub(crate) fn optional_image_of(
 
 /// The name of an operating system or an architecture of an option that must be given.
 pub(crate) fn target_of(alloc: Global, options: &Options, name: &str) -> Result<Text, WordsFault>
-    ensures reads { Reads result (target_of (dashed name.now) options.now) }
+    ensures reads { AreReadAs result (target_of (dashed name.now) options.now) }
     ensures is_name { IfOk result (λ target. IsTrue (is_target_name target)) }
 {
     match options.value_of(name) {
@@ -71,7 +71,7 @@ pub(crate) fn target_of(alloc: Global, options: &Options, name: &str) -> Result<
 
 /// The number of workers; 8 where it isn't given.
 pub(crate) fn workers_of(options: &Options) -> Result<usize, WordsFault>
-    ensures reads { Reads result (workers_of options.now) }
+    ensures reads { AreReadAs result (workers_of options.now) }
     ensures some { IfOk result (λ workers. 1 ≤ workers) }
     ensures few { IfOk result (λ workers. workers ≤ 64) }
 {
@@ -86,7 +86,7 @@ pub(crate) fn workers_of(options: &Options) -> Result<usize, WordsFault>
 
 // The paths that texts are.
 fn paths_in(alloc: Global, texts: &[&str]) -> Result<List<Path>, WordsFault>
-    ensures reads { Reads result (paths_in (map (λ text. text.now) texts.now)) }
+    ensures reads { AreReadAs result (paths_in (map (λ text. text.now) texts.now)) }
     ensures short { IfOk result (All (λ path. length path ≤ 4096)) }
 {
     let mut paths = List::new(alloc);
@@ -99,7 +99,7 @@ fn paths_in(alloc: Global, texts: &[&str]) -> Result<List<Path>, WordsFault>
 
 // The paths of an option that may stand several times, in the order of the words.
 fn paths_of(alloc: Global, options: &Options, name: &str) -> Result<List<Path>, WordsFault>
-    ensures reads { Reads result (paths_of (dashed name.now) options.now) }
+    ensures reads { AreReadAs result (paths_of (dashed name.now) options.now) }
     ensures short { IfOk result (All (λ path. length path ≤ 4096)) }
 {
     match options.values_of(name) {
@@ -110,7 +110,7 @@ fn paths_of(alloc: Global, options: &Options, name: &str) -> Result<List<Path>, 
 
 /// The folders of the caches: fewer than 4,294,967,296.
 pub(crate) fn caches_of(alloc: Global, options: &Options) -> Result<List<Path>, WordsFault>
-    ensures reads { Reads result (caches_of options.now) }
+    ensures reads { AreReadAs result (caches_of options.now) }
     ensures short { IfOk result (All (λ path. length path ≤ 4096)) }
     ensures few { IfOk result (λ caches. length caches < 2 ^ 32) }
 {
@@ -124,7 +124,7 @@ pub(crate) fn caches_of(alloc: Global, options: &Options) -> Result<List<Path>, 
 
 /// The folders of trees: at least one.
 pub(crate) fn trees_of(alloc: Global, options: &Options) -> Result<List<Path>, WordsFault>
-    ensures reads { Reads result (trees_of options.now) }
+    ensures reads { AreReadAs result (trees_of options.now) }
     ensures short { IfOk result (All (λ path. length path ≤ 4096)) }
     ensures some { IfOk result (λ trees. 1 ≤ length trees) }
 {

@@ -3,7 +3,7 @@ ghost use Rattle.std.specs.Prelude.{◌≡◌, IfErr, IfOk, IsFalse, Err, Some, 
 ghost use Rattle.std.specs.List.{list_all};
 ghost use Rattle.std.specs.Option.{option_and_then};
 ghost use Rattle.clap.specs.Words.{app_of, rule_of};
-ghost use Rattle.cnb_words.specs.Faults.{Reads};
+ghost use Rattle.cnb_words.specs.Faults.{AreReadAs};
 ghost use Rattle.cnb_words.specs.Options.{options_in};
 ghost use Rattle.cnb_words.specs.Reading.{checked_for, is_in, is_plain, option_rule, reader};
 
@@ -68,7 +68,7 @@ pub(crate) fn read_options<'a>(
     ensures options { IfOk result (λ options. options_in (map string_bytes words.now) ≡ Some options) }
     ensures checked { IfOk result (λ options. checked_for
         (map (λ name. name.now) once.now) (map (λ name. name.now) often.now) options ≡ Some tt) }
-    ensures refused { IfErr result (λ fault. Reads (Err fault) (option_and_then
+    ensures refused { IfErr result (λ fault. AreReadAs (Err fault) (option_and_then
         (checked_for (map (λ name. name.now) once.now) (map (λ name. name.now) often.now))
         (options_in (map string_bytes words.now)))) }
 {

@@ -1,7 +1,7 @@
 // The options of `restore`.
 ghost use Rattle.std.specs.Prelude.{IfOk, map, string_bytes};
 ghost use Rattle.std.specs.Option.{option_and_then};
-ghost use Rattle.cnb_words.specs.Faults.{Reads};
+ghost use Rattle.cnb_words.specs.Faults.{AreReadAs};
 ghost use Rattle.cnb_words.specs.Options.{options_in};
 ghost use Rattle.cnb_words.specs.Restore.{restore_in, KeepsLimits};
 
@@ -22,7 +22,7 @@ pub struct RestoreWords {
 
 /// What the words behind `restore` ask for.
 pub(crate) fn restore_in(alloc: Global, words: &[String]) -> Result<RestoreWords, WordsFault>
-    ensures reads { Reads result (option_and_then restore_in (options_in (map string_bytes words.now))) }
+    ensures reads { AreReadAs result (option_and_then restore_in (options_in (map string_bytes words.now))) }
     ensures limits { IfOk result KeepsLimits }
 {
     let options = read_options(alloc, &["store", "work", "layers"], &["cache"], words)?;

@@ -1,7 +1,7 @@
 // The options of `show`.
 ghost use Rattle.std.specs.Prelude.{IfOk, map, string_bytes};
 ghost use Rattle.std.specs.Option.{option_and_then};
-ghost use Rattle.cnb_words.specs.Faults.{Reads};
+ghost use Rattle.cnb_words.specs.Faults.{AreReadAs};
 ghost use Rattle.cnb_words.specs.Options.{options_in};
 ghost use Rattle.cnb_words.specs.Show.{show_in, KeepsLimits};
 
@@ -21,7 +21,7 @@ pub struct ShowWords {
 
 /// What the words behind `show` ask for.
 pub(crate) fn show_in(alloc: Global, words: &[String]) -> Result<ShowWords, WordsFault>
-    ensures reads { Reads result (option_and_then show_in (options_in (map string_bytes words.now))) }
+    ensures reads { AreReadAs result (option_and_then show_in (options_in (map string_bytes words.now))) }
     ensures limits { IfOk result KeepsLimits }
 {
     let options = read_options(alloc, &["store", "image"], &[], words)?;

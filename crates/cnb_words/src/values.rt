@@ -3,7 +3,7 @@ ghost use Rattle.std.specs.Prelude.{◌≡◌, ◌≤◌, IfOk, IsTrue, length};
 ghost use Rattle.std.specs.Char.{is_ascii_digit};
 ghost use Rattle.std.specs.List.{list_all};
 ghost use Rattle.cnb_toml.specs.Names.{is_target_name};
-ghost use Rattle.cnb_words.specs.Faults.{Reads};
+ghost use Rattle.cnb_words.specs.Faults.{AreReadAs};
 ghost use Rattle.cnb_words.specs.Values.{has_leading_zero, image_in, is_decimal, number_in, path_in, target_in};
 
 use crate::fault::WordsFault;
@@ -13,7 +13,7 @@ use std::alloc::Global;
 
 /// The path that a text is, of at most 4,096 bytes.
 pub(crate) fn path_in(alloc: Global, text: &str) -> Result<Path, WordsFault>
-    ensures reads { Reads result (path_in text.now) }
+    ensures reads { AreReadAs result (path_in text.now) }
     ensures short { IfOk result (λ path. length path ≤ 4096) }
 {
     let path = Path::parse_short(alloc, text)?;
@@ -22,7 +22,7 @@ pub(crate) fn path_in(alloc: Global, text: &str) -> Result<Path, WordsFault>
 
 /// The image's name that a text is.
 pub(crate) fn image_in(alloc: Global, text: &str) -> Result<ImageName, WordsFault>
-    ensures { Reads result (image_in text.now) }
+    ensures { AreReadAs result (image_in text.now) }
 {
     let name = ImageName::parse(alloc, text)?;
     Ok(name)
@@ -30,7 +30,7 @@ pub(crate) fn image_in(alloc: Global, text: &str) -> Result<ImageName, WordsFaul
 
 /// The name of an operating system or an architecture that a text is.
 pub(crate) fn target_in(alloc: Global, text: &str) -> Result<Text, WordsFault>
-    ensures reads { Reads result (target_in text.now) }
+    ensures reads { AreReadAs result (target_in text.now) }
     ensures is_name { IfOk result (λ name. IsTrue (is_target_name name)) }
 {
     if !is_target_name(text) {
@@ -59,7 +59,7 @@ fn is_decimal(text: &[u8]) -> bool
 
 /// The number from `least` to `most` that a text is.
 pub(crate) fn number_in(text: &str, least: u32, most: u32) -> Result<u32, WordsFault>
-    ensures reads { Reads result (number_in least most text.now) }
+    ensures reads { AreReadAs result (number_in least most text.now) }
     ensures at_least { IfOk result (λ number. least ≤ number) }
     ensures at_most { IfOk result (λ number. number ≤ most) }
 {
