@@ -27,6 +27,7 @@ pub fn plan_name(alloc: Global, key: &Key) -> Result<Text, Memory>
     ensures beside { IfOk result (λ name. IsTrue (is_part (beside name))) }
     ensures long { IfOk result (λ name. 1 < length name) }
 {
+    // The proof takes from this call what each id keeps to.
     let _id = key.id.as_str();
     let version = key.version.as_str();
     let folder = key.id.folder(alloc)?;

@@ -13,12 +13,12 @@ ghost use Rattle.cnb_env.specs.Contents.{contents_of, file_at, file_of, value_in
 use crate::files::EnvFile;
 use crate::names::{Naming, is_ignored};
 use cnb_toml::DocFault;
-use cnb_world::{Bytes, Kind, LimitKind, Path, Text, World};
+use cnb_world::{Bytes, Kind, LONGEST_DOCUMENT, LimitKind, Path, Text, World};
 use doc_files::{ReadFault, blamed};
 use std::alloc::Global;
 
 /// The longest environment file, in bytes.
-const LONGEST_FILE: u64 = 1048576;
+const LONGEST_FILE: u64 = LONGEST_DOCUMENT as u64;
 
 /// The bytes of the regular file at a path, where one stands there.
 #[tactic(auto, using(doc_files::proofs::Blame::blamed_last))]
