@@ -9,14 +9,15 @@ use std::alloc::{AllocError, Global};
 use std::process::Command;
 
 /// The command of a job: its program with the platform folder and the plan file as arguments, in its folder, with
-/// exactly its environment (buildpack.md, "Detection"). Its standard input is for the caller to give, and it inherits the
-/// two outputs.
+/// exactly its environment (buildpack.md, "Detection"). Its standard input is for the caller to give, and it inherits
+/// the two outputs.
 pub fn detect_command(alloc: Global, job: &DetectJob) -> Result<Command, AllocError>
     ensures program { IfOk result (λ command. command_program command ≡ job.now.program) }
     ensures args { IfOk result (λ command. command_args command ≡ job.now.platform ∷ job.now.plan ∷ []) }
     ensures dir { IfOk result (λ command. command_dir command ≡ Some job.now.dir) }
     ensures clears { IfOk result (λ command. clears_env command ≡ true) }
-    ensures vars { IfOk result (λ command. (name : Seq ℕ) → command_var command name ≡ option_map Some (value_of job.now.env name)) }
+    ensures vars { IfOk result (λ command. (name : Seq ℕ)
+        → command_var command name ≡ option_map Some (value_of job.now.env name)) }
 {
     let mut command = Command::new(alloc, job.program.as_str())?;
     command.arg(job.platform.as_str())?;
@@ -32,7 +33,8 @@ pub fn child_command(alloc: Global, job: &ChildJob) -> Result<Command, AllocErro
     ensures args { IfOk result (λ command. command_args command ≡ job.now.args) }
     ensures dir { IfOk result (λ command. command_dir command ≡ Some job.now.dir) }
     ensures clears { IfOk result (λ command. clears_env command ≡ true) }
-    ensures vars { IfOk result (λ command. (name : Seq ℕ) → command_var command name ≡ option_map Some (value_of job.now.env name)) }
+    ensures vars { IfOk result (λ command. (name : Seq ℕ)
+        → command_var command name ≡ option_map Some (value_of job.now.env name)) }
 {
     let mut command = Command::new(alloc, job.program.as_str())?;
     add_arguments(&mut command, job.args.as_slice())?;
@@ -57,7 +59,8 @@ fn set_surroundings(command: &mut Command, dir: &Path, env: &Env) -> Result<(), 
     ensures call { OnOk result (SameProgramAndArgs command.old command.new) }
     ensures dir { OnOk result (command_dir command.new ≡ Some dir.now) }
     ensures clears { OnOk result (clears_env command.new ≡ true) }
-    ensures vars { OnOk result ((name : Seq ℕ) → command_var command.new name ≡ option_map Some (value_of env.now name)) }
+    ensures vars { OnOk result ((name : Seq ℕ)
+        → command_var command.new name ≡ option_map Some (value_of env.now name)) }
 {
     command.current_dir(dir.as_str())?;
     command.env_clear();
@@ -68,7 +71,8 @@ fn set_surroundings(command: &mut Command, dir: &Path, env: &Env) -> Result<(), 
 // From the last variable to the first.
 fn set_variables(command: &mut Command, env: &Env) -> Result<(), AllocError>
     requires { (name : Seq ℕ) → command_var command.old name ≡ None }
-    ensures vars { OnOk result ((name : Seq ℕ) → command_var command.new name ≡ option_map Some (value_of env.now name)) }
+    ensures vars { OnOk result ((name : Seq ℕ)
+        → command_var command.new name ≡ option_map Some (value_of env.now name)) }
     ensures call { OnOk result (SameProgramAndArgs command.old command.new) }
     ensures dir { OnOk result (SameDir command.old command.new) }
     ensures clears { OnOk result (clears_env command.new ≡ clears_env command.old) }
@@ -80,7 +84,9 @@ fn set_variables(command: &mut Command, env: &Env) -> Result<(), AllocError>
 }
 
 fn set_variable(command: &mut Command, name: &str, value: &str) -> Result<(), AllocError>
-    ensures vars { OnOk result ((other : Seq ℕ) → command_var command.new other ≡ (if bytes_eq name.now other then Some (Some value.now) else command_var command.old other)) }
+    ensures vars { OnOk result ((other : Seq ℕ)
+        → command_var command.new other
+        ≡ (if bytes_eq name.now other then Some (Some value.now) else command_var command.old other)) }
     ensures call { OnOk result (SameProgramAndArgs command.old command.new) }
     ensures dir { OnOk result (SameDir command.old command.new) }
     ensures clears { OnOk result (clears_env command.new ≡ clears_env command.old) }

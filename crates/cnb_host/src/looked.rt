@@ -1,7 +1,7 @@
 // The regular file that was looked at last.
 //
-// A file is looked at and then read, by calls that follow one another. What the system said of it is kept, so that reading it
-// need not look again: the file is opened, and compared with what was looked at.
+// A file is looked at and then read, by calls that follow one another. What the system said of it is kept, so that
+// reading it need not look again: the file is opened, and compared with what was looked at.
 ghost use Rattle.std.specs.Prelude.{◌≤◌, IfOk, length};
 
 use crate::fault::HostFault;

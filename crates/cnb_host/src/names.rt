@@ -74,7 +74,8 @@ fn are_names(names: &[Text]) -> bool
 
 fn is_before_next(names: &[Text], at: usize) -> bool
     requires { at < length names.now }
-    ensures { IsTrue result → at + 1 < length names.now → slice_cmp nat_cmp (slice_index_or names.now at []) (slice_index_or names.now (at + 1) []) ≡ Less }
+    ensures { IsTrue result → at + 1 < length names.now
+        → slice_cmp nat_cmp (slice_index_or names.now at []) (slice_index_or names.now (at + 1) []) ≡ Less }
 {
     at + 1 == names.len() || names[at].as_str() < names[at + 1].as_str()
 }

@@ -5,13 +5,13 @@ ghost use Rattle.std.specs.Prelude.{◌≤◌, IfOk, length};
 
 use crate::fault::HostFault;
 use crate::files::{fresh_file, make_folders, read_unless_empty};
-use cnb_world::{Bytes, Path, Text, parent_text};
+use cnb_world::{Bytes, LONGEST_DOCUMENT, Path, Text, parent_text};
 use std::alloc::Global;
 use std::os::unix::fs::FileExt;
 use std::rt::Files;
 
 /// The most that is read of a plan file: one byte more than a document may have.
-const PLAN_MAX: u64 = 1048577;
+const PLAN_MAX: u64 = LONGEST_DOCUMENT as u64 + 1;
 
 /// The folder of the plan file that was made last, where there is one.
 #[derive(Drop)]

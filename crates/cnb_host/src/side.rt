@@ -1,12 +1,12 @@
 // Children whose descriptor 3 is kept.
 //
-// std gives a child its standard input and its two outputs alone. So a shell stands between: it has the writing end of a
-// pipe as its standard input, makes that its descriptor 3, and runs `env` in its place, which runs the program with
+// std gives a child its standard input and its two outputs alone. So a shell stands between: it has the writing end of
+// a pipe as its standard input, makes that its descriptor 3, and runs `env` in its place, which runs the program with
 // exactly the variables that it is handed (a shell itself adds some, and drops names that are no identifiers).
 //
-// A program that can't be started must be told from one that ends with 126 or 127. So it is looked at before, here and by
-// the shell, which writes a byte before it runs anything. Not told apart is a program for the machine whose own loader is
-// missing.
+// A program that can't be started must be told from one that ends with 126 or 127. So it is looked at before, here and
+// by the shell, which writes a byte before it runs anything. Not told apart is a program for the machine whose own
+// loader is missing.
 ghost use Rattle.std.specs.Prelude.{◌≡◌, ◌≤◌, ◌-◌, ◌++◌, ◌∷◌, [], IfOk, OnOk, OnErr, Some, codes, length, map, take, true, vec_len};
 ghost use Rattle.std.specs.List.{list_any};
 ghost use Rattle.std.specs.Process.{clears_env, command_args, command_dir, command_program};
@@ -15,7 +15,7 @@ ghost use Rattle.cnb_host.specs.Side.{assignment, env_words, has_equals, program
 use crate::command::add_arguments;
 use crate::fault::HostFault;
 use crate::files::read_part;
-use cnb_world::{Bytes, ChildJob, End, Env, List, Memory, Text};
+use cnb_world::{Bytes, ChildJob, End, Env, LONGEST_DOCUMENT, List, Memory, Text};
 use std::alloc::{AllocError, Global};
 use std::fs;
 use std::io::{self, ErrorKind, PipeReader, PipeWriter, Read};
@@ -31,7 +31,7 @@ const SCRIPT: &str =
 const TOOLS: &str = "/usr/local/sbin:/usr/local/bin:/usr/sbin:/usr/bin:/sbin:/bin";
 
 /// The most that is kept: one byte more than an output may have.
-const SIDE_MAX: usize = 1048577;
+const SIDE_MAX: usize = LONGEST_DOCUMENT + 1;
 
 fn has_equals(program: &[u8]) -> bool
     ensures { result ≡ has_equals program.now }
@@ -98,8 +98,8 @@ fn side_words(alloc: Global, job: &ChildJob) -> Result<List<Text>, Memory>
     Ok(words)
 }
 
-// The command of a job, behind a shell that makes the pipe descriptor 3. It inherits the two outputs, and the program has
-// no standard input.
+// The command of a job, behind a shell that makes the pipe descriptor 3. It inherits the two outputs, and the program
+// has no standard input.
 fn side_command(alloc: Global, job: &ChildJob, side: PipeWriter) -> Result<Command, HostFault>
     ensures program { IfOk result (λ command. command_program command ≡ codes "/bin/sh") }
     ensures args { IfOk result (λ command. command_args command ≡ side_words SCRIPT.now job.now) }

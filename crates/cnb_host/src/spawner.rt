@@ -13,8 +13,8 @@ use std::os::unix::fs::FileExt;
 use std::process::{Processes, Stdio};
 use std::rt::Files;
 
-/// A spawner that runs each detect child as a program, waits for it, and keeps the list of those that ended. Contracts see
-/// it as that list and the count of the children that gave no answer.
+/// A spawner that runs each detect child as a program, waits for it, and keeps the list of those that ended. Contracts
+/// see it as that list and the count of the children that gave no answer.
 ///
 /// The empty file that children have as standard input is opened for the first of them, and stays open.
 #[derive(Drop)]
@@ -68,7 +68,8 @@ impl<R: Files + Processes + AllocGlobal + Drop> HostSpawner<R> {
     fn run_job(&mut self, job: &DetectJob) -> Result<Probed, HostFault>
     where
         R::File: FileExt + Into<Stdio>,
-        ensures ok { IfOk result (λ probed. self.new.runs ≡ self.old.runs ++ record { job = job.now; probed = probed } ∷ []) }
+        ensures ok { IfOk result (λ probed. self.new.runs
+            ≡ self.old.runs ++ record { job = job.now; probed = probed } ∷ []) }
         ensures bound { IfOk result (λ probed. length probed.plan ≤ 1048577) }
         ensures err { OnErr result (self.new.runs ≡ self.old.runs) }
         ensures faults { self.new.faults ≡ self.old.faults }
