@@ -10,7 +10,8 @@ use Rattle.cnb_world.specs.Tree.{Tree, item_at, is_root, folder_made}
 use Rattle.cnb_world.specs.Whole.{Progress, Unbegun, FolderMade, PartBeside, written, left_of}
 use Rattle.cnb_world.proofs.Joins.{parent_of_file}
 use Rattle.cnb_world.proofs.Trees.{get-insert_bytes, get-remove_bytes, get-insert_same, get-insert_other, bytes_eq-other}
-use Rattle.cnb_world.proofs.Folders.{get-folder_made_longer, not_longer}
+use Rattle.cnb_world.proofs.Folders.{get-folder_made_longer}
+use Rattle.doc_files.proofs.Written.{long_by, longer, no_root}
 use Rattle.steps.specs.Frames.{standing, IsOldOrNew}
 use Rattle.steps.specs.Steps.{LeavesSome}
 use Rattle.cnb_detect.specs.Documents.{group_document, plan_document}
@@ -32,15 +33,6 @@ length_below work name some = by (bytes_eq work (47 ∷ []))
     by true = omega (arith, some, length-append work name)
     by false = omega (arith, some, length-append (work ++ 47 ∷ []) name, length-append work (47 ∷ []))
 
-no_root : (p : List ℕ) → 1 < length p → is_root p ≡ false
-no_root p h = not_longer p (47 ∷ []) h
-
-long_by : (work name : List ℕ) → 1 < length name → 1 < length (joined work name)
-long_by work name h = omega (arith, length-append (cond (bytes_eq work (47 ∷ [])) work (work ++ 47 ∷ [])) name)
-
-pub no_root_below : (work name : List ℕ) → 1 < length name → is_root (joined work name) ≡ false
-no_root_below work name h = no_root (joined work name) (long_by work name h)
-
 pub apart : (work : List ℕ) → is_path work ≡ true → AreApart work (group_document work) (plan_document work)
 apart work path = by (bytes_eq work (47 ∷ [])) refl
   where
@@ -57,9 +49,6 @@ apart work path = by (bytes_eq work (47 ∷ [])) refl
       plan_long = long_by work (codes "plan.toml") (omega arith);
       other = lengths (bytes_eq work (47 ∷ []));
     }
-
-pub longer : (p : List ℕ) → length (beside p) ≡ length p + 4
-longer p = length-append p (46 ∷ 110 ∷ 101 ∷ 119 ∷ [])
 
 pub unlike : (q p : List ℕ) → (length q ≡ length p → ⊥) → bytes_eq q p ≡ false
 unlike q p h = bytes_eq-other q p (λ e. h (ap length e))

@@ -15,7 +15,8 @@ use Rattle.cnb_world.specs.Whole.{written, can_write}
 use Rattle.cnb_world.proofs.Trees.{get-insert_other, get-remove_bytes}
 use Rattle.cnb_world.proofs.Folders.{get-with_folders}
 use Rattle.cnb_detect.specs.Documents.{group_document, plan_document, can_write_choice}
-use Rattle.cnb_detect.proofs.DocumentLemmas.{AreApart, apart, longer, unlike, written_other}
+use Rattle.doc_files.proofs.Written.{longer}
+use Rattle.cnb_detect.proofs.DocumentLemmas.{AreApart, apart, unlike, written_other}
 
 -- a folder or nothing
 abbrev fits : Option Item → Bool

@@ -46,6 +46,7 @@ pub fn detect<W: World, S: Spawner + Send, R: Threads + Sync>(
         (faults_of (spawners_seen S.Spawner spawners.old.items))
         (faults_of (spawners_seen S.Spawner spawners.new.items)) }
 {
+    // The proof takes from this call what each path keeps to.
     let _work = options.work.as_str();
     let chosen = choose_group(rt, alloc, options, env, world, spawners)?;
     let text = choice_text(alloc, &chosen.group, chosen.plan.as_slice().len())?;

@@ -1,10 +1,24 @@
 // The refusals that the faults of the steps come to.
 use crate::refusal::DetectRefusal;
-use cnb_world::{LimitKind, Memory};
+use cnb_world::{LimitKind, Memory, Path};
 use detect_core::DetectEnd;
-use doc_files::ReadFault;
+use doc_files::{FileRefusal, ReadFault};
 use order_expand::OrderFault;
 use std::alloc::AllocError;
+
+impl FileRefusal for DetectRefusal {
+    ghost use Rattle.cnb_detect.specs.Refusals.{cause_of};
+
+    ghost cause = { cause_of };
+
+    fn file(path: Path) -> Self {
+        DetectRefusal::File(path)
+    }
+
+    fn memory() -> Self {
+        DetectRefusal::Memory
+    }
+}
 
 impl From<Memory> for DetectRefusal {
     ghost use Rattle.std.specs.Prelude.{◌≡◌};
