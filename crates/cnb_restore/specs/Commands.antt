@@ -1,6 +1,5 @@
 -- What the commands `analyze` and `restore` do, in the order of their work (platform.md, "analyzer", "restorer").
-use Rattle.std.specs.Prelude.{ℕ, ◌≡◌, List, [], ◌∷◌, codes, Option, Some, None, Result, Ok, Err, IsTrue, if◌then◌else◌}
-use Rattle.std.specs.Str.{bytes_eq}
+use Rattle.std.specs.Prelude.{ℕ, ◌≡◌, List, codes, Option, Some, None, Result, Ok, Err, IsTrue}
 use Rattle.cnb_toml.specs.declared.fault.DocFault.TheVariants.{Absent}
 use Rattle.cnb_words.specs.declared.analyze.AnalyzeWords.{AnalyzeWords}
 use Rattle.cnb_words.specs.declared.restore.RestoreWords.{RestoreWords}
@@ -8,7 +7,7 @@ use Rattle.cnb_world.specs.Path.{joined}
 use Rattle.cnb_world.specs.Tree.{Tree}
 use Rattle.image_docs.specs.Analyzed.{analyzed_in, is_analyzed, table_in}
 use Rattle.image_docs.specs.declared.analyzed.Analyzed.{Analyzed}
-use Rattle.run_docs.specs.Group.{rows_in}
+use Rattle.run_docs.specs.Group.{foreign_among, rows_in}
 use Rattle.run_docs.specs.declared.group.GroupRow.{GroupRow}
 use Rattle.shelf_set.specs.Caches.{WorldAndCaches, in_world}
 use Rattle.steps.specs.Causes.{Cause, Decided}
@@ -65,10 +64,13 @@ abbrev pub reads_at : {A : Type 0} → (List ℕ → Tree → Result A RestoreFa
     → Seen → Type 0
 reads_at said path = reads cause_of (is_fit_document path) (said path)
 
+abbrev pub served_unless : Option GroupRow → Result (Unit {0}) RestoreRefusal
+served_unless None = Ok tt
+served_unless (Some row) = Err (BuildpackApi row.api)
+
 -- a group of which each buildpack has the Buildpack API that is served; else the first that has another decides
 abbrev pub served : List GroupRow → Result (Unit {0}) RestoreRefusal
-served [] = Ok tt
-served (row ∷ rows) = if bytes_eq row.api (codes "0.10") then served rows else Err (BuildpackApi row.api)
+served group = served_unless (foreign_among group)
 
 -- `restore`: what was analyzed and the group are read, the layers are restored, and the text is made
 unfoldable pub restores_command : RestoreWords → WorldAndCaches → Result (List ℕ) RestoreRefusal → WorldAndCaches

@@ -9,10 +9,10 @@ ghost use Rattle.cnb_restore.specs.Faults.{cause_of};
 
 use crate::analysis::analyze;
 use crate::fault::RestoreFault;
-use crate::folders::write_document;
 use crate::report::analyzed_text;
 use cnb_words::AnalyzeWords;
 use cnb_world::{Bytes, Memory, Path, Text, World};
+use doc_files::write_document;
 use image_docs::{Analyzed, write_analyzed};
 use std::alloc::Global;
 
@@ -36,7 +36,7 @@ pub fn write_analyzed_document<W: World>(
     ensures children { W.child_faults world.new ≡ W.child_faults world.old }
 {
     let bytes = analyzed_bytes(alloc, analyzed)?;
-    write_document(alloc, world, work, "analyzed.toml", bytes.as_slice())?;
+    write_document::<W, RestoreFault>(alloc, world, work, "analyzed.toml", bytes.as_slice())?;
     Ok(())
 }
 

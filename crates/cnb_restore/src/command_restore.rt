@@ -21,7 +21,7 @@ use cnb_words::RestoreWords;
 use cnb_world::{List, Memory, Path, Shelf, Text, World};
 use image_docs::Analyzed;
 use image_files::find_document;
-use run_docs::{Group, GroupDoc, GroupRow};
+use run_docs::{GroupDoc, GroupRow, GroupTable, foreign_among};
 use shelf_set::Shelves;
 use std::alloc::Global;
 
@@ -64,7 +64,7 @@ fn read_group<W: World>(alloc: Global, world: &mut W, work: &Path) -> Result<Gro
     ensures children { W.child_faults world.new ≡ W.child_faults world.old }
 {
     let path = work_document(alloc, work, "group.toml")?;
-    let found = find_document::<W, Group>(alloc, world, &path)?;
+    let found = find_document::<W, GroupTable>(alloc, world, &path)?;
     let group = needed(alloc, &path, found)?;
     Ok(group)
 }
@@ -75,12 +75,10 @@ fn served(alloc: Global, group: &[GroupRow]) -> Result<(), RestoreRefusal>
     ensures cause { IfErr result (λ refusal. IsGivenCause (refusal_cause refusal)) }
     ensures files { (n : ℕ) → CountsFiles refusal_cause result n n }
 {
-    for row in group {
-        if row.api.as_str() != "0.10" {
-            return Err(RestoreRefusal::BuildpackApi(row.api.copy(alloc)?));
-        }
+    match foreign_among(group) {
+        Some(row) => Err(RestoreRefusal::BuildpackApi(row.api.copy(alloc)?)),
+        None => Ok(()),
     }
-    Ok(())
 }
 
 /// Restores what the buildpacks of the chosen group left the last time, and gives the text to be printed (platform.md,

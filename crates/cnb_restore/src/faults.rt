@@ -1,7 +1,21 @@
 // The faults that those of the steps come to.
 use crate::fault::RestoreFault;
-use cnb_world::Memory;
-use doc_files::ReadFault;
+use cnb_world::{Memory, Path};
+use doc_files::{FileRefusal, ReadFault};
+
+impl FileRefusal for RestoreFault {
+    ghost use Rattle.cnb_restore.specs.Faults.{cause_of};
+
+    ghost cause = { cause_of };
+
+    fn file(path: Path) -> Self {
+        RestoreFault::File(path)
+    }
+
+    fn memory() -> Self {
+        RestoreFault::Memory
+    }
+}
 
 impl From<Memory> for RestoreFault {
     ghost use Rattle.std.specs.Prelude.{◌≡◌};

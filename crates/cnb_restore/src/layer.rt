@@ -8,10 +8,10 @@ ghost use Rattle.cnb_restore.specs.Faults.{cause_of, of_laying_fault};
 ghost use Rattle.cnb_restore.specs.Layers.{ReadsAsLayer, ReadsAsStore, lays_contents, writes_layer, writes_store};
 
 use crate::fault::RestoreFault;
-use crate::folders::write_document;
 use crate::paths::document_name;
 use cnb_toml::Meta;
 use cnb_world::{Bytes, Memory, Path, PathFault, World};
+use doc_files::write_document;
 use image_docs::{LayerRow, StoreRow};
 use layer_paths::contents_path;
 use run_docs::{LayerDoc, StoreToml, write_layer, write_store};
@@ -54,7 +54,7 @@ pub(crate) fn write_layer_document<W: World>(
 {
     let bytes = layer_bytes(alloc, &row.meta)?;
     let name = document_name(alloc, row.layer.as_str())?;
-    write_document(alloc, world, folder, name.as_str(), bytes.as_slice())?;
+    write_document::<W, RestoreFault>(alloc, world, folder, name.as_str(), bytes.as_slice())?;
     Ok(())
 }
 
@@ -70,7 +70,7 @@ fn write_kept<W: World>(
     ensures children { W.child_faults world.new ≡ W.child_faults world.old }
 {
     let bytes = store_bytes(alloc, &row.meta)?;
-    write_document(alloc, world, folder, "store.toml", bytes.as_slice())?;
+    write_document::<W, RestoreFault>(alloc, world, folder, "store.toml", bytes.as_slice())?;
     Ok(())
 }
 

@@ -23,7 +23,7 @@ pub(crate) fn document_name(alloc: Global, name: &str) -> Result<Text, Memory>
 }
 
 /// A document of the work folder.
-#[tactic(auto, using(image_files::proofs::PathLemmas::length_joined, image_files::proofs::PathLemmas::part_within))]
+#[tactic(auto, using(cnb_world::proofs::Lengths::length_joined, cnb_world::proofs::Lengths::part_within))]
 pub(crate) fn work_document(alloc: Global, work: &Path, name: &str) -> Result<Path, Memory>
     requires short { length work.now ≤ 4096 }
     requires part { IsTrue (is_part name.now) }
