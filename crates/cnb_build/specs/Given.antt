@@ -1,7 +1,5 @@
 -- What a build is given by files (platform.md, "builder").
-use Rattle.std.specs.Prelude.{ℕ, Bool, not, List, codes, Option, Some, None, Result, Ok, Err}
-use Rattle.std.specs.List.{find}
-use Rattle.std.specs.Str.{bytes_eq}
+use Rattle.std.specs.Prelude.{ℕ, List, codes, Option, Some, None, Result, Ok, Err}
 use Rattle.cnb_world.specs.Path.{joined}
 use Rattle.cnb_world.specs.declared.env.Variable.{Variable}
 use Rattle.cnb_toml.specs.declared.fault.DocFault.{DocFault}
@@ -9,7 +7,7 @@ use Rattle.cnb_toml.specs.declared.fault.DocFault.TheVariants.{Absent}
 use Rattle.cnb_words.specs.declared.build.BuildWords.{BuildWords}
 use Rattle.cnb_env.specs.Files.{is_fit_platform, platform_files_in}
 use Rattle.cnb_env.specs.declared.files.EnvFile.{EnvFile}
-use Rattle.run_docs.specs.Group.{group_in}
+use Rattle.run_docs.specs.Group.{foreign_among, group_in}
 use Rattle.run_docs.specs.Plan.{plan_in}
 use Rattle.run_docs.specs.declared.group.GroupRow.{GroupRow}
 use Rattle.steps.specs.Outside.{Seen}
@@ -47,13 +45,6 @@ unfoldable pub reads_needed : {A : Type 0} → (List ℕ → Result A DocFault) 
 reads_needed form path = do
   found ← reads_document path
   gives cause_of (needed form path found)
-
-abbrev pub has_known_api : GroupRow → Bool
-has_known_api row = bytes_eq row.api (codes "0.10")
-
--- the first buildpack of another Buildpack API
-abbrev pub foreign_among : List GroupRow → Option GroupRow
-foreign_among group = find (λ row. not (has_known_api row)) group
 
 abbrev pub known_unless : Option GroupRow → Result (Unit {0}) BuildFault
 known_unless None = Ok tt

@@ -9,15 +9,15 @@ use Rattle.cnb_build.specs.declared.frame.BuildFrame.{BuildFrame}
 use Rattle.cnb_build.specs.declared.places.Places.{Places}
 
 -- the file of its Buildpack Plan
-abbrev pub plan_path : BuildFrame → Key → List ℕ
-plan_path frame key = joined (joined frame.work (codes "plans")) (plan_name_of key)
+abbrev pub buildpack_plan_path : BuildFrame → Key → List ℕ
+buildpack_plan_path frame key = joined (joined frame.work (codes "plans")) (plan_name_of key)
 
 abbrev pub places_of : BuildFrame → Key → Places
 places_of frame key = record {
   buildpack = buildpack_folder frame.buildpacks key;
   descriptor = joined (buildpack_folder frame.buildpacks key) (codes "buildpack.toml");
   layers = layers_folder frame.layers key.id;
-  plan = plan_path frame key;
+  plan = buildpack_plan_path frame key;
   unmet = joined (layers_folder frame.layers key.id) (codes "build.toml");
   launch = joined (layers_folder frame.layers key.id) (codes "launch.toml");
   store = joined (layers_folder frame.layers key.id) (codes "store.toml");

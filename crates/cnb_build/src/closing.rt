@@ -11,8 +11,9 @@ ghost use Rattle.cnb_build.specs.Refusals.{cause_of};
 use crate::fault::BuildFault;
 use crate::places::Places;
 use crate::plan::pending_after;
-use crate::reading::{bytes_of, read_document, value_at};
+use crate::reading::{read_document, value_at};
 use cnb_world::{Path, World};
+use doc_files::bytes_of;
 use run_docs::{BuildToml, GroupRow, PlanDoc, read_build};
 use std::alloc::Global;
 
@@ -26,7 +27,8 @@ fn read_unmet<W: World>(alloc: Global, world: &mut W, path: &Path) -> Result<Bui
     Ok(unmet)
 }
 
-/// Closes the entries of a buildpack's plan, but for what `build.toml` leaves unmet: the entries that are still pending.
+/// Closes the entries of a buildpack's plan, but for what `build.toml` leaves unmet: the entries that are still
+/// pending.
 pub(crate) fn close<W: World>(
     alloc: Global,
     world: &mut W,

@@ -1,13 +1,12 @@
 // What a build is given by files.
 ghost use Rattle.std.specs.Prelude.{◌≡◌, ◌≤◌, ℕ, IfErr, IfOk, IsTrue, length};
-ghost use Rattle.std.specs.Option.{option_copied};
 ghost use Rattle.cnb_words.specs.Build.{KeepsLimits as WithinLimits};
 ghost use Rattle.cnb_env.specs.Files.{is_fit_platform, platform_files_in};
 ghost use Rattle.run_docs.specs.Group.{group_in};
 ghost use Rattle.run_docs.specs.Plan.{is_plan_doc, plan_in};
 ghost use Rattle.steps.specs.Causes.{CountsChildren, CountsFiles, IsAnswer, IsGivenCause};
 ghost use Rattle.steps.specs.Outside.{seen};
-ghost use Rattle.cnb_build.specs.Given.{documents_of, foreign_among, frame_of, has_known_api, known_apis, needed, reads_given, reads_needed};
+ghost use Rattle.cnb_build.specs.Given.{documents_of, frame_of, known_apis, needed, reads_given, reads_needed};
 ghost use Rattle.cnb_build.specs.Places.{KeepsLimits};
 ghost use Rattle.cnb_build.specs.Reading.{reads_files};
 ghost use Rattle.cnb_build.specs.Refusals.{cause_of};
@@ -19,7 +18,7 @@ use cnb_env::{EnvFile, platform_files};
 use cnb_toml::DocFault;
 use cnb_words::BuildWords;
 use cnb_world::{Bytes, Env, List, Memory, Path, World};
-use run_docs::{GroupDoc, GroupRow, PlanDoc, read_group, read_plan};
+use run_docs::{GroupDoc, PlanDoc, foreign_among, read_group, read_plan};
 use std::alloc::Global;
 
 /// The chosen group, its plan, and what all builds have in common.
@@ -96,18 +95,6 @@ fn read_plan_at<W: World>(alloc: Global, world: &mut W, path: &Path) -> Result<P
     let found = read_document(alloc, world, path)?;
     let plan = plan_of(alloc, path, found)?;
     Ok(plan)
-}
-
-fn has_known_api(row: &GroupRow) -> bool
-    ensures { result ≡ has_known_api row.now }
-{
-    row.api.as_str() == "0.10"
-}
-
-fn foreign_among(group: &[GroupRow]) -> Option<&GroupRow>
-    ensures { option_copied result ≡ foreign_among group.now }
-{
-    group.iter().find(|row| !has_known_api(row))
 }
 
 // Refuses a group that has a buildpack of another Buildpack API.

@@ -158,7 +158,8 @@ fn read_each<W: World>(
     layers: &[LayerName],
 ) -> Result<LayerSet, BuildFault>
     requires { length folder.now ≤ 4352 }
-    ensures step { for_each (reads_layer folder.now) layers.now [] (seen W.World world.old) result (seen W.World world.new) }
+    ensures step { for_each (reads_layer folder.now) layers.now [] (seen W.World world.old) result
+        (seen W.World world.new) }
     ensures files { CountsFiles cause_of result (W.file_faults world.old) (W.file_faults world.new) }
     ensures children { CountsChildren cause_of result (W.child_faults world.old) (W.child_faults world.new) }
     ensures short { IfOk result AreShort }

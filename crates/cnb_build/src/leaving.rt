@@ -13,9 +13,10 @@ ghost use Rattle.cnb_build.specs.Refusals.{cause_of};
 use crate::fault::BuildFault;
 use crate::layers::read_layers;
 use crate::places::Places;
-use crate::reading::{bytes_of, read_document, value_at};
+use crate::reading::{read_document, value_at};
 use cnb_env::LayerSet;
 use cnb_world::{Path, World};
+use doc_files::bytes_of;
 use run_docs::{LaunchToml, StoreToml, read_launch, read_store};
 use std::alloc::Global;
 

@@ -2,7 +2,7 @@
 ghost use Rattle.std.specs.Prelude.{◌≡◌, IfOk, IsTrue, false};
 ghost use Rattle.cnb_world.specs.Path.{beside, is_path};
 ghost use Rattle.cnb_world.specs.Tree.{is_root};
-ghost use Rattle.cnb_build.specs.Places.{HasRoom, KeepsLimits, places_of, plan_path};
+ghost use Rattle.cnb_build.specs.Places.{HasRoom, KeepsLimits, places_of, buildpack_plan_path};
 
 use crate::frame::BuildFrame;
 use cnb_env::{buildpack_folder, plan_name};
@@ -25,9 +25,9 @@ pub(crate) struct Places {
 }
 
 #[tactic(auto, using(crate::proofs::PlaceLemmas::beside_plan, crate::proofs::PlaceLemmas::no_root, cnb_world::proofs::Lengths::length_joined))]
-fn plan_path(alloc: Global, frame: &BuildFrame, key: &Key) -> Result<Path, Memory>
+fn buildpack_plan_path(alloc: Global, frame: &BuildFrame, key: &Key) -> Result<Path, Memory>
     requires { KeepsLimits frame.now }
-    ensures path { IfOk result (λ path. path ≡ plan_path frame.now key.now) }
+    ensures path { IfOk result (λ path. path ≡ buildpack_plan_path frame.now key.now) }
     ensures beside { IfOk result (λ path. IsTrue (is_path (beside path))) }
     ensures not_root { IfOk result (λ path. is_root path ≡ false) }
 {
@@ -44,7 +44,7 @@ pub(crate) fn places_of(alloc: Global, frame: &BuildFrame, key: &Key) -> Result<
 {
     let buildpack = buildpack_folder(alloc, &frame.buildpacks, key)?;
     let layers = layers_folder(alloc, &frame.layers, &key.id)?;
-    let plan = plan_path(alloc, frame, key)?;
+    let plan = buildpack_plan_path(alloc, frame, key)?;
     Ok(Places {
         descriptor: buildpack.below(alloc, "buildpack.toml")?,
         unmet: layers.below(alloc, "build.toml")?,

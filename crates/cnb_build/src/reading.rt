@@ -1,5 +1,5 @@
 // Reading documents.
-ghost use Rattle.std.specs.Prelude.{◌≡◌, ℕ, IfErr, unwrap_or, []};
+ghost use Rattle.std.specs.Prelude.{◌≡◌, ℕ, IfErr};
 ghost use Rattle.steps.specs.Causes.{CountsChildren, CountsFiles, IsAnswer, IsGivenCause};
 ghost use Rattle.steps.specs.Outside.{seen};
 ghost use Rattle.cnb_build.specs.Reading.{reads_document, value_at};
@@ -22,16 +22,6 @@ pub(crate) fn read_document<W: World>(
 {
     let found = doc_files::read_document(alloc, world, path)?;
     Ok(found)
-}
-
-/// The bytes of a document, of which there are none where it isn't there.
-pub(crate) fn bytes_of(found: &Option<Bytes>) -> &[u8]
-    ensures { result.now ≡ unwrap_or found.now [] }
-{
-    match found {
-        Some(bytes) => bytes.as_slice(),
-        None => &[],
-    }
 }
 
 /// What the reader of a document answered, for the document at a path.
