@@ -14,7 +14,8 @@ use Rattle.steps.proofs.ReadingLaws.{where_map}
 use Rattle.tree_canon.specs.Spelling.{spelling_of}
 use Rattle.tree_canon.specs.declared.node.Node.{Node}
 use Rattle.tree_store.specs.Answers as stored
-use Rattle.tree_store.specs.Steps.{puts_folder, puts_tree, reads_tree}
+use Rattle.tree_store.specs.Reading.{tree_in}
+use Rattle.tree_store.specs.Steps.{LeavesFolder, PutsRead, folder_put, puts_folder, puts_tree, reads_tree}
 use Rattle.tree_store.specs.Store.{Keeps, Puts, tree_path, tree_put}
 use Rattle.tree_store.specs.declared.fault.StoreFault.{StoreFault}
 use Rattle.tree_store.specs.declared.fault.StoreFault.TheVariants.{OddFile, Limit, File, NoTree, Damaged, Clash, Memory}
@@ -156,6 +157,48 @@ pub decided_reads_tree : (path : List ℕ) → AreDecided stored.cause_of (reads
 unfolding reads_tree
 decided_reads_tree path = decided_reads stored.cause_of _ _
 
+-- ---- trees of folders that are put
+
+-- what putting answers goes by what reading the folder answers
+puts_read : (store path : List ℕ) (o : Option Tree) (t : Tree) (result : Result (List ℕ) StoreFault) → o ≡ Some t → IfSome o (λ files. PutsRead store (tree_in path files) files result) → PutsRead store (tree_in path t) t result
+puts_read store path o t result is h = subst (λ x. IfSome x (λ files. PutsRead store (tree_in path files) files result)) is h
+
+read_at : (path : List ℕ) (o : Option Tree) (t : Tree) (tree : Node) → o ≡ Some t → IfSome o (λ files. tree_in path files ≡ Ok tree) → tree_in path t ≡ Ok tree
+read_at path o t tree is h = subst (λ x. IfSome x (λ files. tree_in path files ≡ Ok tree)) is h
+
+puts_of : (store path : List ℕ) (t : Tree) (tree : Node) (result : Result (List ℕ) StoreFault) → tree_in path t ≡ Ok tree → PutsRead store (tree_in path t) t result → Puts store tree t result
+puts_of store path t tree result read h = subst (λ r. PutsRead store r t result) read h
+
+read_once : (path : List ℕ) (t : Tree) (one other : Node) → tree_in path t ≡ Ok one → tree_in path t ≡ Ok other → other ≡ one
+read_once path t one other h h' = cc
+
+refusals_alike : (want : Result (List ℕ) StoreFault) (fault other : StoreFault) → IsAnswer stored.cause_of (Err fault) want → IsAnswer stored.cause_of (Err other) want → WhereDecided (stored.cause_of fault) (WhereDecided (stored.cause_of other) (other ≡ fault))
+refusals_alike want fault other h h' = where_map (stored.cause_of fault) (want ≡ Err fault) (WhereDecided (stored.cause_of other) (other ≡ fault)) (λ e. where_map (stored.cause_of other) (want ≡ Err other) (other ≡ fault) (λ e'. cc) h') h
+
+-- two refusals over one reading
+refused_alike : (store : List ℕ) (t : Tree) (read : Result Node StoreFault) (fault other : StoreFault) → PutsRead store read t (Err fault) → PutsRead store read t (Err other) → WhereDecided (stored.cause_of fault) (WhereDecided (stored.cause_of other) (other ≡ fault))
+refused_alike store t (Ok tree) fault other h h' = refused_twice (sha256 (spelling_of tree)) (spelling_of tree) (item_at t (tree_path store (sha256 (spelling_of tree)))) fault other h h'
+refused_alike store t (Err refusal) fault other h h' = refusals_alike (Err refusal) fault other h h'
+
 pub decided_puts_folder : (store path : List ℕ) → AreDecided stored.cause_of (puts_folder store path)
 unfolding puts_folder
-decided_puts_folder store path = decided_bind stored.cause_of (reads_tree path) (puts_tree store) (decided_reads_tree path) (λ tree. decided_puts store tree)
+decided_puts_folder store path t old new old' new' (Ok one) (Ok other) is is' h h' = by h.leaves h'.leaves
+  where
+    by : LeavesFolder store path old (Ok one) new → LeavesFolder store path old' (Ok other) new' → (other ≡ one) × (u : Tree) × (new.files ≡ Some u) × (new'.files ≡ Some u)
+    by (tree, digest, read, files) (tree', digest', read', files') =
+        let same : tree' ≡ tree = read_once path t tree tree' (read_at path old.files t tree is read) (read_at path old'.files t tree' is' read') in
+        (digest' ∙ ap (λ node. sha256 (spelling_of node)) same ∙ sym digest, folder_put store tree t, files ∙ ap (option_map (folder_put store tree)) is, files' ∙ ap (λ node. option_map (folder_put store node) old'.files) same ∙ ap (option_map (folder_put store tree)) is')
+decided_puts_folder store path t old new old' new' (Ok one) (Err fault) is is' h h' = by h.leaves
+  where
+    by : LeavesFolder store path old (Ok one) new → WhereDecided (stored.cause_of fault) ⊥
+    by (tree, digest, read, files) =
+        let at : tree_in path t ≡ Ok tree = read_at path old.files t tree is read in
+        put_and_refused (sha256 (spelling_of tree)) (spelling_of tree) (item_at t (tree_path store (sha256 (spelling_of tree)))) fault (puts_of store path t tree (Ok one) at (puts_read store path old.files t (Ok one) is h.answer)) (puts_of store path t tree (Err fault) at (puts_read store path old'.files t (Err fault) is' h'.answer))
+decided_puts_folder store path t old new old' new' (Err fault) (Ok other) is is' h h' = by h'.leaves
+  where
+    by : LeavesFolder store path old' (Ok other) new' → WhereDecided (stored.cause_of fault) ⊥
+    by (tree, digest, read, files) =
+        let at : tree_in path t ≡ Ok tree = read_at path old'.files t tree is' read in
+        put_and_refused (sha256 (spelling_of tree)) (spelling_of tree) (item_at t (tree_path store (sha256 (spelling_of tree)))) fault (puts_of store path t tree (Ok other) at (puts_read store path old'.files t (Ok other) is' h'.answer)) (puts_of store path t tree (Err fault) at (puts_read store path old.files t (Err fault) is h.answer))
+decided_puts_folder store path t old new old' new' (Err fault) (Err other) is is' h h' =
+    refused_alike store t (tree_in path t) fault other (puts_read store path old.files t (Err fault) is h.answer) (puts_read store path old'.files t (Err other) is' h'.answer)

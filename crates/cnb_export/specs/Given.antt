@@ -1,13 +1,11 @@
 -- What `export` reads before its work (platform.md, "exporter").
-use Rattle.std.specs.Prelude.{ℕ, Bool, not, List, codes, Option, Some, None, Result, Ok, Err}
-use Rattle.std.specs.List.{find}
-use Rattle.std.specs.Str.{bytes_eq}
+use Rattle.std.specs.Prelude.{ℕ, List, codes, Option, Some, None, Result, Ok, Err}
 use Rattle.cnb_toml.specs.declared.fault.DocFault.{DocFault}
 use Rattle.cnb_toml.specs.declared.fault.DocFault.TheVariants.{Absent}
 use Rattle.cnb_words.specs.declared.export.ExportWords.{ExportWords}
 use Rattle.cnb_world.specs.Path.{joined}
 use Rattle.image_docs.specs.Analyzed.{analyzed_in}
-use Rattle.run_docs.specs.Group.{group_in}
+use Rattle.run_docs.specs.Group.{foreign_among, group_in}
 use Rattle.run_docs.specs.declared.group.GroupRow.{GroupRow}
 use Rattle.steps.specs.Causes.{Cause, Decided}
 use Rattle.steps.specs.Outside.{Seen}
@@ -38,13 +36,6 @@ reads_needed form folder name = do
   path ← gives cause_of (Ok (joined folder name))
   found ← reads_document path
   gives cause_of (needed_at form path found)
-
-abbrev pub has_served_api : GroupRow → Bool
-has_served_api row = bytes_eq row.api (codes "0.10")
-
--- the first buildpack of another Buildpack API
-abbrev pub foreign_among : List GroupRow → Option GroupRow
-foreign_among group = find (λ row. not (has_served_api row)) group
 
 abbrev pub served_unless : Option GroupRow → Result (Unit {0}) ExportRefusal
 served_unless None = Ok tt

@@ -142,7 +142,8 @@ fn export_documents<W: World>(
 ) -> Result<Gathered, ExportFault>
     requires folder { length folder.now ≤ 4352 }
     requires matched { AreMatched gathered }
-    ensures step { exports_documents folder.now id.now gathered (seen W.World world.old) result (seen W.World world.new) }
+    ensures step { exports_documents folder.now id.now gathered (seen W.World world.old) result
+        (seen W.World world.new) }
     ensures matched { IfOk result AreMatched }
     ensures files { CountsFiles cause_of result (W.file_faults world.old) (W.file_faults world.new) }
     ensures children { CountsChildren cause_of result (W.child_faults world.old) (W.child_faults world.new) }
@@ -243,7 +244,8 @@ pub(crate) fn export_group<W: World>(
     group: &[GroupRow],
 ) -> Result<Gathered, ExportFault>
     requires { KeepsLimits frame.now }
-    ensures step { exports_group frame.now previous.now group.now (seen W.World world.old) result (seen W.World world.new) }
+    ensures step { exports_group frame.now previous.now group.now (seen W.World world.old) result
+        (seen W.World world.new) }
     ensures matched { IfOk result AreMatched }
     ensures files { CountsFiles cause_of result (W.file_faults world.old) (W.file_faults world.new) }
     ensures children { CountsChildren cause_of result (W.child_faults world.old) (W.child_faults world.new) }

@@ -40,8 +40,8 @@ pub fn save_image<W: World>(
     Ok(())
 }
 
-/// Exports the image of the chosen group, and gives the text to be printed (platform.md, "exporter"). The image's document
-/// is written last. `places` has the numbers of the caches that stand, which are the first of the list.
+/// Exports the image of the chosen group, and gives the text to be printed (platform.md, "exporter"). The image's
+/// document is written last. `places` has the numbers of the caches that stand, which are the first of the list.
 pub fn export_command<W: World>(
     alloc: Global,
     options: &ExportWords,

@@ -101,7 +101,8 @@ pub fn export<W: World>(
         (world_and_caches (seen W.World world.new)
         (caches_of (map (λ s. state_of (held s) (rows s) (faults s)) shelves.new.items) places.new)) }
     ensures one_image { IsOneImage (is_group_doc group.now) frame.now group.now analyzed.now (W.tree world.old) result }
-    ensures readable { IsTrue (is_group_doc group.now) → IfOk result (λ exported. IsTrue (is_image_doc exported.image)) }
+    ensures readable { IsTrue (is_group_doc group.now)
+        → IfOk result (λ exported. IsTrue (is_image_doc exported.image)) }
     ensures again { AreStanding places.new (map (λ s. state_of (held s) (rows s) (faults s)) shelves.new.items) }
     ensures files { CountsFiles cause_of result (W.file_faults world.old) (W.file_faults world.new) }
     ensures children { CountsChildren cause_of result (W.child_faults world.old) (W.child_faults world.new) }

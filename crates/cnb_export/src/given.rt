@@ -1,13 +1,12 @@
 // What is exported.
 ghost use Rattle.std.specs.Prelude.{◌≡◌, ◌≤◌, ℕ, IfErr, IfOk, codes, length};
-ghost use Rattle.std.specs.Option.{option_copied};
 ghost use Rattle.cnb_words.specs.Export as words;
 ghost use Rattle.image_docs.specs.Analyzed.{analyzed_in};
 ghost use Rattle.run_docs.specs.Group.{group_in};
 ghost use Rattle.steps.specs.Causes.{CountsChildren, CountsFiles, IsAnswer, IsGivenCause};
 ghost use Rattle.steps.specs.Outside.{seen};
 ghost use Rattle.cnb_export.specs.Frame.{KeepsLimits};
-ghost use Rattle.cnb_export.specs.Given.{foreign_among, frame_of, has_served_api, needed_at, reads_given, reads_group, reads_needed, refusal_cause, served};
+ghost use Rattle.cnb_export.specs.Given.{frame_of, needed_at, reads_given, reads_group, reads_needed, refusal_cause, served};
 ghost use Rattle.cnb_export.specs.Refusals.{cause_of};
 
 use crate::exported::ExportFrame;
@@ -18,7 +17,7 @@ use cnb_toml::DocFault;
 use cnb_words::ExportWords;
 use cnb_world::{Bytes, Memory, Path, World};
 use image_docs::{Analyzed, read_analyzed};
-use run_docs::{GroupDoc, GroupRow, read_group};
+use run_docs::{GroupDoc, foreign_among, read_group};
 use std::alloc::Global;
 
 /// What is exported, and from where.
@@ -56,7 +55,8 @@ fn analyzed_at(alloc: Global, path: &Path, found: Option<Bytes>) -> Result<Analy
 // The chosen group.
 fn find_group<W: World>(alloc: Global, world: &mut W, work: &Path) -> Result<GroupDoc, ExportFault>
     requires { length work.now ≤ 4096 }
-    ensures step { reads_needed group_in work.now (codes "group.toml") (seen W.World world.old) result (seen W.World world.new) }
+    ensures step { reads_needed group_in work.now (codes "group.toml") (seen W.World world.old) result
+        (seen W.World world.new) }
     ensures files { CountsFiles cause_of result (W.file_faults world.old) (W.file_faults world.new) }
     ensures children { CountsChildren cause_of result (W.child_faults world.old) (W.child_faults world.new) }
 {
@@ -73,7 +73,8 @@ fn find_analyzed<W: World>(
     work: &Path,
 ) -> Result<Analyzed, ExportFault>
     requires { length work.now ≤ 4096 }
-    ensures step { reads_needed analyzed_in work.now (codes "analyzed.toml") (seen W.World world.old) result (seen W.World world.new) }
+    ensures step { reads_needed analyzed_in work.now (codes "analyzed.toml") (seen W.World world.old) result
+        (seen W.World world.new) }
     ensures files { CountsFiles cause_of result (W.file_faults world.old) (W.file_faults world.new) }
     ensures children { CountsChildren cause_of result (W.child_faults world.old) (W.child_faults world.new) }
 {
@@ -81,18 +82,6 @@ fn find_analyzed<W: World>(
     let found = read_document(alloc, world, &path)?;
     let analyzed = analyzed_at(alloc, &path, found)?;
     Ok(analyzed)
-}
-
-fn has_served_api(row: &GroupRow) -> bool
-    ensures { result ≡ has_served_api row.now }
-{
-    row.api.as_str() == "0.10"
-}
-
-fn foreign_among(group: &[GroupRow]) -> Option<&GroupRow>
-    ensures { option_copied result ≡ foreign_among group.now }
-{
-    group.iter().find(|row| !has_served_api(row))
 }
 
 // Whether the Buildpack API of each buildpack is served.

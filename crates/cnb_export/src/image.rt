@@ -105,7 +105,8 @@ fn provided_by(
     default: Option<&ProcType>,
 ) -> Result<Provided, Memory>
     ensures labels { IfOk result (λ all. all.labels ≡ last_of_each label_key gathered.now.labels) }
-    ensures launch { IfOk result (λ all. all.launch ≡ launch_of group.now gathered.now.processes (option_copied default.entry)) }
+    ensures launch { IfOk result (λ all. all.launch
+        ≡ launch_of group.now gathered.now.processes (option_copied default.entry)) }
     ensures layers { IfOk result (λ all. all.layers ≡ map layer_of gathered.now.layers) }
     ensures store { IfOk result (λ all. all.store ≡ gathered.now.store) }
 {

@@ -201,7 +201,8 @@ fn take_some<W: World>(
 ) -> Result<Option<LayerTree>, ExportFault>
     requires store { length store.now ≤ 4096 }
     requires path { length path.now ≤ 8192 }
-    ensures step { some_of (takes_tree store.now launch path.now) (seen W.World world.old) result (seen W.World world.new) }
+    ensures step { some_of (takes_tree store.now launch path.now) (seen W.World world.old) result
+        (seen W.World world.new) }
     ensures matched { IfOk result (λ found. IfSome found (λ tree. tree.digest ≡ digest_of_tree tree.tree)) }
     ensures files { CountsFiles cause_of result (W.file_faults world.old) (W.file_faults world.new) }
     ensures children { CountsChildren cause_of result (W.child_faults world.old) (W.child_faults world.new) }
@@ -250,7 +251,8 @@ fn take_contents<W: World>(
 ) -> Result<Option<LayerTree>, ExportFault>
     requires store { length store.now ≤ 4096 }
     requires path { length path.now ≤ 8192 }
-    ensures step { takes_contents store.now doc.now path.now there (seen W.World world.old) result (seen W.World world.new) }
+    ensures step { takes_contents store.now doc.now path.now there (seen W.World world.old) result
+        (seen W.World world.new) }
     ensures matched { IfOk result (λ found. IfSome found (λ tree. tree.digest ≡ digest_of_tree tree.tree)) }
     ensures files { CountsFiles cause_of result (W.file_faults world.old) (W.file_faults world.new) }
     ensures children { CountsChildren cause_of result (W.child_faults world.old) (W.child_faults world.new) }
@@ -302,7 +304,8 @@ fn find_some<W: World>(
 ) -> Result<Option<FoundLayer>, ExportFault>
     requires store { length store.now ≤ 4096 }
     requires folder { length folder.now ≤ 4352 }
-    ensures step { finds_some store.now folder.now layer.now doc (seen W.World world.old) result (seen W.World world.new) }
+    ensures step { finds_some store.now folder.now layer.now doc (seen W.World world.old) result
+        (seen W.World world.new) }
     ensures matched { IfOk result (λ found. IfSome found IsMatched) }
     ensures files { CountsFiles cause_of result (W.file_faults world.old) (W.file_faults world.new) }
     ensures children { CountsChildren cause_of result (W.child_faults world.old) (W.child_faults world.new) }

@@ -1,5 +1,5 @@
-//! The export of an image: what the buildpacks of a group left, the application and the launcher go into a store of trees
-//! and into caches, and the image that they make is answered.
+//! The export of an image: what the buildpacks of a group left, the application and the launcher go into a store of
+//! trees and into caches, and the image that they make is answered.
 #![tactic(auto)]
 
 mod ascending;

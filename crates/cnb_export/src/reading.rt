@@ -1,5 +1,5 @@
 // Reading documents.
-ghost use Rattle.std.specs.Prelude.{◌≡◌, ℕ, IfErr, unwrap_or, []};
+ghost use Rattle.std.specs.Prelude.{◌≡◌, ℕ, IfErr};
 ghost use Rattle.run_docs.specs.Launch.{launch_in};
 ghost use Rattle.run_docs.specs.Store.{store_in};
 ghost use Rattle.steps.specs.Causes.{CountsChildren, CountsFiles, IsAnswer, IsGivenCause};
@@ -10,7 +10,7 @@ ghost use Rattle.cnb_export.specs.Refusals.{cause_of};
 use crate::fault::ExportFault;
 use cnb_toml::DocFault;
 use cnb_world::{Bytes, Kind, Path, World};
-use doc_files::blamed;
+use doc_files::{blamed, bytes_of};
 use run_docs::{LaunchToml, StoreToml, read_launch, read_store};
 use std::alloc::Global;
 
@@ -43,15 +43,6 @@ pub(crate) fn read_document<W: World>(
 {
     let found = doc_files::read_document(alloc, world, path)?;
     Ok(found)
-}
-
-fn bytes_of(found: &Option<Bytes>) -> &[u8]
-    ensures { result.now ≡ unwrap_or found.now [] }
-{
-    match found {
-        Some(bytes) => bytes.as_slice(),
-        None => &[],
-    }
 }
 
 /// What the reader of a document answered, for the document at a path.

@@ -4,7 +4,8 @@ use cnb_world::{Memory, Text};
 use std::alloc::AllocError;
 use tree_store::StoreFault;
 
-/// Why `export` ends before its work is done: a buildpack of the group has another Buildpack API, or the export was refused.
+/// Why `export` ends before its work is done: a buildpack of the group has another Buildpack API, or the export was
+/// refused.
 #[derive(Drop)]
 pub enum ExportRefusal {
     BuildpackApi(Text),

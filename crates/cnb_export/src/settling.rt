@@ -18,8 +18,8 @@ use std::alloc::Global;
 use tree_canon::{Digest, Tree};
 use tree_store::{StoreFault, has};
 
-/// A layer that goes into the image, where `reused` says whether the previous image has the same, or into caches, with its
-/// tree.
+/// A layer that goes into the image, where `reused` says whether the previous image has the same, or into caches, with
+/// its tree.
 #[derive(Drop)]
 pub(crate) struct Kept {
     pub(crate) row: LayerRow,
