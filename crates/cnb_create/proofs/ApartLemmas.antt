@@ -221,7 +221,11 @@ module _ (folder path : List ℕ) (apart : are_apart folder path ≡ true) where
       by true is = absurd (either (within_so other path is))
       by false is = refl
 
-  -- so neither a folder that is made in it touches the path, nor a document that is written in it
+  -- so neither the folder where it is made touches the path, nor a folder that is made in it, nor a document that is written
+  -- in it
+  pub free_itself : is_free (folder_paths folder) path ≡ true
+  free_itself = none_free (folder_paths folder) path (λ h. not_around folder path apart (above_or_same path folder h))
+
   pub free_folder : (other : List ℕ) → Inside folder other → is_free (folder_paths other) path ≡ true
   free_folder other inside = none_free (folder_paths other) path (λ h. not_above other inside (above_or_same path other h))
 

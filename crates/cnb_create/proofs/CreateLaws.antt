@@ -15,7 +15,7 @@ use Rattle.cnb_world.proofs.Folders.{get-folder_made_longer, longer_beside, pare
 use Rattle.cnb_world.proofs.EffectLemmas.{same_path}
 use Rattle.cnb_build.specs.declared.frame.BuildFrame.{BuildFrame}
 use Rattle.cnb_build.specs.Outcome.{spares}
-use Rattle.cnb_build.specs.Places.{plan_path}
+use Rattle.cnb_build.specs.Places.{buildpack_plan_path}
 use Rattle.layer_paths.specs.Paths.{layers_folder}
 use Rattle.cnb_build.specs.Refusals as building
 use Rattle.cnb_build.proofs.KeepLaws.{keeps_builds}
@@ -45,7 +45,6 @@ use Rattle.steps.specs.Frames.{Keeps, is_free, standing, touched}
 use Rattle.steps.specs.Outside.{Seen}
 use Rattle.steps.specs.Steps.{LeavesSome, ◌>>=◌, gives, map_err, writes, yields}
 use Rattle.steps.proofs.FrameLaws.{Preserves, keeps_bind, keeps_gives, keeps_reads, keeps_same, keeps_told, keeps_writes, keeps_yields, step_at}
-use Rattle.tree_store.specs.Store.{tree_path}
 use Rattle.cnb_create.specs.Apart.{are_apart, image_document, is_image_apart}
 use Rattle.cnb_create.specs.Creates.{build_frame, builds_group, chooses_group, creates, export_frame, exports_image, leaves_image, looks_at_images, phases_of, previous_name}
 use Rattle.cnb_create.specs.Report.{created_text}
@@ -96,7 +95,7 @@ all_spared path frame [] plans layers = refl
 all_spared path frame (row ∷ group) plans layers =
     and_from (spares path frame row) (list_all (spares path frame) group)
     (and_from _ _ (free_folder frame.layers path layers (layers_folder frame.layers row.key.id) (inside_joined frame.layers _ (folder_not_root frame.layers path layers)))
-    (free_document (joined frame.work (codes "plans")) path plans (plan_path frame row.key) (inside_joined (joined frame.work (codes "plans")) _ (folder_not_root (joined frame.work (codes "plans")) path plans))))
+    (free_document (joined frame.work (codes "plans")) path plans (buildpack_plan_path frame row.key) (inside_joined (joined frame.work (codes "plans")) _ (folder_not_root (joined frame.work (codes "plans")) path plans))))
     (all_spared path frame group plans layers)
 
 was_given : {A E : Type 0} (a b : A) → (let r : Result A E = Ok a in r) ≡ Ok b → a ≡ b
@@ -170,10 +169,6 @@ trees_apart store name =
     (unless_within _ _ (no_root_behind (cond (bytes_eq (images_folder store) (47 ∷ [])) (images_folder store) (images_folder store ++ 47 ∷ [])) (document_name name) (omega (arith, document_length name)))
     (λ below. other_behind (front_of_store store) (at.0 ++ below.0) (114 ∷ 101 ∷ 101 ∷ 115 ∷ []) (sym (append_assoc (front_of_store store) (105 ∷ at.0) below.0) ∙ ap (λ v. v ++ below.0) (sym at.1) ∙ sym below.1)))
 
-free_of_trees : (store name digest : List ℕ) → is_free (touched (tree_path store digest)) (image_path store name) ≡ true
-free_of_trees store name digest =
-    free_document (joined store (codes "trees")) (image_path store name) (trees_apart store name) (tree_path store digest) (inside_joined (joined store (codes "trees")) _ (folder_not_root (joined store (codes "trees")) (image_path store name) (trees_apart store name)))
-
 -- ---- the image's own document
 
 -- where a write is refused, its own path is as before
@@ -221,7 +216,7 @@ refused_save words image text old new fault (inr (saved, mid, h, k)) = absurd k
 keeps_image_export : (words : CreateWords) (analyzed : Analyzed) (group : List GroupRow) → KeepsIn cached_world (image_document words) (exports_image true words analyzed group)
 unfolding exports_image
 keeps_image_export words analyzed group =
-    in_known cached_world (image_document words) exporting.cause_of (export_frame words) _ (keeps_exports (export_frame words) (image_document words) (free_of_trees words.store words.image) true group analyzed)
+    in_known cached_world (image_document words) exporting.cause_of (export_frame words) _ (keeps_exports (export_frame words) (image_document words) (trees_apart words.store words.image) true group analyzed)
 
 refused_leaving : (words : CreateWords) (phases : Phases) → KeepsRefused cached_world (image_document words) (leaves_image words phases)
 unfolding leaves_image

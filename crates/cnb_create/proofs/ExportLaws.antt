@@ -12,12 +12,12 @@ use Rattle.run_docs.specs.Store.{store_in}
 use Rattle.layer_flags.specs.declared.export.ExportRow.{ExportRow}
 use Rattle.layer_flags.specs.declared.export.ExportRow.TheVariants as table
 use Rattle.cnb_env.specs.Files.{is_absent}
-use Rattle.steps.specs.Frames.{is_free, touched}
 use Rattle.steps.specs.Outside.{Seen}
 use Rattle.steps.proofs.FrameLaws.{Preserves, keeps_bind, keeps_gives, keeps_reads, keeps_told, keeps_yields}
 use Rattle.tree_canon.specs.declared.node.Node.{Node}
 use Rattle.tree_store.specs.Steps.{looks_for_tree}
-use Rattle.tree_store.specs.Store.{tree_path}
+use Rattle.tree_store.specs.Writing.{trees_of}
+use Rattle.cnb_create.specs.Apart.{are_apart}
 use Rattle.cnb_export.specs.Buildpack.{exports_buildpack, exports_documents, exports_layers, one_default, reads_launch, reads_store}
 use Rattle.cnb_export.specs.Exports.{exports, gains}
 use Rattle.cnb_export.specs.Gathering.{exports_found, exports_layer, exports_some, nothing_gathered}
@@ -31,7 +31,8 @@ use Rattle.cnb_export.specs.Settling.{checks_reused, decision_of, looks_for_stor
 use Rattle.cnb_export.specs.Trees.{puts_links, puts_process, puts_trees}
 use Rattle.cnb_export.specs.declared.exported.ExportFrame.{ExportFrame}
 use Rattle.cnb_export.specs.declared.fault.ExportFault.TheVariants.{Store}
-use Rattle.cnb_create.proofs.KeepLemmas.{KeepsIn, cached_in_caches, cached_in_world, cached_world, in_bind, in_each, in_yields, keeps_puts, keeps_puts_folder, keeps_reads_tree}
+use Rattle.cnb_create.proofs.KeepLemmas.{KeepsIn, cached_in_caches, cached_in_world, cached_world, in_bind, in_each, in_yields, keeps_puts, keeps_reads_tree}
+use Rattle.cnb_create.proofs.PutLemmas.{free_of_trees, keeps_puts_folder}
 
 -- the same of steps that begin with a value, or with two
 abbrev KeepsEach : {X E A : Type 0} → List ℕ → (X → Seen → Result A E → Seen → Type 0) → Type 0
@@ -126,9 +127,9 @@ module _ (path : List ℕ) where
 
 -- ---- what puts trees too
 
-module _ (store path : List ℕ) (free : (digest : List ℕ) → is_free (touched (tree_path store digest)) path ≡ true) where
+module _ (store path : List ℕ) (apart : are_apart (trees_of store) path ≡ true) where
   kept_tree : (launch : Bool) (tree : Node) → Preserves path (keeps_tree store launch tree)
-  kept_tree true tree = keeps_told path Store _ (keeps_puts path store tree free)
+  kept_tree true tree = keeps_told path Store _ (keeps_puts path store tree (free_of_trees store path apart))
   kept_tree false tree = keeps_gives path cause_of _
 
   kept_taken : (launch : Bool) (at : List ℕ) → Preserves path (takes_tree store launch at)
@@ -176,26 +177,26 @@ module _ (store path : List ℕ) (free : (digest : List ℕ) → is_free (touche
 
   kept_links : (processes : List Process) → Preserves path (puts_links store processes)
   unfolding puts_links
-  kept_links processes = keeps_bind path _ _ (keeps_gives path cause_of _) (λ tree. keeps_bind path _ _ (keeps_told path Store _ (keeps_puts path store tree free)) (λ digest. keeps_yields path (Some digest)))
+  kept_links processes = keeps_bind path _ _ (keeps_gives path cause_of _) (λ tree. keeps_bind path _ _ (keeps_told path Store _ (keeps_puts path store tree (free_of_trees store path apart))) (λ digest. keeps_yields path (Some digest)))
 
   kept_process : (processes : List Process) → Preserves path (puts_process store processes)
   kept_process [] = keeps_yields path None
   kept_process (process ∷ processes) = kept_links (process ∷ processes)
 
-module _ (frame : ExportFrame) (path : List ℕ) (free : (digest : List ℕ) → is_free (touched (tree_path frame.store digest)) path ≡ true) where
+module _ (frame : ExportFrame) (path : List ℕ) (apart : are_apart (trees_of frame.store) path ≡ true) where
   kept_buildpack : (previous : List LayerRow) (row : GroupRow) → KeepsEach path (exports_buildpack frame previous row)
   unfolding exports_buildpack
   kept_buildpack previous row gathered =
       keeps_bind path _ _ (keeps_gives path cause_of _)
-      (λ folder. keeps_bind path _ _ (kept_documents path folder row.key.id gathered) (λ documents. kept_layers frame.store path free previous row.key.id folder documents))
+      (λ folder. keeps_bind path _ _ (kept_documents path folder row.key.id gathered) (λ documents. kept_layers frame.store path apart previous row.key.id folder documents))
 
   kept_trees : (processes : List Process) → Preserves path (puts_trees frame processes)
   unfolding puts_trees
   kept_trees processes =
-      keeps_bind path _ _ (keeps_told path Store _ (keeps_puts_folder path frame.store frame.app free))
-      (λ app. keeps_bind path _ _ (keeps_told path Store _ (keeps_puts_folder path frame.store frame.launcher free))
+      keeps_bind path _ _ (keeps_told path Store _ (keeps_puts_folder frame.store path apart frame.app))
+      (λ app. keeps_bind path _ _ (keeps_told path Store _ (keeps_puts_folder frame.store path apart frame.launcher))
       (λ launcher. keeps_bind path _ _ (keeps_gives path cause_of _)
-      (λ last. keeps_bind path _ _ (kept_process frame.store path free last) (λ process. keeps_gives path cause_of _))))
+      (λ last. keeps_bind path _ _ (kept_process frame.store path apart last) (λ process. keeps_gives path cause_of _))))
 
   kept_gained : (group : List GroupRow) (analyzed : Analyzed) → Preserves path (gains frame group analyzed)
   unfolding gains

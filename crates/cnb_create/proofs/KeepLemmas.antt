@@ -12,10 +12,10 @@ use Rattle.steps.specs.Each.{for_each}
 use Rattle.steps.specs.Frames.{Keeps, is_free, standing, touched}
 use Rattle.steps.specs.Outside.{Outside, Seen, SpawnerSeen}
 use Rattle.steps.specs.Steps.{◌>>=◌, gives, in_spawners, in_world, map_err, removes, yields}
-use Rattle.steps.proofs.FrameLaws.{Preserves, keeps_bind, keeps_reads, keeps_same, keeps_then, part_left, step_at, written_free}
+use Rattle.steps.proofs.FrameLaws.{Preserves, keeps_reads, keeps_same, keeps_then, part_left, step_at, written_free}
 use Rattle.tree_canon.specs.declared.node.Node.{Node}
 use Rattle.tree_store.specs.Around.{IsMadeAbove, KeptAround, LeavesAround}
-use Rattle.tree_store.specs.Steps.{LeavesPut, lays_tree, puts_folder, puts_tree, reads_tree}
+use Rattle.tree_store.specs.Steps.{LeavesPut, lays_tree, puts_tree, reads_tree}
 use Rattle.tree_store.specs.Store.{LeavesStore, left_or_written, tree_path, tree_put}
 use Rattle.tree_store.specs.declared.fault.StoreFault.{StoreFault}
 use Rattle.tree_store.specs.declared.fault.StoreFault.TheVariants.{OddFile, Limit, File, NoTree, Damaged, Clash, Memory}
@@ -129,7 +129,7 @@ unfolding removes
 keeps_removes path cause_of at away old new (Ok done) h = keeps_same path old new h.0.runs (step_at old.files new.files (without at) path (λ t. at_get (without at t) t path (emptied_elsewhere t at path away)) h.0.files)
 keeps_removes path cause_of at away old new (Err fault) h = keeps_same path old new h.1.runs (removed_some old.files new.files at path away h.1.files)
 
-kept_around : (root path : List ℕ) (o n : Option Tree) → is_within root path ≡ false → (Below path root → ⊥) → KeptAround root o n → standing n path ≡ standing o path
+pub kept_around : (root path : List ℕ) (o n : Option Tree) → is_within root path ≡ false → (Below path root → ⊥) → KeptAround root o n → standing n path ≡ standing o path
 unfolding KeptAround
 kept_around root path None None away apart h = refl
 kept_around root path None (Some new) away apart h = absurd h
@@ -173,7 +173,3 @@ keeps_puts path store tree free old new result h = keeps_same path old new h.run
 pub keeps_reads_tree : (path folder : List ℕ) → Preserves path (reads_tree folder)
 unfolding reads_tree
 keeps_reads_tree path folder = keeps_reads path _ _ _
-
-pub keeps_puts_folder : (path store folder : List ℕ) → ((digest : List ℕ) → is_free (touched (tree_path store digest)) path ≡ true) → Preserves path (puts_folder store folder)
-unfolding puts_folder
-keeps_puts_folder path store folder free = keeps_bind path _ _ (keeps_reads_tree path folder) (λ tree. keeps_puts path store tree free)

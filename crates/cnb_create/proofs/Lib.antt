@@ -4,6 +4,7 @@ pub mod CreateLaws
 pub mod ExportLaws
 pub mod KeepLemmas
 pub mod OutcomeLaws
+pub mod PutLemmas
 pub mod RestoreLaws
 pub mod StandLaws
 pub mod SurroundingLemmas

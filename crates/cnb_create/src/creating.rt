@@ -75,6 +75,7 @@ pub fn create_command<W: World, S: Spawner + Send, R: Threads + Sync>(
         (faults_of (spawners_seen S.Spawner spawners.old.items))
         (faults_of (spawners_seen S.Spawner spawners.new.items)) }
 {
+    // The proof takes from this call what each path keeps to.
     let _layers = options.layers.as_str();
     let _work = options.detect.work.as_str();
     let analyzed = look_at_images(alloc, options, world)?;

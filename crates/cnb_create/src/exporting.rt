@@ -54,7 +54,8 @@ fn export_image<W: World>(
         (caches_of (map (λ s. state_of (held s) (rows s) (faults s)) shelves.old.items) places.old)) result
         (world_and_caches (seen W.World world.new)
         (caches_of (map (λ s. state_of (held s) (rows s) (faults s)) shelves.new.items) places.new)) }
-    ensures readable { IsTrue (is_group_doc phases.now.group) → IfOk result (λ exported. IsTrue (is_image_doc exported.image)) }
+    ensures readable { IsTrue (is_group_doc phases.now.group)
+        → IfOk result (λ exported. IsTrue (is_image_doc exported.image)) }
     ensures again { AreStanding places.new (map (λ s. state_of (held s) (rows s) (faults s)) shelves.new.items) }
     ensures files { CountsFiles exporting.cause_of result (W.file_faults world.old) (W.file_faults world.new) }
     ensures children { CountsChildren exporting.cause_of result (W.child_faults world.old) (W.child_faults world.new) }

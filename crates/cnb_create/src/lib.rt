@@ -1,5 +1,6 @@
 //! What the command `create` does: it analyzes the images, chooses a group, restores its layers, builds it and exports
-//! the image, each by the public call of the phase's own crate. What was analyzed and the choice are handed on as values.
+//! the image, each by the public call of the phase's own crate. What was analyzed and the choice are handed on as
+//! values.
 #![tactic(auto)]
 
 mod building;
