@@ -1,5 +1,5 @@
-//! What the commands `rebase`, `base` and `show` do: they put an image on another run image, make a run image of folders,
-//! and tell what an image is made of.
+//! What the commands `rebase`, `base` and `show` do: they put an image on another run image, make a run image of
+//! folders, and tell what an image is made of.
 #![tactic(auto)]
 
 mod faults;
