@@ -17,7 +17,7 @@ use Rattle.cnb_launch.specs.Faults.{cause_of, of_read_fault}
 use Rattle.cnb_launch.specs.Folders.{all_exec_folders, all_in, are_fit, set_folders}
 use Rattle.cnb_launch.specs.Places.{dir_in}
 use Rattle.cnb_words.specs.declared.launch.Call.{Call}
-use Rattle.cnb_launch.specs.declared.choosing.Chosen.{Chosen}
+use Rattle.cnb_launch.specs.declared.choosing.ChosenProcess.{ChosenProcess}
 use Rattle.cnb_launch.specs.declared.fault.LaunchFault.{LaunchFault}
 use Rattle.cnb_launch.specs.declared.folders.Wanted.TheVariants.{Folders, Files}
 use Rattle.cnb_launch.specs.declared.planning.LaunchPlan.{LaunchPlan}
@@ -37,7 +37,7 @@ execs_in kind sets files = all_in Files (all_exec_folders kind sets) files
 abbrev pub are_fit_execs : Option (List ℕ) → List (List (List ℕ)) → Tree → Bool
 are_fit_execs kind sets files = are_fit (all_exec_folders kind sets) files
 
-abbrev pub prepared_of : List ℕ → Chosen → List Variable → List (List (List ℕ)) → Prepared
+abbrev pub prepared_of : List ℕ → ChosenProcess → List Variable → List (List (List ℕ)) → Prepared
 prepared_of root chosen env execs = record {
   command = chosen.command;
   dir = dir_in root chosen.dir;

@@ -15,10 +15,10 @@ use cnb_world::{List, Memory, Path, Text};
 use image_docs::LaunchDoc;
 use std::alloc::Global;
 
-/// What was chosen: the type, where it is a process of the image, the command line, and the working folder as a place of
-/// the image, where one is said.
+/// What was chosen: the type, where it is a process of the image, the command line, and the working folder as a place
+/// of the image, where one is said.
 #[derive(Drop)]
-pub(crate) struct Chosen {
+pub(crate) struct ChosenProcess {
     pub kind: Option<ProcType>,
     pub command: List<Text>,
     pub dir: Option<Path>,
@@ -73,7 +73,11 @@ fn copy_dir(alloc: Global, dir: &Option<Path>) -> Result<Option<Path>, Memory>
 }
 
 #[tactic(auto, using(crate::proofs::PlaceLemmas::process_dir))]
-fn of_process(alloc: Global, process: &Process, words: &[Text]) -> Result<Chosen, LaunchFault>
+fn of_process(
+    alloc: Global,
+    process: &Process,
+    words: &[Text],
+) -> Result<ChosenProcess, LaunchFault>
     requires { IsTrue (is_process process.now) }
     ensures answer { IsAnswer cause_of result (Ok (of_process process.now words.now)) }
     ensures given { IfErr result (λ fault. IsGivenCause (cause_of fault)) }
@@ -82,7 +86,7 @@ fn of_process(alloc: Global, process: &Process, words: &[Text]) -> Result<Chosen
     let kind = process.kind.copy(alloc)?;
     let command = line_of(alloc, process, words)?;
     let dir = copy_dir(alloc, &process.dir)?;
-    Ok(Chosen {
+    Ok(ChosenProcess {
         kind: Some(kind),
         command,
         dir,
@@ -95,7 +99,7 @@ fn of_type(
     processes: &[Process],
     kind: &str,
     words: &[Text],
-) -> Result<Chosen, LaunchFault>
+) -> Result<ChosenProcess, LaunchFault>
     requires { IsTrue (list_all is_process processes.now) }
     ensures answer { IsAnswer cause_of result (chosen_by (LaunchFault.NoProcess kind.now)
         (process_of kind.now processes.now) words.now) }
@@ -108,7 +112,7 @@ fn of_type(
     }
 }
 
-fn by_default(alloc: Global, doc: &LaunchDoc) -> Result<Chosen, LaunchFault>
+fn by_default(alloc: Global, doc: &LaunchDoc) -> Result<ChosenProcess, LaunchFault>
     requires { IsTrue (list_all is_process doc.now.processes) }
     ensures answer { IsAnswer cause_of result (by_default doc.now.processes doc.now.default) }
     ensures given { IfErr result (λ fault. IsGivenCause (cause_of fault)) }
@@ -120,7 +124,7 @@ fn by_default(alloc: Global, doc: &LaunchDoc) -> Result<Chosen, LaunchFault>
     }
 }
 
-fn by_words(alloc: Global, doc: &LaunchDoc, words: &[Text]) -> Result<Chosen, LaunchFault>
+fn by_words(alloc: Global, doc: &LaunchDoc, words: &[Text]) -> Result<ChosenProcess, LaunchFault>
     requires { IsTrue (list_all is_process doc.now.processes) }
     ensures answer { IsAnswer cause_of result (by_words doc.now words.now) }
     ensures given { IfErr result (λ fault. IsGivenCause (cause_of fault)) }
@@ -144,7 +148,11 @@ pub(crate) fn copy_words(alloc: Global, words: &[Text]) -> Result<List<Text>, Me
 }
 
 /// What a call asks for of an image's processes.
-pub(crate) fn choose(alloc: Global, doc: &LaunchDoc, call: &Call) -> Result<Chosen, LaunchFault>
+pub(crate) fn choose(
+    alloc: Global,
+    doc: &LaunchDoc,
+    call: &Call,
+) -> Result<ChosenProcess, LaunchFault>
     requires { IsTrue (list_all is_process doc.now.processes) }
     ensures answer { IsAnswer cause_of result (chosen_in doc.now call.now) }
     ensures given { IfErr result (λ fault. IsGivenCause (cause_of fault)) }
@@ -158,7 +166,7 @@ pub(crate) fn choose(alloc: Global, doc: &LaunchDoc, call: &Call) -> Result<Chos
             args.as_slice(),
         ),
         Call::Words(words) => by_words(alloc, doc, words.as_slice()),
-        Call::Direct(words) => Ok(Chosen {
+        Call::Direct(words) => Ok(ChosenProcess {
             kind: None,
             command: copy_words(alloc, words.as_slice())?,
             dir: None,

@@ -6,8 +6,8 @@ use image_files::ImageFault;
 use std::alloc::AllocError;
 use tree_store::StoreFault;
 
-/// Why an image is not laid out, or its process not run. A call on a file that failed is a fault of the store, also where
-/// the file is none of the store's. A text is the type, or the word, of which there is no process.
+/// Why an image is not laid out, or its process not run. A call on a file that failed is a fault of the store, also
+/// where the file is none of the store's. A text is the type, or the word, of which there is no process.
 #[derive(Drop)]
 pub enum LaunchFault {
     /// The store has no image of this name.

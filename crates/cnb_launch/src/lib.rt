@@ -1,5 +1,5 @@
-//! What the commands `unpack` and `launch` do: an image is laid out as files under a root, and the process that such files,
-//! the words of a command and the programs in `exec.d` say is run.
+//! What the commands `unpack` and `launch` do: an image is laid out as files under a root, and the process that such
+//! files, the words of a command and the programs in `exec.d` say is run.
 #![tactic(auto)]
 
 mod choosing;

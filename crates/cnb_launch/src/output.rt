@@ -7,12 +7,9 @@ ghost use Rattle.toml.specs.Data.{as_str};
 ghost use Rattle.cnb_launch.specs.Output.{is_variable, table_in, with_output, with_string, with_texts};
 
 use cnb_toml::{Doc, DocFault};
-use cnb_world::{Env, Memory, Text};
+use cnb_world::{Env, LONGEST_DOCUMENT, Memory, Text};
 use std::alloc::Global;
 use toml::{Table, Value};
-
-/// The longest output, in bytes.
-const LONGEST_OUTPUT: usize = 1048576;
 
 fn has_equals(name: &[u8]) -> bool
     ensures { result ≡ list_any (λ byte. byte == 61) name.now }
@@ -65,7 +62,7 @@ fn with_texts(alloc: Global, mut env: Env, table: &Table) -> Result<Option<Env>,
 fn read_output(alloc: Global, bytes: &[u8]) -> Result<Option<Doc>, Memory>
     ensures { IfOk result (λ doc. option_map table_of_document doc ≡ table_in bytes.now) }
 {
-    if bytes.len() > LONGEST_OUTPUT {
+    if bytes.len() > LONGEST_DOCUMENT {
         return Ok(None);
     }
     match Doc::read(alloc, bytes) {

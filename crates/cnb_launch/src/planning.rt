@@ -7,7 +7,7 @@ ghost use Rattle.cnb_launch.specs.Faults.{cause_of};
 ghost use Rattle.cnb_launch.specs.Places.{IsShortDir};
 ghost use Rattle.cnb_launch.specs.Planning.{args_of, launch_job, launches, plans, prepared_of, prepares, program_of};
 
-use crate::choosing::{Chosen, choose, copy_words};
+use crate::choosing::{ChosenProcess, choose, copy_words};
 use crate::documents::read_launch;
 use crate::exec::{run_all, run_child};
 use crate::fault::LaunchFault;
@@ -26,8 +26,8 @@ pub struct LaunchPlan {
     pub dir: Path,
 }
 
-/// What is known before the first program in `exec.d` runs: the plan with the environment so far, the folder in which the
-/// programs run, and their paths, folder by folder.
+/// What is known before the first program in `exec.d` runs: the plan with the environment so far, the folder in which
+/// the programs run, and their paths, folder by folder.
 #[derive(Drop)]
 struct Prepared {
     command: List<Text>,
@@ -40,7 +40,7 @@ struct Prepared {
 fn prepared_of(
     alloc: Global,
     root: &Path,
-    chosen: Chosen,
+    chosen: ChosenProcess,
     env: Env,
     execs: List<List<Path>>,
 ) -> Result<Prepared, Memory>

@@ -135,9 +135,9 @@ fn lay_launch<W: World>(
     Ok(())
 }
 
-/// Lays an image out under a root, where nothing stands: the trees of its rows in their order, and then the document that
-/// says how it is launched. A folder merges into a folder, a file or a link takes the place of whatever stands, and no link
-/// is followed. After a refusal a part may stand under the root.
+/// Lays an image out under a root, where nothing stands: the trees of its rows in their order, and then the document
+/// that says how it is launched. A folder merges into a folder, a file or a link takes the place of whatever stands,
+/// and no link is followed. After a refusal a part may stand under the root.
 pub fn unpack<W: World>(
     alloc: Global,
     world: &mut W,
