@@ -1,5 +1,5 @@
-//! A detection whose end is known beforehand: an order of 4,096 groups, spawners with fixed replies by which the group of
-//! a given number is the first that passes, and four trees whose bytes are counted.
+//! A detection whose end is known beforehand: an order of 4,096 groups, spawners with fixed replies by which the group
+//! of a given number is the first that passes, and four trees whose bytes are counted.
 #![tactic(auto)]
 
 mod catalog;

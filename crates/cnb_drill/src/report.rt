@@ -39,9 +39,9 @@ fn lines(alloc: Global, found: &Found, bytes: usize) -> Result<Text, Memory>
     Ok(Text::from_string(text))
 }
 
-/// Checks the order, detects by eight workers, and spells the four trees. The answer is the text of the six lines: how many
-/// groups there are, how many were tried, how many children were asked, the trial that passed and of how many, the entries
-/// of the plan, and the bytes of the trees. Nothing is refused but for want of memory.
+/// Checks the order, detects by eight workers, and spells the four trees. The answer is the text of the six lines: how
+/// many groups there are, how many were tried, how many children were asked, the trial that passed and of how many, the
+/// entries of the plan, and the bytes of the trees. Nothing is refused but for want of memory.
 pub fn drill<R: Threads + Sync>(
     rt: &R,
     alloc: Global,

@@ -19,8 +19,8 @@ fn spawner(alloc: Global, number: u32) -> Result<SureSpawner, Memory>
     Ok(spawner)
 }
 
-/// Eight spawners that ran no children yet. Their children answer so that the group of this number, which is counted from
-/// 0, is the first of the order's 4,096 groups that passes.
+/// Eight spawners that ran no children yet. Their children answer so that the group of this number, which is counted
+/// from 0, is the first of the order's 4,096 groups that passes.
 pub fn drill_spawners(alloc: Global, number: u32) -> Result<Vec<SureSpawner>, Memory>
     ensures { IfOk result (λ spawners.
         spawners_seen ⟦<SureSpawner as Spawner>⟧ spawners.items ≡ replicate WORKERS (new_spawner number)) }
