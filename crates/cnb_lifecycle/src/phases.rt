@@ -95,12 +95,14 @@ pub(crate) fn run_create<W: World, S: Spawner + Send, R: Threads + Sync>(
     requires few { length shelves.old.items < 2 ^ 32 }
     ensures steps { tells Answer.Printed of_create (creates options.now env.now)
         (surroundings (outside W.World S.Spawner world.old spawners.old.items)
-        (caches_of (map (λ s. shelf_seen (⟦<dyn Shelf as Shelf>⟧ s.vtable) s.value) shelves.old.items) places.old)) result
+        (caches_of (map (λ s. shelf_seen (⟦<dyn Shelf as Shelf>⟧ s.vtable) s.value) shelves.old.items) places.old))
+        result
         (surroundings (outside W.World S.Spawner world.new spawners.new.items)
         (caches_of (map (λ s. shelf_seen (⟦<dyn Shelf as Shelf>⟧ s.vtable) s.value) shelves.new.items) places.new)) }
     ensures chosen { tells Answer.Printed of_create (ComesToChoice options.now env.now)
         (surroundings (outside W.World S.Spawner world.old spawners.old.items)
-        (caches_of (map (λ s. shelf_seen (⟦<dyn Shelf as Shelf>⟧ s.vtable) s.value) shelves.old.items) places.old)) result
+        (caches_of (map (λ s. shelf_seen (⟦<dyn Shelf as Shelf>⟧ s.vtable) s.value) shelves.old.items) places.old))
+        result
         (surroundings (outside W.World S.Spawner world.new spawners.new.items)
         (caches_of (map (λ s. shelf_seen (⟦<dyn Shelf as Shelf>⟧ s.vtable) s.value) shelves.new.items) places.new)) }
     ensures image { OnErr result (KeepsCreated options.now (seen W.World world.old) (seen W.World world.new)) }

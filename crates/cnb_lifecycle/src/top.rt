@@ -183,7 +183,8 @@ pub fn lifecycle<W: World, S: Spawner + Send, O: Sink, R: Threads + Sync>(
 
     // Words that are no command, and a Platform API that isn't served, are refused, and nothing outside is looked at.
     ensures refused { let all = range_with_len 0 (length shelves.old.items) in
-        On (refusal_of (command_in (map string_bytes words.now) env.now)) (λ refusal. Ends (gives cause_of (Err refusal))
+        On (refusal_of (command_in (map string_bytes words.now) env.now))
+        (λ refusal. Ends (gives cause_of (Err refusal))
         (surroundings (outside W.World S.Spawner world.old spawners.old.items)
         (caches_of (map (λ s. shelf_seen (⟦<dyn Shelf as Shelf>⟧ s.vtable) s.value) shelves.old.items) all))
         (outside W.World S.Spawner world.new spawners.new.items)
@@ -193,15 +194,16 @@ pub fn lifecycle<W: World, S: Spawner + Send, O: Sink, R: Threads + Sync>(
         (world.new ≡ world.old) × (spawners.new.items ≡ spawners.old.items) × (shelves.new.items ≡ shelves.old.items)) }
     // Each command does its steps, with all shelves standing, and the status and the text are those of its end.
     ensures does { let all = range_with_len 0 (length shelves.old.items) in
-        On (asked_of (command_in (map string_bytes words.now) env.now)) (λ asked. Ends (after_words (does asked env.now))
+        On (asked_of (command_in (map string_bytes words.now) env.now))
+        (λ asked. Ends (after_words (does asked env.now))
         (surroundings (outside W.World S.Spawner world.old spawners.old.items)
         (caches_of (map (λ s. shelf_seen (⟦<dyn Shelf as Shelf>⟧ s.vtable) s.value) shelves.old.items) all))
         (outside W.World S.Spawner world.new spawners.new.items)
         (map (λ s. shelf_seen (⟦<dyn Shelf as Shelf>⟧ s.vtable) s.value) shelves.new.items)
         result (O.taken out.old) (O.taken out.new)) }
     // So `detect` comes to the choice of the first trial that passes, by the files and by what its children answered,
-    // however many workers ran them and in whatever order they finished, or to its refusal; each document is the old one
-    // or the whole new one, and all other files are as before.
+    // however many workers ran them and in whatever order they finished, or to its refusal; each document is the old
+    // one or the whole new one, and all other files are as before.
     ensures outcome { let all = range_with_len 0 (length shelves.old.items) in
         On (options_in options_of_detect (command_in (map string_bytes words.now) env.now)) (λ options.
         Ends (after_words (over_outside (tells Answer.Printed of_detect (ComesTo options env.now))))
@@ -210,8 +212,8 @@ pub fn lifecycle<W: World, S: Spawner + Send, O: Sink, R: Threads + Sync>(
         (outside W.World S.Spawner world.new spawners.new.items)
         (map (λ s. shelf_seen (⟦<dyn Shelf as Shelf>⟧ s.vtable) s.value) shelves.new.items)
         result (O.taken out.old) (O.taken out.new)) }
-    // And what `create` tells and builds is the choice of the first trial that passes; where it is refused before that, it
-    // ends as `detect` there.
+    // And what `create` tells and builds is the choice of the first trial that passes; where it is refused before that,
+    // it ends as `detect` there.
     ensures chosen { let all = range_with_len 0 (length shelves.old.items) in
         On (options_in options_of_create (command_in (map string_bytes words.now) env.now)) (λ options.
         Ends (after_words (tells Answer.Printed of_create (ComesToChoice options env.now)))
@@ -220,8 +222,8 @@ pub fn lifecycle<W: World, S: Spawner + Send, O: Sink, R: Threads + Sync>(
         (outside W.World S.Spawner world.new spawners.new.items)
         (map (λ s. shelf_seen (⟦<dyn Shelf as Shelf>⟧ s.vtable) s.value) shelves.new.items)
         result (O.taken out.old) (O.taken out.new)) }
-    // Where `create` is refused, the image's document is as it was, if its path is apart from all else that is written and the
-    // build children left it.
+    // Where `create` is refused, the image's document is as it was, if its path is apart from all else that is written
+    // and the build children left it.
     ensures image { On (options_in options_of_create (command_in (map string_bytes words.now) env.now)) (λ options.
         OnRefusal result (KeepsCreated options (seen W.World world.old) (seen W.World world.new))) }
     // Where `export`, `create`, `rebase` or `base` is done, the document that it wrote stands and can be read.
