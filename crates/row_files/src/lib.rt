@@ -1,7 +1,7 @@
 //! Rows of data for programs of tests: what a call is given, and what is wanted of it.
 //!
-//! A test function is proved as code is, and with it its whole crate once more; a row costs nothing. So a program of tests is a
-//! few calls that put an answer into words, and files of rows beside it in data/.
+//! A test function is proved as code is, and with it its whole crate once more; a row costs nothing. So a program of
+//! tests is a few calls that put an answer into words, and files of rows beside it in data/.
 #![tactic(auto)]
 
 mod fault;
