@@ -99,8 +99,8 @@ impl Comparison<'_> {
         Ok(text)
     }
 
-    // Whether what the whole run leaves stands at a path, or the unfinished copy of it, or, in a folder that the row
-    // names, a part of it.
+    // Whether what the whole run leaves stands at a path, or the unfinished copy of it, or the first bytes of a tree
+    // that is put into a store, or, in a folder that the row names, a part of it.
     fn is_whole_or_a_part(&self, after: &Standing, whole: &Standing, path: &str) -> bool {
         if after.is_same_at(whole, path) {
             return true;
@@ -108,6 +108,11 @@ impl Comparison<'_> {
         if let Some(document) = path.strip_suffix(".new") {
             return !self.before.is_same_at(whole, document)
                 && is_part_of(after, path, whole, document);
+        }
+        if let Some(folder) = path.strip_suffix("/new") {
+            if folder.ends_with("/trees") {
+                return is_part_of_one_in(after, path, whole, folder);
+            }
         }
         let is_laid = self.want.partly.iter().any(|folder| is_in(folder, path));
         is_laid && (after.kind(path) == "absent" || is_part_of(after, path, whole, path))
@@ -120,6 +125,16 @@ fn is_part_of(after: &Standing, path: &str, whole: &Standing, other: &str) -> bo
         (Some(part), Some(bytes)) => bytes.starts_with(part),
         _ => false,
     }
+}
+
+// Whether a file has the first bytes of one that stands in a folder.
+fn is_part_of_one_in(after: &Standing, path: &str, whole: &Standing, folder: &str) -> bool {
+    for (other, _) in &whole.found {
+        if is_in(folder, other) && is_part_of(after, path, whole, other) {
+            return true;
+        }
+    }
+    false
 }
 
 fn is_told_in_a_line(status: u8, printed: &str, lines: &[&str]) -> bool {

@@ -3,11 +3,8 @@ use crate::chain::Chain;
 use crate::fault::{Fault, path_of};
 use crate::scenario::{Scenario, ScenarioFile, TreeFile};
 use crate::trees::Trees;
-use cnb_world::{List, Path, Text, Whole, World, read_whole};
+use cnb_world::{LONGEST_DOCUMENT, List, Path, Text, Whole, World, read_whole};
 use std::alloc::Global;
-
-/// The most bytes of a file of rows.
-const MAX_FILE: u64 = 1_048_576;
 
 /// The file of trees.
 const TREES: &str = "trees.toml";
@@ -91,7 +88,7 @@ fn read_text<W: World>(
         alloc,
         format!(in alloc; "{}/{name}", folder.as_str())?.as_str(),
     )?;
-    match read_whole(world, &path, MAX_FILE)? {
+    match read_whole(world, &path, LONGEST_DOCUMENT as u64)? {
         Whole::Bytes(bytes) => Ok(String::from_utf8_lossy(alloc, bytes.as_slice())?),
         Whole::Absent | Whole::Large(_) => Err(Fault::wrong(alloc, "no file of rows:", name)),
     }

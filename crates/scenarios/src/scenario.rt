@@ -98,8 +98,8 @@ pub struct PlayRow {
     pub lays: BTreeMap<String, String>,
 }
 
-/// A cache: the trees that it holds, with a `?` behind the name of one whose bytes were emptied, its rows document, and the
-/// numbers, from 0, of its calls that fail.
+/// A cache: the trees that it holds, with a `?` behind the name of one whose bytes were emptied, its rows document, and
+/// the numbers, from 0, of its calls that fail.
 #[derive(Drop, Deserialize)]
 #[serde(deny_unknown_fields)]
 pub struct ShelfRow {
