@@ -5,10 +5,11 @@ use crate::words::{path_words, text_of};
 use crate::worlds::world_of;
 use cnb_toml::ImageName;
 use cnb_world::{List, MemWorld};
+use doc_files::write_document;
 use image_docs::{ImageDoc, RunDoc, write_image, write_run};
 use image_files::{
     ImageFault, base_of, find_document, image_env, image_path, push_run_rows, read_image,
-    read_run_image, run_path, save_image, save_run_image, write_document,
+    read_run_image, run_path, save_image, save_run_image,
 };
 use row_files::Row;
 use std::alloc::Global;

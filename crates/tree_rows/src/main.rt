@@ -33,6 +33,7 @@ fn answer_in(alloc: Global, row: &Row) -> Result<String, Fault> {
         "decode" => trees::decoded(alloc, row),
         "feed" => trees::fed(alloc, row),
         "scan" => trees::scanned(alloc, row),
+        "events" => trees::events(alloc, row),
         "make" => trees::made(alloc, row),
         "target" => trees::target(alloc, row),
         "judge" => trees::judged(alloc, row),

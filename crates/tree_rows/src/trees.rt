@@ -8,8 +8,8 @@ use cnb_world::{Item, List, Memory, Text};
 use row_files::Row;
 use std::alloc::Global;
 use tree_canon::{
-    DecodeFault, Decoder, Digest, Judged, Named, Node, Scan, Tree, TreeFault, decode, encode,
-    is_target, judge,
+    DecodeFault, Decoder, Digest, Event, Judged, Named, Node, Scan, Tree, TreeFault, decode,
+    encode, is_target, judge,
 };
 
 fn fault_words(alloc: Global, fault: DecodeFault) -> Result<String, Fault> {
@@ -107,11 +107,77 @@ pub(crate) fn scanned(alloc: Global, row: &Row) -> Result<String, Fault> {
         most = most.max(scan.held());
     }
     let held = scan.held();
-    let end = match scan.finish() {
-        Ok(()) => String::from_str(alloc, "whole")?,
-        Err(fault) => fault_words(alloc, fault)?,
-    };
+    let end = scan_end(alloc, scan)?;
     Ok(format!(in alloc; "holds {most} at most, {held} at the end\n{}", end.as_str())?)
+}
+
+fn scan_end(alloc: Global, scan: Scan) -> Result<String, Fault> {
+    match scan.finish() {
+        Ok(()) => Ok(String::from_str(alloc, "whole")?),
+        Err(fault) => fault_words(alloc, fault),
+    }
+}
+
+/// The events of pieces, and then the end. Each piece is given in as few calls as `size` allows, and told apart by a
+/// line `more`.
+pub(crate) fn events(alloc: Global, row: &Row) -> Result<String, Fault> {
+    let size = row.number(alloc, "size")? as usize;
+    let mut scan = Scan::new(alloc)?;
+    let mut words = String::new(alloc);
+    for line in row.text(alloc, "pieces")?.lines() {
+        let piece = bytes_of(alloc, line)?;
+        for part in piece.as_slice().chunks(size.max(1)) {
+            add_events(alloc, &mut scan, part, &mut words)?;
+        }
+        words.push_str("more\n")?;
+    }
+    let end = scan_end(alloc, scan)?;
+    words.push_str(end.as_str())?;
+    Ok(words)
+}
+
+// The events of bytes, or the fault that they end in.
+fn add_events(
+    alloc: Global,
+    scan: &mut Scan,
+    bytes: &[u8],
+    words: &mut String,
+) -> Result<(), Fault> {
+    let mut rest = bytes;
+    for _ in 0..4096 {
+        if rest.len() > 65536 {
+            return Err(Fault::wrong(alloc, "too long:", "a piece"));
+        }
+        let step = match scan.next(rest) {
+            Ok(step) => step,
+            Err(fault) => {
+                words.push_str(fault_words(alloc, fault)?.as_str())?;
+                words.push_str("\n")?;
+                return Ok(());
+            }
+        };
+        if let Event::More = &step.event {
+            return Ok(());
+        }
+        words.push_str(event_words(alloc, &step.event)?.as_str())?;
+        words.push_str("\n")?;
+        rest = &rest[step.used as usize..];
+    }
+    Ok(())
+}
+
+fn event_words(alloc: Global, event: &Event) -> Result<String, Fault> {
+    let words = match event {
+        Event::Open { count } => format!(in alloc; "open {count}")?,
+        Event::Name(name) => format!(in alloc; "name {}", name.as_str())?,
+        Event::File { exec, len } if *exec => format!(in alloc; "file {len} [exec]")?,
+        Event::File { exec: _, len } => format!(in alloc; "file {len}")?,
+        Event::Part(count) => format!(in alloc; "part {count}")?,
+        Event::Link(target) => format!(in alloc; "link {}", target.as_str())?,
+        Event::Close => String::from_str(alloc, "close")?,
+        Event::More => String::from_str(alloc, "more")?,
+    };
+    Ok(words)
 }
 
 fn node_of(alloc: Global, item: Item) -> Result<Node, Fault> {
