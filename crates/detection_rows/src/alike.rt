@@ -34,9 +34,9 @@ impl Tally {
     }
 }
 
-/// Detects the orders of some seeds by several spawners and by one. The answer is how many groups one spawner chose, or the
-/// first order of which several come to something else: another group or plan, other children asked or run, other lines
-/// printed, or other documents.
+/// Detects the orders of some seeds by several spawners and by one. The answer is how many groups one spawner chose, or
+/// the first order of which several come to something else: another group or plan, other children asked or run, other
+/// lines printed, or other documents.
 pub(crate) fn compare_orders<R: Threads + Sync>(rt: &R, given: &Given) -> Result<String, Fault> {
     let (alloc, clock, counts) = (given.alloc, given.clock, given.numbers("spawners")?);
     let mut tally = Tally {

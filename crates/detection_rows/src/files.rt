@@ -19,7 +19,8 @@ pub(crate) fn world(given: &Given) -> Result<MemWorld, Fault> {
     Ok(MemWorld::new(given.alloc, items, List::new(given.alloc), failing)?)
 }
 
-// What stands at a path: a folder behind which a slash stands, a link with `@`, bytes in hexadecimal with `:hex`, or text.
+// What stands at a path: a folder behind which a slash stands, a link with `@`, bytes in hexadecimal with `:hex`, or
+// text.
 fn placed(given: &Given, name: &str, text: &str) -> Result<Placed, Fault> {
     if let Some(name) = name.strip_suffix('/') {
         return place(given.alloc, name, Item::Folder);

@@ -1,5 +1,6 @@
-//! Goes through the rows of detection: how orders are expanded and read from files, which trials of a group pass, what a
-//! detection chooses over several spawners and threads, how jobs are shared, and what goes into a child's environment.
+//! Goes through the rows of detection: how orders are expanded and read from files, which trials of a group pass, what
+//! a detection chooses over several spawners and threads, how jobs are shared, and what goes into a child's
+//! environment.
 //!
 //! data/README.md says how a row is written.
 #![tactic(auto)]

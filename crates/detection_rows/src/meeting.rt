@@ -9,8 +9,8 @@ use std::sync::atomic::Ordering::SeqCst;
 use std::thread::sleep;
 use std::time::Duration;
 
-/// For how many milliseconds at least a child waits for others, where a row doesn't say: longer than a busy machine takes to
-/// let each thread begin.
+/// For how many milliseconds at least a child waits for others, where a row doesn't say: longer than a busy machine
+/// takes to let each thread begin.
 const PATIENCE: u64 = 20_000;
 
 /// Holds the children of some ids until so many have begun, counted over all spawners; it is a counted fault where they

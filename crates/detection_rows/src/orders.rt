@@ -59,8 +59,8 @@ fn listed(alloc: Global, order: &Order, catalog: &Catalog, number: u32) -> Resul
     Ok(told)
 }
 
-/// The number of groups, where the members of each are the digits of its number to the base of 8: `c0-1` where the first
-/// of four digits is 1, and so on, and `tail` behind them.
+/// The number of groups, where the members of each are the digits of its number to the base of 8: `c0-1` where the
+/// first of four digits is 1, and so on, and `tail` behind them.
 fn digits(alloc: Global, order: &Order, catalog: &Catalog) -> Result<String, Fault>
     requires { IsOk (checked catalog.now order.now) }
 {

@@ -73,8 +73,8 @@ fn spawners<'a>(given: &Given<'a>, jobs: u32) -> Result<Vec<Meeting<'a>>, Fault>
     Ok(spawners)
 }
 
-/// What comes of jobs by some workers: the codes, or why not every job has one; the round's word; and how many children the
-/// spawners ran that may be used, and the others.
+/// What comes of jobs by some workers: the codes, or why not every job has one; the round's word; and how many children
+/// the spawners ran that may be used, and the others.
 pub(crate) fn run_jobs<R: Threads + Sync>(rt: &R, given: &Given) -> Result<String, Fault> {
     let count = given.count("jobs")?;
     let workers = given.count("workers")? as usize;

@@ -8,8 +8,8 @@ use std::collections::BTreeMap;
 
 const NAMES: [&str; 4] = ["p", "q", "r", "s"];
 
-/// What a row of `detect` is given: an order over composites and a few buildpacks, or in one of 128 rows two hundred; what
-/// each child answers, or that it gives no answer; and how much time children take.
+/// What a row of `detect` is given: an order over composites and a few buildpacks, or in one of 128 rows two hundred;
+/// what each child answers, or that it gives no answer; and how much time children take.
 pub(crate) fn random_row(alloc: Global, seed: u64) -> Result<Row, Fault> {
     let mut maker = Maker::new(seed);
     let mut given = BTreeMap::new(alloc);
@@ -31,8 +31,8 @@ fn text(alloc: Global, text: &str) -> Result<String, Fault> {
     Ok(String::from_str(alloc, text)?)
 }
 
-// The generator, and how many buildpacks and composites there are. The buildpacks of numbers 2n and 2n + 1 are two versions
-// of one id.
+// The generator, and how many buildpacks and composites there are. The buildpacks of numbers 2n and 2n + 1 are two
+// versions of one id.
 #[derive(Drop)]
 struct Maker {
     generator: SplitMix64,
