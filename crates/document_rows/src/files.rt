@@ -84,8 +84,8 @@ fn names(alloc: Global, world: &mut MemWorld, path: &Path) -> Result<String, Rea
     Ok(text)
 }
 
-/// What is read at the path `at`, as the call says: the text of a document, the groups of an order, whether a folder stands
-/// there, or its names, each with `;` behind it.
+/// What is read at the path `at`, as the call says: the text of a document, the groups of an order, whether a folder
+/// stands there, or its names, each with `;` behind it.
 pub(crate) fn told_at_path(alloc: Global, row: &Row) -> Result<String, RowFault> {
     let mut world = world(alloc, row)?;
     let path = path_of(alloc, row, "at")?;

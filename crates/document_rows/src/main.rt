@@ -1,9 +1,9 @@
 //! Rows of names, documents and words: what each reader answers, and what each document is written as.
 //!
-//! Gone through are names (data/names.toml), metadata and documents as such (data/metadata.toml), orders, descriptors and
-//! Build Plans (data/buildpacks.toml), the documents of a run (data/run.toml) and of images (data/images.toml), documents in
-//! files (data/files.toml) and the words of a command line (data/words.toml, data/options.toml). data/README.md says how a row
-//! is written.
+//! Gone through are names (data/names.toml), metadata and documents as such (data/metadata.toml), orders, descriptors
+//! and Build Plans (data/buildpacks.toml), the documents of a run (data/run.toml) and of images (data/images.toml),
+//! documents in files (data/files.toml) and the words of a command line (data/words.toml, data/options.toml).
+//! data/README.md says how a row is written.
 #![tactic(auto)]
 
 mod buildpacks;

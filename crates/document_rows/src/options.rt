@@ -33,102 +33,102 @@ fn add_previous(text: &mut String, previous: &Option<ImageName>) -> Result<(), A
 pub(crate) fn detect(
     alloc: Global,
     text: &mut String,
-    words: &DetectWords,
+    options: &DetectWords,
 ) -> Result<(), AllocError> {
-    let workers = format!(in alloc; "{}", words.workers)?;
+    let workers = format!(in alloc; "{}", options.workers)?;
     text.push_str("detect")?;
-    add(text, "order", words.order.as_str())?;
-    add(text, "buildpacks", words.buildpacks.as_str())?;
-    add(text, "app", words.app.as_str())?;
-    add(text, "platform", words.platform.as_str())?;
-    add(text, "work", words.work.as_str())?;
+    add(text, "order", options.order.as_str())?;
+    add(text, "buildpacks", options.buildpacks.as_str())?;
+    add(text, "app", options.app.as_str())?;
+    add(text, "platform", options.platform.as_str())?;
+    add(text, "work", options.work.as_str())?;
     add(text, "workers", workers.as_str())
 }
 
-pub(crate) fn analyze(text: &mut String, words: &AnalyzeWords) -> Result<(), AllocError> {
+pub(crate) fn analyze(text: &mut String, options: &AnalyzeWords) -> Result<(), AllocError> {
     text.push_str("analyze")?;
-    add(text, "store", words.store.as_str())?;
-    add(text, "run", words.run.as_str())?;
-    add(text, "work", words.work.as_str())?;
-    add_previous(text, &words.previous)
+    add(text, "store", options.store.as_str())?;
+    add(text, "run", options.run.as_str())?;
+    add(text, "work", options.work.as_str())?;
+    add_previous(text, &options.previous)
 }
 
-pub(crate) fn restore(text: &mut String, words: &RestoreWords) -> Result<(), AllocError> {
+pub(crate) fn restore(text: &mut String, options: &RestoreWords) -> Result<(), AllocError> {
     text.push_str("restore")?;
-    add(text, "store", words.store.as_str())?;
-    add(text, "work", words.work.as_str())?;
-    add(text, "layers", words.layers.as_str())
+    add(text, "store", options.store.as_str())?;
+    add(text, "work", options.work.as_str())?;
+    add(text, "layers", options.layers.as_str())
 }
 
-pub(crate) fn build(text: &mut String, words: &BuildWords) -> Result<(), AllocError> {
+pub(crate) fn build(text: &mut String, options: &BuildWords) -> Result<(), AllocError> {
     text.push_str("build")?;
-    add(text, "buildpacks", words.buildpacks.as_str())?;
-    add(text, "app", words.app.as_str())?;
-    add(text, "platform", words.platform.as_str())?;
-    add(text, "work", words.work.as_str())?;
-    add(text, "layers", words.layers.as_str())
+    add(text, "buildpacks", options.buildpacks.as_str())?;
+    add(text, "app", options.app.as_str())?;
+    add(text, "platform", options.platform.as_str())?;
+    add(text, "work", options.work.as_str())?;
+    add(text, "layers", options.layers.as_str())
 }
 
-pub(crate) fn export(text: &mut String, words: &ExportWords) -> Result<(), AllocError> {
+pub(crate) fn export(text: &mut String, options: &ExportWords) -> Result<(), AllocError> {
     text.push_str("export")?;
-    add(text, "store", words.store.as_str())?;
-    add(text, "work", words.work.as_str())?;
-    add(text, "layers", words.layers.as_str())?;
-    add(text, "app", words.app.as_str())?;
-    add(text, "launcher", words.launcher.as_str())?;
-    add(text, "image", words.image.as_str())
+    add(text, "store", options.store.as_str())?;
+    add(text, "work", options.work.as_str())?;
+    add(text, "layers", options.layers.as_str())?;
+    add(text, "app", options.app.as_str())?;
+    add(text, "launcher", options.launcher.as_str())?;
+    add(text, "image", options.image.as_str())
 }
 
 pub(crate) fn create(
     alloc: Global,
     text: &mut String,
-    words: &CreateWords,
+    options: &CreateWords,
 ) -> Result<(), AllocError> {
     text.push_str("create ")?;
-    detect(alloc, text, &words.detect)?;
-    add(text, "layers", words.layers.as_str())?;
-    add(text, "store", words.store.as_str())?;
-    add(text, "run", words.run.as_str())?;
-    add(text, "launcher", words.launcher.as_str())?;
-    add(text, "image", words.image.as_str())?;
-    add_previous(text, &words.previous)
+    detect(alloc, text, &options.detect)?;
+    add(text, "layers", options.layers.as_str())?;
+    add(text, "store", options.store.as_str())?;
+    add(text, "run", options.run.as_str())?;
+    add(text, "launcher", options.launcher.as_str())?;
+    add(text, "image", options.image.as_str())?;
+    add_previous(text, &options.previous)
 }
 
-pub(crate) fn rebase(text: &mut String, words: &RebaseWords) -> Result<(), AllocError> {
+pub(crate) fn rebase(text: &mut String, options: &RebaseWords) -> Result<(), AllocError> {
     text.push_str("rebase")?;
-    add(text, "store", words.store.as_str())?;
-    add(text, "image", words.image.as_str())?;
-    add(text, "run", words.run.as_str())
+    add(text, "store", options.store.as_str())?;
+    add(text, "image", options.image.as_str())?;
+    add(text, "run", options.run.as_str())
 }
 
-pub(crate) fn base(text: &mut String, words: &BaseWords) -> Result<(), AllocError> {
+pub(crate) fn base(text: &mut String, options: &BaseWords) -> Result<(), AllocError> {
     text.push_str("base")?;
-    add(text, "store", words.store.as_str())?;
-    add(text, "run", words.run.as_str())?;
-    add(text, "os", words.os.as_str())?;
-    add(text, "arch", words.arch.as_str())?;
-    add_paths(text, "tree", words.trees.as_slice())
+    add(text, "store", options.store.as_str())?;
+    add(text, "run", options.run.as_str())?;
+    add(text, "os", options.os.as_str())?;
+    add(text, "arch", options.arch.as_str())?;
+    add_paths(text, "tree", options.trees.as_slice())
 }
 
-pub(crate) fn unpack(text: &mut String, words: &UnpackWords) -> Result<(), AllocError> {
+pub(crate) fn unpack(text: &mut String, options: &UnpackWords) -> Result<(), AllocError> {
     text.push_str("unpack")?;
-    add(text, "store", words.store.as_str())?;
-    add(text, "image", words.image.as_str())?;
-    add(text, "root", words.root.as_str())
+    add(text, "store", options.store.as_str())?;
+    add(text, "image", options.image.as_str())?;
+    add(text, "root", options.root.as_str())
 }
 
-pub(crate) fn show(text: &mut String, words: &ShowWords) -> Result<(), AllocError> {
+pub(crate) fn show(text: &mut String, options: &ShowWords) -> Result<(), AllocError> {
     text.push_str("show")?;
-    add(text, "store", words.store.as_str())?;
-    add(text, "image", words.image.as_str())
+    add(text, "store", options.store.as_str())?;
+    add(text, "image", options.image.as_str())
 }
 
 pub(crate) fn drill(
     alloc: Global,
     text: &mut String,
-    words: &DrillWords,
+    options: &DrillWords,
 ) -> Result<(), AllocError> {
-    let number = format!(in alloc; "{}", words.number)?;
+    let number = format!(in alloc; "{}", options.number)?;
     text.push_str("drill")?;
     add(text, "number", number.as_str())
 }
@@ -140,10 +140,10 @@ fn add_texts(text: &mut String, words: &List<Text>) -> Result<(), AllocError> {
     Ok(())
 }
 
-pub(crate) fn launch(text: &mut String, words: &LaunchWords) -> Result<(), AllocError> {
+pub(crate) fn launch(text: &mut String, options: &LaunchWords) -> Result<(), AllocError> {
     text.push_str("launch")?;
-    add(text, "root", words.root.as_str())?;
-    match &words.call {
+    add(text, "root", options.root.as_str())?;
+    match &options.call {
         Call::Entry { kind, args } => {
             add(text, "process", kind.as_str())?;
             add_texts(text, args)

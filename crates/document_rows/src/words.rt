@@ -16,18 +16,18 @@ fn words_in(alloc: Global, line: &str) -> Result<Vec<String>, RowFault> {
 
 fn add_command(alloc: Global, text: &mut String, asked: &Asked) -> Result<(), AllocError> {
     match asked {
-        Asked::Detect(words) => options::detect(alloc, text, words),
-        Asked::Analyze(words) => options::analyze(text, words),
-        Asked::Restore(words) => options::restore(text, words),
-        Asked::Build(words) => options::build(text, words),
-        Asked::Export(words) => options::export(text, words),
-        Asked::Create(words) => options::create(alloc, text, words),
-        Asked::Rebase(words) => options::rebase(text, words),
-        Asked::Base(words) => options::base(text, words),
-        Asked::Unpack(words) => options::unpack(text, words),
-        Asked::Show(words) => options::show(text, words),
-        Asked::Drill(words) => options::drill(alloc, text, words),
-        Asked::Launch(words) => options::launch(text, words),
+        Asked::Detect(options) => options::detect(alloc, text, options),
+        Asked::Analyze(options) => options::analyze(text, options),
+        Asked::Restore(options) => options::restore(text, options),
+        Asked::Build(options) => options::build(text, options),
+        Asked::Export(options) => options::export(text, options),
+        Asked::Create(options) => options::create(alloc, text, options),
+        Asked::Rebase(options) => options::rebase(text, options),
+        Asked::Base(options) => options::base(text, options),
+        Asked::Unpack(options) => options::unpack(text, options),
+        Asked::Show(options) => options::show(text, options),
+        Asked::Drill(options) => options::drill(alloc, text, options),
+        Asked::Launch(options) => options::launch(text, options),
     }
 }
 
