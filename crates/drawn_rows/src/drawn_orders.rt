@@ -15,8 +15,8 @@ use order_expand::{Catalog, Member, Walk, check};
 use std::alloc::Global;
 use std::ops::Range;
 
-/// Walks the orders of some seeds. The answer is how many groups they stand for, or the first order whose groups are not
-/// those of the plain listing.
+/// Walks the orders of some seeds. The answer is how many groups they stand for, or the first order whose groups are
+/// not those of the plain listing.
 pub(crate) fn compare_walks(alloc: Global, seeds: Range<u64>) -> Result<String, Fault> {
     let (mut listed, mut members, mut refused) = (0usize, 0usize, 0usize);
     for seed in seeds {

@@ -14,8 +14,8 @@ use run_docs::PlanEntry;
 use std::alloc::Global;
 use std::ops::Range;
 
-/// Resolves the tables of some seeds. The answer is how many pass, with the sum of the numbers of their trials and of the
-/// buildpacks that they keep, or the first table that comes to something else than by the plain search.
+/// Resolves the tables of some seeds. The answer is how many pass, with the sum of the numbers of their trials and of
+/// the buildpacks that they keep, or the first table that comes to something else than by the plain search.
 pub(crate) fn compare_trials(alloc: Global, seeds: Range<u64>) -> Result<String, Fault> {
     let (mut passing, mut numbers, mut kept) = (0u64, 0u64, 0usize);
     for seed in seeds {

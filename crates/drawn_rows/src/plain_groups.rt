@@ -70,7 +70,8 @@ fn expanded(
     Ok(fronts)
 }
 
-// What may stand for an entry: a buildpack itself; of a composite each of its groups, and where it is optional none last.
+// What may stand for an entry: a buildpack itself; of a composite each of its groups, and where it is optional none
+// last.
 fn choices(
     alloc: Global,
     buildpacks: u64,

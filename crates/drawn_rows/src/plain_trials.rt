@@ -92,7 +92,8 @@ fn pruned(alloc: Global, trial: &Vec<Placed>) -> Result<Vec<Placed>, Fault> {
     Ok(kept)
 }
 
-// Whether all names that it requires are provided at or before its place, and all that it provides required there or behind.
+// Whether all names that it requires are provided at or before its place, and all that it provides required there or
+// behind.
 fn holds(kept: &Vec<Placed>, placed: &Placed) -> bool {
     let (mut provided, mut required) = (0u64, 0u64);
     for other in kept {
