@@ -51,8 +51,8 @@ pub struct FaultyFiles {
     pub failing: Failing,
 }
 
-/// An open file. Two bytes are read or written at once, and the second read is interrupted. Where reads fail, those from
-/// the fifth byte on do.
+/// An open file. Two bytes are read or written at once, and the second read is interrupted. Where reads fail, those
+/// from the fifth byte on do.
 #[derive(Drop)]
 pub struct FaultyFile {
     file: File,

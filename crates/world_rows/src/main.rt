@@ -1,10 +1,10 @@
 //! Rows of the outside: what calls on files, children, caches and outputs answer.
 //!
-//! Most rows are scripts, a call a line. A script is played in memory or on the system, or in both, where the answers must
-//! be the same: so the world in memory, over which all else is tested, is compared with the system. Rows of memory alone
-//! have calls that fail by their numbers. Rows of the system alone have what only it has: real children, also side by
-//! side, names that are no text, and a cache on whose files the system fails. Other rows are of paths, environments,
-//! outputs, and what a process was started with.
+//! Most rows are scripts, a call a line. A script is played in memory or on the system, or in both, where the answers
+//! must be the same: so the world in memory, over which all else is tested, is compared with the system. Rows of memory
+//! alone have calls that fail by their numbers. Rows of the system alone have what only it has: real children, also
+//! side by side, names that are no text, and a cache on whose files the system fails. Other rows are of paths,
+//! environments, outputs, and what a process was started with.
 #![tactic(auto)]
 
 mod cache;

@@ -37,7 +37,8 @@ fn path_text(alloc: Global, text: &str) -> Result<String, LineFault> {
     }
 }
 
-/// For each of the given names: the path of that name in the folder, or where it is no part of a path, what it joins to.
+/// For each of the given names: the path of that name in the folder, or where it is no part of a path, what it joins
+/// to.
 pub(crate) fn joined(alloc: Global, row: &Row) -> Result<String, RowFault> {
     let folder = path_of(alloc, row.text(alloc, "folder")?)?;
     let mut told = String::new(alloc);
