@@ -10,6 +10,8 @@ use cnb_world::{Bytes, List, Memory, Text};
 use std::alloc::Global;
 use std::mem;
 
+// What is done for an event is inlined, since nodes that calls take and return are copied.
+
 /// A folder that isn't whole: its count, its entries before the one under way, and the name of that one.
 #[derive(Drop)]
 pub struct OpenFolder {
@@ -53,6 +55,7 @@ impl Building {
 
     /// Adds what an event tells. The bytes `taken` were taken for it, and `coming` counts those that were received
     /// behind them: a file takes room for no more than these at once.
+    #[inline(always)]
     pub fn add(&mut self, event: Event, taken: &[u8], coming: usize) -> Result<(), Memory>
         requires { (n : ℕ) → event ≡ events.Part n → n ≤ length taken.now }
         ensures { OnOk result (made self.new ≡ made_from (made self.old) (told event taken.now)) }
@@ -75,6 +78,7 @@ impl Building {
     }
 
     /// The folder under way is open at an entry of this name.
+    #[inline(always)]
     fn open(&mut self, name: Text) -> Result<(), Memory>
         ensures { OnOk result (made self.new ≡ with_name (reverse self.old.folders.items) self.old.current name) }
     {
@@ -102,14 +106,16 @@ impl Building {
     }
 
     /// A file of so many bytes, of which none were taken yet.
+    #[inline(always)]
     fn begin(&mut self, exec: bool, size: u64, coming: usize) -> Result<(), Memory>
         ensures { OnOk result (made self.new ≡ with_contents (reverse self.old.folders.items) exec size []) }
     {
-        let room = size.min(coming as u64) as usize;
-        let bytes = Bytes::from_vec(Vec::with_capacity(self.alloc, room)?);
         if size == 0 {
+            let bytes = Bytes::from_vec(Vec::new(self.alloc));
             return self.put(Node::File { exec, bytes });
         }
+        let room = size.min(coming as u64) as usize;
+        let bytes = Bytes::from_vec(Vec::with_capacity(self.alloc, room)?);
         self.current = Current::File { exec, size, bytes };
         Ok(())
     }
@@ -138,6 +144,7 @@ impl Building {
     }
 
     /// A node is whole: it is the root, or one more entry of the innermost open folder.
+    #[inline(always)]
     fn put(&mut self, node: Node) -> Result<(), Memory>
         ensures { OnOk result (made self.new ≡ with_node (reverse self.old.folders.items) node) }
     {

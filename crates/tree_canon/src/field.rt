@@ -48,13 +48,10 @@ pub fn u64_of(field: &[u8]) -> u64
     }
 }
 
-/// The text of bytes that are UTF-8.
+/// The text of bytes that are UTF-8. They were judged before, so they are not looked at again.
 pub fn text_of(alloc: Global, bytes: &[u8]) -> Result<Text, Memory>
     requires { is_utf8 bytes.now ≡ true }
     ensures { IfOk result (λ text. text ≡ bytes.now) }
 {
-    match str::from_utf8(bytes) {
-        Ok(text) => Text::of(alloc, text),
-        Err(_) => unreachable!(),
-    }
+    Text::of(alloc, unsafe { str::from_utf8_unchecked(bytes) })
 }

@@ -99,6 +99,7 @@ impl NextField {
 
     /// The event that the field brings, which is whole and meets its rules, or else `More`. Of a file's contents the
     /// last bytes are enough.
+    #[inline(always)]
     pub fn event(&self, alloc: Global, field: &[u8]) -> Result<Event, Memory>
         requires whole { IsWholeField self.now field.now }
         requires readable { IsReadableField self.now field.now }

@@ -1,5 +1,5 @@
 // The rules of fields. Those of a name take the last name of its folder alone.
-ghost use Rattle.std.specs.Prelude.{◌≡◌, ◌+◌, ◌≤◌, ◌&&◌, ◌||◌, ◌==◌, not, length, nat_le, nat_lt, slice_index};
+ghost use Rattle.std.specs.Prelude.{◌≡◌, ◌+◌, ◌≤◌, ◌&&◌, ◌||◌, ◌==◌, not, length, nat_le, slice_index};
 ghost use Rattle.std.specs.Int.{from_be_bytes, w64};
 ghost use Rattle.std.specs.Option.{option_copied};
 ghost use Rattle.tree_canon.specs.declared.fault.Reason.TheVariants as reasons;
@@ -17,16 +17,19 @@ use cnb_world::List;
 
 impl NextField {
     /// The first reason that a whole field gives. Of a file's contents no byte is asked for.
-    pub fn reason_of(&self, depth: usize, at: u64, part: &[u8]) -> Option<Reason>
-        requires { IsWholeField self.now part.now }
+    #[inline(always)]
+    pub fn reason_of(&self, depth: usize, at: u64, width: u64, part: &[u8]) -> Option<Reason>
+        requires whole { IsWholeField self.now part.now }
+        requires width { width ≡ field_width self.now }
         ensures { result ≡ reason_at depth at self.now part.now }
     {
-        if is_past(at, self.width()) {
+        if is_past(at, width) {
             return Some(Reason::Large);
         }
         self.own_reason(depth, at, part)
     }
 
+    #[inline(always)]
     fn own_reason(&self, depth: usize, at: u64, part: &[u8]) -> Option<Reason>
         requires whole { IsWholeField self.now part.now }
         requires at { at ≤ limit }

@@ -19,6 +19,9 @@ use cnb_world::Memory;
 use std::alloc::Global;
 use std::mem;
 
+// What is done for a field is inlined, since an event that a call returns is copied, which takes longer than most
+// fields do.
+
 /// The field that comes next, and its first bytes. `at` counts the bytes before that field, the innermost folder stands
 /// last, and `owed` counts the folders that are whole, whose ends were not told yet.
 #[derive(Drop)]
@@ -53,6 +56,7 @@ impl Scanner {
     }
 
     /// How many bytes of the next field were read.
+    #[inline(always)]
     pub fn taken(&self) -> u64
         ensures { result ≡ bytes_taken self.now.next self.now.part.items }
     {
@@ -87,8 +91,9 @@ impl Scanner {
     {
         let mut rest = piece;
         while !rest.is_empty() {
-            let (front, back) = rest.split_at(self.share(rest.len()));
-            self.take(front, false)?;
+            let need = self.need();
+            let (front, back) = rest.split_at(self.share(need, rest.len()));
+            self.take(front, need, false)?;
             rest = back;
         }
         Ok(())
@@ -127,8 +132,9 @@ impl Scanner {
         let mut used = 0;
         while used < input.len() {
             let rest = &input[used..];
-            let share = self.share(rest.len());
-            let event = self.take(&rest[..share], true)?;
+            let need = self.need();
+            let share = self.share(need, rest.len());
+            let event = self.take(&rest[..share], need, true)?;
             used += share;
             if !event.is_more() {
                 return Ok(Step {
@@ -143,22 +149,34 @@ impl Scanner {
         })
     }
 
-    /// How many of so many bytes belong to the next field.
-    fn share(&self, count: usize) -> usize
+    /// How many bytes of the next field were not read yet.
+    #[inline(always)]
+    fn need(&self) -> u64
         requires { bytes_taken self.now.next self.now.part.items < field_width self.now.next }
+        ensures { result ≡ field_width self.now.next - bytes_taken self.now.next self.now.part.items }
+    {
+        self.next.width() - self.taken()
+    }
+
+    /// How many of so many bytes belong to the next field, which needs so many.
+    #[inline(always)]
+    fn share(&self, need: u64, count: usize) -> usize
+        requires partial { bytes_taken self.now.next self.now.part.items < field_width self.now.next }
+        requires need { need ≡ field_width self.now.next - bytes_taken self.now.next self.now.part.items }
         ensures some { 0 < count → 0 < result }
         ensures within { result ≤ count }
         ensures fits { bytes_taken self.now.next self.now.part.items + result ≤ field_width self.now.next }
         ensures all { result < count
             → bytes_taken self.now.next self.now.part.items + result ≡ field_width self.now.next }
     {
-        let need = self.next.width() - self.taken();
         need.min(count as u64) as usize
     }
 
     /// Takes bytes of the next field, and answers the event that they bring, if it is to be told, and else `More`.
-    fn take(&mut self, bytes: &[u8], tell: bool) -> Result<Event, DecodeFault>
+    #[inline(always)]
+    fn take(&mut self, bytes: &[u8], need: u64, tell: bool) -> Result<Event, DecodeFault>
         requires partial { bytes_taken self.old.next self.old.part.items < field_width self.old.next }
+        requires need { need ≡ field_width self.old.next - bytes_taken self.old.next self.old.part.items }
         requires fits { bytes_taken self.old.next self.old.part.items + length bytes.now ≤ field_width self.old.next }
         requires small { IsSmall self.old }
         requires few { IsTrue tell → length bytes.now ≤ 65536 }
@@ -176,7 +194,6 @@ impl Scanner {
         ensures more { IfOk result (λ event. IsTrue tell → self.old.owed ≡ 0 → event ≡ events.More
             → self.new.owed ≡ 0) }
     {
-        let need = self.next.width() - self.taken();
         if (bytes.len() as u64) < need {
             self.keep(bytes)?;
             if tell && self.next.is_contents() {
@@ -211,7 +228,8 @@ impl Scanner {
         Ok(())
     }
 
-    /// Judges the next field, which is whole, and moves behind it. Of a file's contents the last bytes are enough.
+    /// Judges the next field, which is whole, and goes on behind it. Of a file's contents the last bytes are enough.
+    #[inline(always)]
     fn take_field(&mut self, field: &[u8], tell: bool) -> Result<Event, DecodeFault>
         requires whole { IsWholeField self.old.next field.now }
         requires small { IsSmallPlace (place (reverse self.old.folders.items) self.old.next) }
@@ -232,7 +250,8 @@ impl Scanner {
             × (reason_at (length self.old.folders.items) self.old.at self.old.next field.now ≡ Some reason) }
     {
         let depth = self.folders.len();
-        if let Some(reason) = self.next.reason_of(depth, self.at, field) {
+        let width = self.next.width();
+        if let Some(reason) = self.next.reason_of(depth, self.at, width, field) {
             return Err(DecodeFault::Bad {
                 at: self.at,
                 reason,
@@ -243,59 +262,84 @@ impl Scanner {
         } else {
             Event::More
         };
-        self.at += self.next.width();
-        let next = mem::replace(&mut self.next, NextField::Tag);
-        let behind = behind(self.alloc, &mut self.folders, next, field)?;
-        self.next = behind.0;
-        self.owed = behind.1;
+        self.at += width;
+        self.owed = advance(self.alloc, &mut self.folders, &mut self.next, field)?;
         Ok(event)
     }
 }
 
-/// The field behind one that meets its rules, and how many folders that one ends.
-fn behind(
+/// Goes on to the field behind one that meets its rules, and answers how many folders that one ends.
+#[inline(always)]
+fn advance(
     alloc: Global,
     folders: &mut Vec<ScannedFolder>,
-    next: NextField,
+    next: &mut NextField,
     field: &[u8],
-) -> Result<(NextField, usize), Memory>
-    requires whole { IsWholeField next field.now }
+) -> Result<usize, Memory>
+    requires whole { IsWholeField next.old field.now }
     requires few { length folders.old.items ≤ 65 }
-    ensures place { IfOk result (λ after. place (reverse folders.new.items) after.0
-        ≡ behind (reverse folders.old.items) next field.now) }
-    ensures closes { IfOk result (λ after. after.1 ≡ closes_behind (reverse folders.old.items) next field.now) }
+    ensures place { OnOk result (place (reverse folders.new.items) next.new
+        ≡ behind (reverse folders.old.items) next.old field.now) }
+    ensures closes { IfOk result (λ closed. closed ≡ closes_behind (reverse folders.old.items) next.old field.now) }
 {
+    let mut closed = 0;
     match next {
-        NextField::Magic(k) if k < 4 => Ok((NextField::Magic(k + 1), 0)),
-        NextField::Magic(_) => Ok((NextField::Tag, 0)),
-        NextField::Tag => Ok((behind_tag(first_byte(field)), 0)),
-        NextField::Count => Ok(behind_count(folders, u32_of(field))),
+        NextField::Magic(k) => {
+            let k = *k;
+            *next = if k < 4 {
+                NextField::Magic(k + 1)
+            } else {
+                NextField::Tag
+            };
+        }
+        NextField::Tag => *next = behind_tag(first_byte(field)),
+        NextField::Count => {
+            let behind = behind_count(folders, u32_of(field));
+            *next = behind.0;
+            closed = behind.1;
+        }
         NextField::NameLength { left, last } => {
+            let left = *left;
+            let last = mem::replace(last, None);
             let size = u16_of(field);
-            Ok((NextField::Name { left, last, size }, 0))
+            *next = NextField::Name { left, last, size };
         }
         NextField::Name {
             left,
             last,
             size: _,
         } => {
-            let name = kept(alloc, last, field)?;
+            let left = *left;
+            let name = kept(alloc, mem::replace(last, None), field)?;
+            *next = NextField::Tag;
             folders.push(ScannedFolder { left, name })?;
-            Ok((NextField::Tag, 0))
         }
         NextField::Executable => {
             let exec = first_byte(field) == 1;
-            Ok((NextField::FileLength { exec }, 0))
+            *next = NextField::FileLength { exec };
         }
-        NextField::FileLength { exec: _ } => Ok(behind_file_length(folders, u64_of(field))),
-        NextField::Contents { size: _, taken: _ } => Ok(behind_node(folders)),
+        NextField::FileLength { exec: _ } => {
+            let behind = behind_file_length(folders, u64_of(field));
+            *next = behind.0;
+            closed = behind.1;
+        }
+        NextField::Contents { size: _, taken: _ } => {
+            let behind = behind_node(folders);
+            *next = behind.0;
+            closed = behind.1;
+        }
         NextField::TargetLength => {
             let size = u16_of(field);
-            Ok((NextField::Target { size }, 0))
+            *next = NextField::Target { size };
         }
-        NextField::Target { size: _ } => Ok(behind_node(folders)),
-        NextField::End => Ok((NextField::End, 0)),
+        NextField::Target { size: _ } => {
+            let behind = behind_node(folders);
+            *next = behind.0;
+            closed = behind.1;
+        }
+        NextField::End => {}
     }
+    Ok(closed)
 }
 
 fn behind_tag(tag: u8) -> NextField
