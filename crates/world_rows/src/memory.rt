@@ -4,7 +4,7 @@ use crate::stage::Stage;
 use crate::texts::{given, numbers};
 use crate::things::{held, placed, plays, replies};
 use cnb_world::{
-    Bytes, DetectRun, Env, List, MemShelf, MemSpawner, MemWorld, Spawner, SureSpawner, Text,
+    Bytes, DetectRun, Env, List, MemShelf, MemSpawner, MemWorld, Reply, Spawner, SureSpawner, Text,
 };
 use row_files::{Row, RowFault};
 use std::alloc::{AllocError, Global};
@@ -14,18 +14,41 @@ pub const FOLDER: &str = "/stage";
 
 /// Plays a row's script in memory, and tells the children that ran.
 pub(crate) fn in_memory(rt: &HostRuntime, row: &Row) -> Result<String, LineFault> {
-    let alloc = rt.alloc();
-    let replies = replies(alloc, given(row, "replies"))?;
+    let replies = replies(rt.alloc(), given(row, "replies"))?;
     if given(row, "spawner") == "sure" {
-        let mut stage = stage(rt, row, SureSpawner::new(alloc, replies)?)?;
-        let told = stage.play(row.text(alloc, "script")?)?;
-        return Ok(with_asked(alloc, told, stage.spawner.runs())?);
+        by_sure_children(rt, row, replies)
+    } else {
+        by_children(rt, row, replies)
     }
+}
+
+// Where a child without a reply ends as well.
+fn by_sure_children(
+    rt: &HostRuntime,
+    row: &Row,
+    replies: List<Reply>,
+) -> Result<String, LineFault> {
+    let alloc = rt.alloc();
+    let mut stage = stage(rt, row, SureSpawner::new(alloc, replies)?)?;
+    let told = stage.play(row.text(alloc, "script")?)?;
+    Ok(with_asked(alloc, told, stage.spawner.runs())?)
+}
+
+// Where a child without a reply, and each that the row names, can't be run.
+fn by_children(rt: &HostRuntime, row: &Row, replies: List<Reply>) -> Result<String, LineFault> {
+    let alloc = rt.alloc();
     let failing = numbers(alloc, row, "failing_detect")?;
     let mut stage = stage(rt, row, MemSpawner::new(alloc, replies, failing)?)?;
     let told = stage.play(row.text(alloc, "script")?)?;
+    told_with_children(told, &stage)
+}
+
+fn told_with_children(
+    told: String,
+    stage: &Stage<MemWorld, MemSpawner, MemShelf>,
+) -> Result<String, LineFault> {
     let told = with_runs(told, &stage.world)?;
-    Ok(with_asked(alloc, told, stage.spawner.runs())?)
+    Ok(with_asked(stage.rt.alloc(), told, stage.spawner.runs())?)
 }
 
 fn stage<S: Spawner + Drop>(

@@ -4,7 +4,7 @@ ghost use Rattle.std.specs.Prelude.{◌≡◌, IfOk, length};
 use crate::children::{detect_job, end_text};
 use crate::fault::{LineFault, NO_MEMORY};
 use crate::stage::{Line, Stage};
-use crate::system::{system_cache, system_stage};
+use crate::system::{SystemStage, system_cache, system_stage};
 use crate::texts::add_line;
 use cnb_host::HostSpawner;
 use cnb_world::{DetectJob, Probed, Shelf, Spawner, World};
@@ -23,19 +23,41 @@ pub(crate) fn side_by_side<R: Threads + Sync>(
     rt: &HostRuntime,
     row: &Row,
 ) -> Result<String, LineFault> {
-    let alloc = rt.alloc();
     let mut stage = system_stage(rt, row, system_cache(rt)?)?;
-    let mut told = stage.play(row.text(alloc, "script")?)?;
-    let jobs = jobs(alloc, &stage, row.text(alloc, "asked")?)?;
-    let workers = row.number(alloc, "workers")?;
-    let ends = ask(threads, rt, jobs.as_slice(), workers);
+    let told = told(threads, row, &mut stage);
     fs::remove_dir_all(rt, stage.folder.as_str())?;
-    for end in ends? {
-        let passed = end.passed_code();
-        let text = end_text(alloc, end.code, passed, end.plan.as_slice())?;
-        add_line(&mut told, Ok(text))?;
-    }
+    told
+}
+
+fn told<R: Threads + Sync, C: Shelf>(
+    threads: &R,
+    row: &Row,
+    stage: &mut SystemStage<C>,
+) -> Result<String, LineFault> {
+    let alloc = stage.rt.alloc();
+    let mut told = stage.play(row.text(alloc, "script")?)?;
+    push_ends(alloc, &mut told, &ask_all(threads, row, stage)?)?;
     Ok(told)
+}
+
+// Adds how each child ended.
+fn push_ends(alloc: Global, told: &mut String, ends: &[Probed]) -> Result<(), RowFault> {
+    for end in ends {
+        let text = end_text(alloc, end.code, end.passed_code(), end.plan.as_slice())?;
+        add_line(told, Ok(text))?;
+    }
+    Ok(())
+}
+
+fn ask_all<R: Threads + Sync, C: Shelf>(
+    threads: &R,
+    row: &Row,
+    stage: &SystemStage<C>,
+) -> Result<Vec<Probed>, LineFault> {
+    let alloc = stage.rt.alloc();
+    let workers = row.number(alloc, "workers")?;
+    let jobs = jobs(alloc, stage, row.text(alloc, "asked")?)?;
+    ask(threads, &stage.rt, jobs.as_slice(), workers)
 }
 
 // The jobs of lines `detect ID PROGRAM`.
