@@ -14,6 +14,7 @@ use cnb_lifecycle::lifecycle;
 use cnb_world::{Env, List, Path, Shelf};
 use std::alloc::AllocError;
 use std::process::ExitCode;
+use std::thread::Threads;
 
 /// One for each worker that the words may ask for.
 const SPAWNERS: usize = 64;
@@ -79,27 +80,28 @@ fn fault_code(fault: StartFault) -> u8
     }
 }
 
-fn main(rt: HostRuntime) -> ExitCode {
-    let mut started = match start(&rt) {
-        Ok(started) => started,
-        Err(fault) => return ExitCode::from(fault_code(fault)),
-    };
-    let folders = started.caches.as_slice();
+// The caches in these folders, in their order.
+fn make_caches(rt: &HostRuntime, folders: &[Path]) -> Result<Vec<Box<dyn Shelf>>, StartFault>
+    ensures { IfOk result (λ shelves. length shelves.items ≡ length folders.now) }
+{
     let mut shelves: Vec<Box<dyn Shelf>> = Vec::new(rt.alloc());
     for folder in folders {
-        let cache = match cache_at(&rt, folder) {
-            Ok(cache) => cache,
-            Err(fault) => return ExitCode::from(fault_code(fault)),
-        };
-        let Ok(shelf) = Box::new(rt.alloc(), cache) else {
-            return ExitCode::from(fault_code(StartFault::Memory));
+        let Ok(shelf) = Box::new(rt.alloc(), cache_at(rt, folder)?) else {
+            return Err(StartFault::Memory);
         };
         if shelves.push(shelf).is_err() {
-            return ExitCode::from(fault_code(StartFault::Memory));
+            return Err(StartFault::Memory);
         }
     }
+    Ok(shelves)
+}
+
+// Does what the process was started for, and answers its exit status.
+fn run<R: Threads + Sync>(threads: &R, rt: &HostRuntime) -> Result<u8, StartFault> {
+    let mut started = start(rt)?;
+    let mut shelves = make_caches(rt, started.caches.as_slice())?;
     let status = lifecycle(
-        &rt,
+        threads,
         rt.alloc(),
         started.words.as_slice(),
         &started.env,
@@ -108,5 +110,12 @@ fn main(rt: HostRuntime) -> ExitCode {
         &mut shelves,
         &mut started.out,
     );
-    ExitCode::from(status.code())
+    Ok(status.code())
+}
+
+fn main(rt: HostRuntime) -> ExitCode {
+    match run(&rt, &rt) {
+        Ok(code) => ExitCode::from(code),
+        Err(fault) => ExitCode::from(fault_code(fault)),
+    }
 }
