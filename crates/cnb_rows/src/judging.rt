@@ -16,12 +16,22 @@ pub(crate) fn judge<R: Threads + Sync>(
     let mut came = run(rt, chain, Outage::Nothing)?;
     let whole = comparison.judge(&mut came)?;
     if every_call && comparison.text.is_empty() {
-        fail_world(rt, &mut comparison, &whole)?;
-        fail_spawners(rt, &mut comparison, &whole, &came)?;
-        fail_sink(rt, &mut comparison, &whole)?;
-        fail_shelves(rt, &mut comparison, &whole)?;
+        fail_each(rt, &mut comparison, &whole, &came)?;
     }
     Ok(comparison.text)
+}
+
+// Each call of the outside, in turn.
+fn fail_each<R: Threads + Sync>(
+    rt: &R,
+    comparison: &mut Comparison,
+    whole: &Standing,
+    came: &Came,
+) -> Result<(), Fault> {
+    fail_world(rt, comparison, whole)?;
+    fail_spawners(rt, comparison, whole, came)?;
+    fail_sink(rt, comparison, whole)?;
+    fail_shelves(rt, comparison, whole)
 }
 
 // Each call on the files, and each child that runs over them.
