@@ -126,16 +126,25 @@ pub struct Detected {
 /// What a detection chooses, or why nothing, and which children ran, by as many spawners as the row says, or one.
 pub(crate) fn choose<R: Threads + Sync>(rt: &R, given: &Given) -> Result<String, Fault> {
     let (catalog, order) = (catalog(given)?, order(given)?);
-    let count = given.number_or("spawners", 1)?;
     match check(given.alloc, &order, &catalog) {
-        Ok(_) => {
-            let detected = detect_by(rt, given, &order, &catalog, count)?;
-            let mut told = told_end(given.alloc, &detected.end)?;
-            push_runs(&mut told, &detected.ran)?;
-            Ok(told)
-        }
+        Ok(_) => chosen(rt, given, &order, &catalog),
         Err(fault) => Ok(format!(in given.alloc; "{fault}")?),
     }
+}
+
+fn chosen<R: Threads + Sync>(
+    rt: &R,
+    given: &Given,
+    order: &Order,
+    catalog: &Catalog,
+) -> Result<String, Fault>
+    requires { IsOk (checked catalog.now order.now) }
+{
+    let count = given.number_or("spawners", 1)?;
+    let detected = detect_by(rt, given, order, catalog, count)?;
+    let mut told = told_end(given.alloc, &detected.end)?;
+    push_runs(&mut told, &detected.ran)?;
+    Ok(told)
 }
 
 /// A detection by so many spawners.
@@ -148,23 +157,29 @@ pub(crate) fn detect_by<R: Threads + Sync>(
 ) -> Result<Detected, Fault>
     requires { IsOk (checked catalog.now order.now) }
 {
-    let frame = frame(given.alloc)?;
     let mut spawners = spawners(given, count)?;
-    let workers = spawners.len();
-    if workers == 0 {
+    if spawners.is_empty() {
         return Err(Fault::wrong(given.alloc, "none of", "spawners"));
     }
-    let end = detect(
-        rt,
-        given.alloc,
-        order,
-        catalog,
-        &mut spawners,
-        workers,
-        &frame,
-    );
+    let end = end_by(rt, given, order, catalog, &mut spawners)?;
     let ran = ran(given.alloc, spawners.as_slice())?;
     Ok(Detected { end, ran })
+}
+
+// How a detection by these spawners ends.
+fn end_by<R: Threads + Sync>(
+    rt: &R,
+    given: &Given,
+    order: &Order,
+    catalog: &Catalog,
+    spawners: &mut Vec<Meeting<'_>>,
+) -> Result<Result<Chosen, DetectEnd>, Fault>
+    requires checked { IsOk (checked catalog.now order.now) }
+    requires spawners { 0 < length spawners.old.items }
+{
+    let frame = frame(given.alloc)?;
+    let workers = spawners.len();
+    Ok(detect(rt, given.alloc, order, catalog, spawners, workers, &frame))
 }
 
 /// How a detection ended, in words.

@@ -11,20 +11,33 @@ const NAMES: [&str; 4] = ["p", "q", "r", "s"];
 /// What a row of `detect` is given: an order over composites and a few buildpacks, or in one of 128 rows two hundred;
 /// what each child answers, or that it gives no answer; and how much time children take.
 pub(crate) fn random_row(alloc: Global, seed: u64) -> Result<Row, Fault> {
-    let mut maker = Maker::new(seed);
-    let mut given = BTreeMap::new(alloc);
-    given.insert(text(alloc, "order")?, maker.order(alloc)?)?;
-    given.insert(text(alloc, "components")?, maker.components(alloc)?)?;
-    given.insert(text(alloc, "descriptors")?, maker.descriptors(alloc)?)?;
-    given.insert(text(alloc, "replies")?, maker.replies(alloc)?)?;
-    let pause = maker.below(4096);
-    given.insert(text(alloc, "pause")?, format!(in alloc; "{pause}")?)?;
     Ok(Row {
         name: format!(in alloc; "random {seed}")?,
         call: text(alloc, "detect")?,
-        given,
+        given: random_given(alloc, &mut Maker::new(seed))?,
         want: String::new(alloc),
     })
+}
+
+fn random_given(alloc: Global, maker: &mut Maker) -> Result<BTreeMap<String, String>, Fault> {
+    let mut given = BTreeMap::new(alloc);
+    insert(alloc, &mut given, "order", maker.order(alloc)?)?;
+    insert(alloc, &mut given, "components", maker.components(alloc)?)?;
+    insert(alloc, &mut given, "descriptors", maker.descriptors(alloc)?)?;
+    insert(alloc, &mut given, "replies", maker.replies(alloc)?)?;
+    let pause = maker.below(4096);
+    insert(alloc, &mut given, "pause", format!(in alloc; "{pause}")?)?;
+    Ok(given)
+}
+
+fn insert(
+    alloc: Global,
+    given: &mut BTreeMap<String, String>,
+    name: &str,
+    value: String,
+) -> Result<(), Fault> {
+    given.insert(text(alloc, name)?, value)?;
+    Ok(())
 }
 
 fn text(alloc: Global, text: &str) -> Result<String, Fault> {
