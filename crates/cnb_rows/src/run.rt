@@ -6,19 +6,14 @@ use std::thread::Threads;
 
 /// Runs the row, with one more call failing.
 pub(crate) fn run<R: Threads + Sync>(rt: &R, chain: &Chain, outage: Outage) -> Result<Came, Fault> {
-    let mut shelves = shelves(chain, outage)?;
     let mut came = not_yet_run(chain, outage)?;
-    came.status = call(rt, chain, &mut came, &mut shelves)?;
-    came.caches = holdings(chain.alloc, chain.trees, &mut shelves)?;
-    Ok(came)
-}
-
-fn shelves(chain: &Chain, outage: Outage) -> Result<Vec<Box<dyn Shelf>>, Fault> {
     let mut shelves: Vec<Box<dyn Shelf>> = Vec::new(chain.alloc);
     for shelf in chain.mem_shelves(outage)? {
         shelves.push(Box::new(chain.alloc, shelf)?)?;
     }
-    Ok(shelves)
+    came.status = call(rt, chain, &mut came, &mut shelves)?;
+    came.caches = holdings(chain.alloc, chain.trees, &mut shelves)?;
+    Ok(came)
 }
 
 // The files, the children and the output before the run.
