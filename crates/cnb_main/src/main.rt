@@ -80,10 +80,10 @@ fn fault_code(fault: StartFault) -> u8
     }
 }
 
-// The caches in these folders, in their order.
-fn make_caches(rt: &HostRuntime, folders: &[Path]) -> Result<Vec<Box<dyn Shelf>>, StartFault>
-    ensures { IfOk result (λ shelves. length shelves.items ≡ length folders.now) }
-{
+// Does what the process was started for, and answers its exit status.
+fn run<R: Threads + Sync>(threads: &R, rt: &HostRuntime) -> Result<u8, StartFault> {
+    let mut started = start(rt)?;
+    let folders = started.caches.as_slice();
     let mut shelves: Vec<Box<dyn Shelf>> = Vec::new(rt.alloc());
     for folder in folders {
         let Ok(shelf) = Box::new(rt.alloc(), cache_at(rt, folder)?) else {
@@ -93,13 +93,6 @@ fn make_caches(rt: &HostRuntime, folders: &[Path]) -> Result<Vec<Box<dyn Shelf>>
             return Err(StartFault::Memory);
         }
     }
-    Ok(shelves)
-}
-
-// Does what the process was started for, and answers its exit status.
-fn run<R: Threads + Sync>(threads: &R, rt: &HostRuntime) -> Result<u8, StartFault> {
-    let mut started = start(rt)?;
-    let mut shelves = make_caches(rt, started.caches.as_slice())?;
     let status = lifecycle(
         threads,
         rt.alloc(),
