@@ -22,7 +22,7 @@ pub(crate) fn in_memory(rt: &HostRuntime, row: &Row) -> Result<String, LineFault
     }
 }
 
-// Where a child without a reply ends as well.
+// Plays it where a child without a reply ends too, with code 100.
 fn by_sure_children(
     rt: &HostRuntime,
     row: &Row,
@@ -34,7 +34,7 @@ fn by_sure_children(
     Ok(with_asked(alloc, told, stage.spawner.runs())?)
 }
 
-// Where a child without a reply, and each that the row names, can't be run.
+// Plays it where a child without a reply can't be run, nor one that the row names as failing.
 fn by_children(rt: &HostRuntime, row: &Row, replies: List<Reply>) -> Result<String, LineFault> {
     let alloc = rt.alloc();
     let failing = numbers(alloc, row, "failing_detect")?;

@@ -29,6 +29,7 @@ pub(crate) fn side_by_side<R: Threads + Sync>(
     told
 }
 
+// Plays the script, then asks the children, and tells what came of both.
 fn told<R: Threads + Sync, C: Shelf>(
     threads: &R,
     row: &Row,
