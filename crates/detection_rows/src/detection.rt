@@ -132,6 +132,7 @@ pub(crate) fn choose<R: Threads + Sync>(rt: &R, given: &Given) -> Result<String,
     }
 }
 
+// The same for an order that was checked.
 fn chosen<R: Threads + Sync>(
     rt: &R,
     given: &Given,
