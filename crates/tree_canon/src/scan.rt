@@ -13,8 +13,8 @@ use cnb_world::Memory;
 use std::alloc::Global;
 
 /// Judges bytes that come in pieces as `Decoder` does, and makes no tree of them: `feed` judges a piece, and `next`
-/// tells what it says of the tree besides, event by event. Who wants events gives all bytes to `next`: of those that
-/// `feed` takes none is told, and the ends of folders may be missing after them. A scan keeps one name of each open
+/// tells what it says of the tree besides, event by event. To get events, give all bytes to `next`: for those that
+/// `feed` takes there are none, and the ends of folders may be missing after them. A scan keeps one name of each open
 /// folder, the name before the one under way, and of the field that has begun all bytes but a file's contents.
 #[derive(Drop)]
 pub struct Scan {
