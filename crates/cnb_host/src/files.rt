@@ -12,9 +12,9 @@ ghost use Rattle.cnb_host.specs.Kinds.{may_run};
 use crate::fault::HostFault;
 use cnb_world::{Bytes, Kind, Text};
 use std::alloc::Global;
-use std::fs::{Metadata, OpenFile, OpenOptions};
+use std::fs::{Metadata, OpenFile, OpenOptions, Permissions};
 use std::io::{ErrorKind, Write};
-use std::os::unix::fs::{FileExt, MetadataExt, OpenOptionsExt, symlink};
+use std::os::unix::fs::{FileExt, MetadataExt, OpenOptionsExt, PermissionsExt, symlink};
 use std::rt::Files;
 use std::{fs, io};
 
@@ -207,9 +207,32 @@ const EXECUTABLE: u32 = 0o755;
 
 const PLAIN: u32 = 0o644;
 
+const RIGHTS: u32 = 0o777;
+
+const READ: u32 = 0o444;
+
+const RUN: u32 = 0o111;
+
 /// Makes an empty file and opens it, in place of a regular file that stands there.
 pub fn create_file<R: Files>(rt: &R, path: &str, exec: bool) -> Result<R::File, HostFault> {
-    let mode = if exec { EXECUTABLE } else { PLAIN };
+    if !exec {
+        return replace_with(rt, path, PLAIN);
+    }
+    let file = replace_with(rt, path, EXECUTABLE)?;
+    let_run(&file)?;
+    Ok(file)
+}
+
+// A mask may have taken away every right to run the file: who may read it may run it then.
+fn let_run(file: &impl OpenFile) -> Result<(), HostFault> {
+    let mode = file.metadata()?.mode() & RIGHTS;
+    if mode & RUN == 0 {
+        file.set_permissions(Permissions::from_mode(mode | (mode & READ) >> 2))?;
+    }
+    Ok(())
+}
+
+fn replace_with<R: Files>(rt: &R, path: &str, mode: u32) -> Result<R::File, HostFault> {
     if let Some(file) = make_new(rt, path, mode)? {
         return Ok(file);
     }
@@ -280,21 +303,27 @@ pub fn make_folders(rt: &impl Files, path: &str) -> Result<(), HostFault> {
 pub fn rename_file<R: Files>(rt: &R, old: &str, new: &str) -> Result<(), HostFault> {
     let found = fs::symlink_metadata(rt, old)?;
     let (file, _) = open_to_read(rt, old, &found)?;
-    put_in_place(rt, &file, old, new)
+    rename_open(rt, &file, old, new)
 }
 
-/// Does the same for a file that is open already.
+/// Does the same for a file that is open already. To reach the disk may take seconds, in which another process may put
+/// a file of its own there. So the file is compared with what is at the path after that, right before it is renamed.
 pub fn rename_open<R: Files>(
     rt: &R,
     file: &R::File,
     old: &str,
     new: &str,
 ) -> Result<(), HostFault> {
-    let found = fs::symlink_metadata(rt, old)?;
-    if !is_same_file(&found, &file.metadata()?) {
+    file.sync_data()?;
+    let opened = file.metadata()?;
+    match kind_at(rt, new)? {
+        Kind::File { .. } | Kind::Absent => {}
+        Kind::Folder | Kind::Link | Kind::Odd => return Err(HostFault::Failed),
+    }
+    if !is_same_file(&fs::symlink_metadata(rt, old)?, &opened) {
         return Err(HostFault::Failed);
     }
-    put_in_place(rt, file, old, new)
+    Ok(fs::rename(rt, old, new)?)
 }
 
 /// Puts a file with these bytes at a path, in place of a regular file that stands there. It is written beside its place
@@ -308,15 +337,6 @@ pub fn replace_file<R: Files + AllocGlobal>(
     let mut file = create_file(rt, unfinished.as_str(), false)?;
     file.write_all(bytes)?;
     rename_open(rt, &file, unfinished.as_str(), path)
-}
-
-fn put_in_place<R: Files>(rt: &R, file: &R::File, old: &str, new: &str) -> Result<(), HostFault> {
-    match kind_at(rt, new)? {
-        Kind::File { .. } | Kind::Absent => {}
-        Kind::Folder | Kind::Link | Kind::Odd => return Err(HostFault::Failed),
-    }
-    file.sync_data()?;
-    Ok(fs::rename(rt, old, new)?)
 }
 
 fn is_same_file(found: &Metadata, opened: &Metadata) -> bool {
@@ -334,14 +354,13 @@ pub fn link_target<R: Files + AllocGlobal>(rt: &R, path: &str) -> Result<Text, H
     Ok(Text::from_string(target.into_string()))
 }
 
-/// Takes away what stands at a path and below it. A link goes, and not what it points to.
-pub fn remove_at<R: Files + AllocGlobal>(rt: &R, path: &str) -> Result<(), HostFault> {
-    if path == "/" {
-        return Err(HostFault::Failed);
-    }
-    match kind_at(rt, path)? {
-        Kind::Absent => Ok(()),
-        Kind::Folder => Ok(fs::remove_dir_all(rt, path)?),
-        Kind::File { .. } | Kind::Link | Kind::Odd => Ok(fs::remove_file(rt, path)?),
+/// What the link at a path is taken for: one whose target is not UTF-8 is odd.
+pub fn link_kind<R: Files + AllocGlobal>(rt: &R, path: &str) -> Result<Kind, HostFault> {
+    match fs::read_link(rt, path) {
+        Ok(_) => Ok(Kind::Link),
+        Err(error) => match error.kind() {
+            ErrorKind::InvalidFilename => Ok(Kind::Odd),
+            _ => Err(HostFault::from(error)),
+        },
     }
 }

@@ -5,7 +5,7 @@
 ghost use Rattle.std.specs.Prelude.{◌≤◌, IfOk, length};
 
 use crate::fault::HostFault;
-use crate::files::{kind_of, look_at, read_found, read_part};
+use crate::files::{kind_of, link_kind, look_at, read_found, read_part};
 use cnb_world::{Bytes, Kind, Path};
 use std::alloc::Global;
 use std::fs::Metadata;
@@ -33,15 +33,18 @@ impl LookedAt {
         self.file = None;
     }
 
-    /// What stands at a path.
-    pub fn kind(&mut self, rt: &impl Files, alloc: Global, path: &Path) -> Result<Kind, HostFault> {
+    /// What stands at a path. A link whose target is not UTF-8 is odd.
+    pub fn kind<R: Files + AllocGlobal>(&mut self, rt: &R, path: &Path) -> Result<Kind, HostFault> {
         self.forget();
         let Some(found) = look_at(rt, path.as_str())? else {
             return Ok(Kind::Absent);
         };
+        if found.is_symlink() {
+            return link_kind(rt, path.as_str());
+        }
         let kind = kind_of(&found);
         if found.is_file() {
-            let path = path.copy(alloc)?;
+            let path = path.copy(rt.alloc())?;
             self.file = Some(Looked { path, found });
         }
         Ok(kind)

@@ -6,16 +6,19 @@ ghost use Rattle.cnb_host.specs.System.{runs_of};
 
 use crate::command::child_command;
 use crate::fault::HostFault;
-use crate::files::{link_target, make_folders, make_link_at, remove_at};
-use crate::kept::KeptFile;
+use crate::files::link_target;
+use crate::locks::LockFolder;
 use crate::looked::LookedAt;
 use crate::names::names_in;
 use crate::side::run_side;
-use cnb_world::{Bytes, ChildFault, ChildJob, End, FileFault, Kind, List, Path, Text, World};
+use crate::writer::Writer;
+use cnb_world::{
+    Bytes, ChildFault, ChildJob, End, FileFault, Kind, List, Memory, Path, Text, World,
+};
 use std::marker::Model;
 use std::os::unix::fs::FileExt;
 use std::process::Processes;
-use std::rt::Files;
+use std::rt::{Clock, Files};
 
 /// The files and programs of the system, which contracts see as the list of the children that ended and the counts of
 /// the calls that failed. What the files hold isn't told. A call that does not fit what stands at its path, as a read
@@ -23,7 +26,7 @@ use std::rt::Files;
 #[derive(Drop)]
 pub struct HostWorld<R: Files + Processes + AllocGlobal + Clone + Drop> {
     rt: R,
-    kept: KeptFile<R>,
+    writer: Writer<R>,
     looked: LookedAt,
     runs: Vec<Row>,
     file_faults: u64,
@@ -62,15 +65,24 @@ impl<R: Files + Processes + AllocGlobal + Clone + Drop> HostWorld<R> {
         ensures children { result.child_faults ≡ 0 }
     {
         let runs = Vec::new(rt.alloc());
+        let writer = Writer::new(rt.alloc());
         HostWorld {
             rt,
-            kept: KeptFile::none(),
+            writer,
             looked: LookedAt::none(),
             runs,
             file_faults: 0,
             failed_at: None,
             child_faults: 0,
         }
+    }
+
+    /// Has the first write below this folder wait until no other process that guards it writes below it, for five
+    /// minutes at most. From then on this process is the one that writes there, until it ends.
+    pub fn guard(&mut self, folder: Path) -> Result<(), Memory>
+        ensures { self.new ≡ self.old }
+    {
+        self.writer.guard(folder)
     }
 
     fn counted<T>(&mut self, path: &Path, outcome: Result<T, HostFault>) -> Result<T, FileFault>
@@ -133,9 +145,9 @@ impl<R: Files + Processes + AllocGlobal + Clone + Drop> HostWorld<R> {
     }
 }
 
-impl<R: Files + Processes + AllocGlobal + Clone + Drop> World for HostWorld<R>
+impl<R: Files + Processes + AllocGlobal + Clock + Eprint + Clone + Drop> World for HostWorld<R>
 where
-    R::File: FileExt,
+    R::File: FileExt + LockFolder,
 {
     ghost tree = { λ _. None };
 
@@ -152,7 +164,7 @@ where
     ghost standing = { λ _. tt };
 
     fn kind(&mut self, path: &Path) -> Result<Kind, FileFault> {
-        let kind = self.looked.kind(&self.rt, self.rt.alloc(), path);
+        let kind = self.looked.kind(&self.rt, path);
         self.counted(path, kind)
     }
 
@@ -168,29 +180,29 @@ where
 
     fn create(&mut self, path: &Path, exec: bool) -> Result<(), FileFault> {
         self.looked.forget();
-        let created = self.kept.create(&self.rt, self.rt.alloc(), path, exec);
+        let created = self.writer.create(&self.rt, path, exec);
         self.counted(path, created)
     }
 
     fn append(&mut self, path: &Path, bytes: &[u8]) -> Result<(), FileFault> {
-        let appended = self.kept.append(&self.rt, path, bytes);
+        let appended = self.writer.append(&self.rt, path, bytes);
         self.counted(path, appended)
     }
 
     fn make_folder(&mut self, path: &Path) -> Result<(), FileFault> {
-        let made = make_folders(&self.rt, path.as_str());
+        let made = self.writer.make_folder(&self.rt, path.as_str());
         self.counted(path, made)
     }
 
     fn rename(&mut self, old: &Path, new: &Path) -> Result<(), FileFault> {
         self.looked.forget();
-        let renamed = self.kept.rename(&self.rt, old, new);
+        let renamed = self.writer.rename(&self.rt, old, new);
         self.counted(new, renamed)
     }
 
     fn make_link(&mut self, path: &Path, target: &str) -> Result<(), FileFault> {
         self.looked.forget();
-        let made = make_link_at(&self.rt, path.as_str(), target);
+        let made = self.writer.make_link(&self.rt, path.as_str(), target);
         self.counted(path, made)
     }
 
@@ -201,14 +213,13 @@ where
 
     fn remove(&mut self, path: &Path) -> Result<(), FileFault> {
         self.looked.forget();
-        self.kept.close();
-        let removed = remove_at(&self.rt, path.as_str());
+        let removed = self.writer.remove(&self.rt, path.as_str());
         self.counted(path, removed)
     }
 
     fn run(&mut self, job: &ChildJob) -> Result<End, ChildFault> {
         self.looked.forget();
-        self.kept.close();
+        self.writer.close();
         let outcome = self.run_job(job);
         self.counted_end(outcome)
     }

@@ -2,16 +2,16 @@
 #![tactic(auto)]
 
 mod cache;
-mod caches;
+mod folders;
 
 ghost use Rattle.std.specs.Prelude.{◌≡◌, ◌<◌, ◌^◌, IfOk, length, map, string_bytes};
-ghost use Rattle.cnb_main.specs.Caches.{folders_by};
+ghost use Rattle.cnb_main.specs.Folders.{caches_by};
 
 use cache::FolderCache;
-use caches::cache_folders;
 use cnb_host::{HostSpawner, HostWorld, StartFault, StdoutSink, environment, words};
 use cnb_lifecycle::lifecycle;
-use cnb_world::{Env, List, Path, Shelf};
+use cnb_world::{Env, List, Memory, Path, Shelf};
+use folders::{Folders, folders_in};
 use std::alloc::AllocError;
 use std::process::ExitCode;
 use std::thread::Threads;
@@ -29,6 +29,13 @@ fn make_spawners(rt: &HostRuntime) -> Result<Vec<HostSpawner<HostRuntime>>, Allo
     Ok(spawners)
 }
 
+fn guard_all(world: &mut HostWorld<HostRuntime>, folders: List<Path>) -> Result<(), Memory> {
+    for folder in folders.into_vec() {
+        world.guard(folder)?;
+    }
+    Ok(())
+}
+
 // What the process was started with, and the system that it works on.
 #[derive(Drop)]
 struct Started {
@@ -42,20 +49,24 @@ struct Started {
 
 fn start(rt: &HostRuntime) -> Result<Started, StartFault>
     ensures spawners { IfOk result (λ started. length started.spawners.items ≡ SPAWNERS) }
-    ensures caches { IfOk result (λ started. started.caches ≡ folders_by (map string_bytes started.words.items)) }
+    ensures caches { IfOk result (λ started. started.caches ≡ caches_by (map string_bytes started.words.items)) }
     ensures few { IfOk result (λ started. length started.caches < 2 ^ 32) }
 {
     let words = words(rt)?;
     let Ok(env) = environment(rt) else {
         return Err(StartFault::Memory);
     };
-    let Ok(caches) = cache_folders(rt.alloc(), words.as_slice()) else {
+    let Ok(Folders { caches, guarded }) = folders_in(rt.alloc(), words.as_slice()) else {
         return Err(StartFault::Memory);
     };
+    let mut world = HostWorld::new(rt.clone()?);
+    if guard_all(&mut world, guarded).is_err() {
+        return Err(StartFault::Memory);
+    }
     Ok(Started {
         words,
         env,
-        world: HostWorld::new(rt.clone()?),
+        world,
         spawners: make_spawners(rt)?,
         caches,
         out: StdoutSink::new(rt.clone()?),
