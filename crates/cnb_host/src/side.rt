@@ -20,7 +20,7 @@ use std::alloc::{AllocError, Global};
 use std::fs;
 use std::io::{self, ErrorKind, PipeReader, PipeWriter, Read};
 use std::os::unix::fs::{FileExt, MetadataExt};
-use std::process::{Child, Command, Processes};
+use std::process::{Child, Command, ExitStatus, Processes};
 use std::rt::Files;
 
 /// Makes standard input descriptor 3, and hands the other words to `env`. The first word is the program.
@@ -122,6 +122,13 @@ fn start<R: Files + Processes + AllocGlobal>(
     side: PipeWriter,
 ) -> Result<Child<R::Started>, HostFault> {
     let mut command = side_command(rt.alloc(), job, side)?;
+    spawned(rt, &mut command)
+}
+
+fn spawned<R: Files + Processes>(
+    rt: &R,
+    command: &mut Command,
+) -> Result<Child<R::Started>, HostFault> {
     Ok(command.spawn(rt)?)
 }
 
@@ -213,8 +220,16 @@ where
     let (reader, writer) = io::pipe(rt)?;
     let mut child = start(rt, job, writer)?;
     let kept = read_side(rt.alloc(), reader);
-    let status = child.wait()?;
-    let side = behind_mark(rt.alloc(), kept?.as_slice())?;
+    let status = child.wait();
+    end_of(rt.alloc(), status?, kept?.as_slice())
+}
+
+// The end of a child, by its status and what was kept of what it wrote.
+fn end_of(alloc: Global, status: ExitStatus, kept: &[u8]) -> Result<End, HostFault>
+    requires { length kept.now ≤ 1048578 }
+    ensures { IfOk result (λ end. length end.side ≤ 1048577) }
+{
+    let side = behind_mark(alloc, kept)?;
     Ok(End {
         code: status.code(),
         side,

@@ -1,16 +1,16 @@
 // Detect children as programs of the system.
-ghost use Rattle.std.specs.Prelude.{◌≡◌, ◌≤◌, ◌++◌, ◌∷◌, [], None, IfOk, OnErr, length};
+ghost use Rattle.std.specs.Prelude.{◌≡◌, ◌≤◌, ◌++◌, ◌∷◌, [], None, IfOk, Ok, OnErr, length};
 ghost use Rattle.std.specs.Result.{result_ok};
 ghost use Rattle.cnb_world.specs.Calls.{CountsDetect};
 
 use crate::command::detect_command;
 use crate::fault::HostFault;
 use crate::plans::{PlanFolder, read_plan};
-use cnb_world::{Bytes, DetectFault, DetectJob, Probed, Spawner};
+use cnb_world::{DetectFault, DetectJob, Probed, Spawner};
 use std::fs::OpenOptions;
 use std::marker::Model;
 use std::os::unix::fs::FileExt;
-use std::process::{Processes, Stdio};
+use std::process::{Command, Processes, Stdio};
 use std::rt::Files;
 
 /// A spawner that runs each detect child as a program, waits for it, and keeps the list of those that ended. Contracts
@@ -74,21 +74,43 @@ impl<R: Files + Processes + AllocGlobal + Drop> HostSpawner<R> {
         ensures err { OnErr result (self.new.runs ≡ self.old.runs) }
         ensures faults { self.new.faults ≡ self.old.faults }
     {
-        let alloc = self.rt.alloc();
-        let kept = job.copy(alloc)?;
         self.runs.reserve(1)?;
+        let kept = job.copy(self.rt.alloc())?;
+        let probed = self.probe(job);
+        self.keep(kept, probed)
+    }
+
+    // Makes the child's plan file, runs the child, and reads what it left there.
+    fn probe(&mut self, job: &DetectJob) -> Result<Probed, HostFault>
+    where
+        R::File: FileExt + Into<Stdio>,
+        ensures bound { IfOk result (λ probed. length probed.plan ≤ 1048577) }
+        ensures runs { self.new.runs ≡ self.old.runs }
+        ensures faults { self.new.faults ≡ self.old.faults }
+    {
+        let alloc = self.rt.alloc();
         self.folder.make_plan(&self.rt, alloc, &job.plan)?;
         let code = self.run_child(job)?;
         let plan = read_plan(&self.rt, alloc, &job.plan)?;
-        let row = Row {
-            job: kept,
-            probed: Probed {
-                code,
-                plan: Bytes::of(alloc, plan.as_slice())?,
-            },
-        };
-        self.runs.push(row)?;
         Ok(Probed { code, plan })
+    }
+
+    // Adds the row of a child that ended.
+    fn keep(
+        &mut self,
+        job: DetectJob,
+        probed: Result<Probed, HostFault>,
+    ) -> Result<Probed, HostFault>
+        ensures ok { IfOk result (λ probed. self.new.runs
+            ≡ self.old.runs ++ record { job = job; probed = probed } ∷ []) }
+        ensures same { IfOk result (λ given. probed ≡ Ok given) }
+        ensures err { OnErr result (self.new.runs ≡ self.old.runs) }
+        ensures faults { self.new.faults ≡ self.old.faults }
+    {
+        let probed = probed?;
+        let kept = probed.copy(self.rt.alloc())?;
+        self.runs.push(Row { job, probed: kept })?;
+        Ok(probed)
     }
 
     // Runs the child and waits for it. A child that a signal ended has no code.
@@ -157,7 +179,15 @@ fn end_code<R: Processes + AllocGlobal>(
     job: &DetectJob,
 ) -> Result<Option<i32>, HostFault> {
     let command = detect_command(rt.alloc(), job)?;
+    code_of(rt, &command, input)
+}
+
+fn code_of<R: Processes>(
+    rt: &R,
+    command: &Command,
+    input: &Stdio,
+) -> Result<Option<i32>, HostFault> {
     let output = Stdio::inherit();
-    let mut child = rt.spawn(&command, input, &output, &output)?;
+    let mut child = rt.spawn(command, input, &output, &output)?;
     Ok(child.wait()?.code())
 }

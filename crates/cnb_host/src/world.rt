@@ -1,5 +1,5 @@
 // Files and children of the system as a world.
-ghost use Rattle.std.specs.Prelude.{◌≡◌, ◌≤◌, ◌++◌, ◌∷◌, [], None, false, IfOk, OnErr, length};
+ghost use Rattle.std.specs.Prelude.{◌≡◌, ◌≤◌, ◌++◌, ◌∷◌, [], None, false, IfOk, Ok, OnErr, length};
 ghost use Rattle.std.specs.Result.{result_ok};
 ghost use Rattle.cnb_world.specs.Calls.{CountsChild, CountsFailed, LastFailed};
 ghost use Rattle.cnb_host.specs.System.{runs_of};
@@ -17,7 +17,7 @@ use cnb_world::{
 };
 use std::marker::Model;
 use std::os::unix::fs::FileExt;
-use std::process::Processes;
+use std::process::{Command, Processes};
 use std::rt::{Clock, Files};
 
 /// The files and programs of the system, which contracts see as the list of the children that ended and the counts of
@@ -132,15 +132,24 @@ impl<R: Files + Processes + AllocGlobal + Clone + Drop> HostWorld<R> {
         ensures at { self.new.failed_at ≡ self.old.failed_at }
         ensures children { self.new.child_faults ≡ self.old.child_faults }
     {
-        let alloc = self.rt.alloc();
-        let kept = job.copy(alloc)?;
         self.runs.reserve(1)?;
-        let end = run_child(&self.rt, job)?;
-        let row = Row {
-            job: kept,
-            end: end.copy(alloc)?,
-        };
-        self.runs.push(row)?;
+        let kept = job.copy(self.rt.alloc())?;
+        let end = run_child(&self.rt, job);
+        self.keep(kept, end)
+    }
+
+    // Adds the row of a child that ended.
+    fn keep(&mut self, job: ChildJob, end: Result<End, HostFault>) -> Result<End, HostFault>
+        ensures ok { IfOk result (λ end. self.new.runs ≡ self.old.runs ++ record { job = job; end = end } ∷ []) }
+        ensures same { IfOk result (λ given. end ≡ Ok given) }
+        ensures err { OnErr result (self.new.runs ≡ self.old.runs) }
+        ensures files { self.new.file_faults ≡ self.old.file_faults }
+        ensures at { self.new.failed_at ≡ self.old.failed_at }
+        ensures children { self.new.child_faults ≡ self.old.child_faults }
+    {
+        let end = end?;
+        let kept = end.copy(self.rt.alloc())?;
+        self.runs.push(Row { job, end: kept })?;
         Ok(end)
     }
 }
@@ -235,9 +244,13 @@ where
     if job.side {
         return run_side(rt, job);
     }
-    let status = child_command(rt.alloc(), job)?.status(rt)?;
+    let mut command = child_command(rt.alloc(), job)?;
     Ok(End {
-        code: status.code(),
+        code: code_of(rt, &mut command)?,
         side: Bytes::from_vec(Vec::new(rt.alloc())),
     })
+}
+
+fn code_of<R: Processes>(rt: &R, command: &mut Command) -> Result<Option<i32>, HostFault> {
+    Ok(command.status(rt)?.code())
 }
