@@ -17,3 +17,4 @@ pub mod ListLemmas
 pub mod OwnIdLemmas
 pub mod PlanDocLemmas
 pub mod WrittenLemmas
+pub mod DecidingLemmas

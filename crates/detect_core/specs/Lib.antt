@@ -1,5 +1,6 @@
 pub mod Answer
 pub mod Asking
+pub mod Deciding
 pub mod Detection
 pub mod Ending
 pub mod Examples

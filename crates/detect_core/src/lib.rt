@@ -4,6 +4,7 @@
 mod answers;
 mod asking;
 mod chosen;
+mod deciding;
 mod ending;
 mod environment;
 mod job;
@@ -16,4 +17,5 @@ mod side_by_side;
 
 pub use answers::answer;
 pub use chosen::{Chosen, DetectEnd, DetectFrame, Verdict};
+pub use deciding::answers_decide;
 pub use search::detect;
