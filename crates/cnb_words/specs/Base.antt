@@ -6,18 +6,23 @@ use Rattle.cnb_words.specs.OptionValues.{◌>>=◌, image_of, path_of, target_of
 use Rattle.cnb_words.specs.declared.options.Given.{Given}
 use Rattle.cnb_words.specs.declared.base.BaseWords.{BaseWords}
 
--- no other option stands, none stands twice that mustn't, and each that must be given is
-abbrev pub base_in : List Given → Option BaseWords
-base_in options = do
-  checked ← check_names
-      (codes "--store" ∷ codes "--run" ∷ codes "--os" ∷ codes "--arch" ∷ [])
-      (codes "--tree" ∷ []) options
+-- what the options ask for, where each that must be given is
+abbrev pub base_values : List Given → Option BaseWords
+base_values options = do
   store ← path_of (codes "--store") options
   run ← image_of (codes "--run") options
   os ← target_of (codes "--os") options
   arch ← target_of (codes "--arch") options
   trees ← trees_of options
   Some (record { store = store; run = run; os = os; arch = arch; trees = trees })
+
+-- no other option stands, none stands twice that mustn't, and each that must be given is
+abbrev pub base_in : List Given → Option BaseWords
+base_in options = do
+  checked ← check_names
+      (codes "--store" ∷ codes "--run" ∷ codes "--os" ∷ codes "--arch" ∷ [])
+      (codes "--tree" ∷ []) options
+  base_values options
 
 -- paths of at most 4,096 bytes, names of an operating system and of an architecture, and at least one tree
 pub record KeepsLimits (words : BaseWords) : Type 0 where

@@ -5,13 +5,9 @@ use Rattle.cnb_words.specs.OptionValues.{◌>>=◌, caches_of, image_of, path_of
 use Rattle.cnb_words.specs.declared.options.Given.{Given}
 use Rattle.cnb_words.specs.declared.export.ExportWords.{ExportWords}
 
--- no other option stands, none stands twice that mustn't, and each that must be given is
-abbrev pub export_in : List Given → Option ExportWords
-export_in options = do
-  checked ← check_names
-      (codes "--store" ∷ codes "--work" ∷ codes "--layers" ∷ codes "--app" ∷ codes "--launcher"
-      ∷ codes "--image" ∷ [])
-      (codes "--cache" ∷ []) options
+-- what the options ask for, where each that must be given is
+abbrev pub export_values : List Given → Option ExportWords
+export_values options = do
   store ← path_of (codes "--store") options
   work ← path_of (codes "--work") options
   layers ← path_of (codes "--layers") options
@@ -28,6 +24,15 @@ export_in options = do
     image = image;
     caches = caches;
   })
+
+-- no other option stands, none stands twice that mustn't, and each that must be given is
+abbrev pub export_in : List Given → Option ExportWords
+export_in options = do
+  checked ← check_names
+      (codes "--store" ∷ codes "--work" ∷ codes "--layers" ∷ codes "--app" ∷ codes "--launcher"
+      ∷ codes "--image" ∷ [])
+      (codes "--cache" ∷ []) options
+  export_values options
 
 -- paths of at most 4,096 bytes, and fewer than 2 ^ 32 caches
 pub record KeepsLimits (words : ExportWords) : Type 0 where

@@ -5,15 +5,20 @@ use Rattle.cnb_words.specs.OptionValues.{◌>>=◌, caches_of, path_of}
 use Rattle.cnb_words.specs.declared.options.Given.{Given}
 use Rattle.cnb_words.specs.declared.restore.RestoreWords.{RestoreWords}
 
--- no other option stands, none stands twice that mustn't, and each that must be given is
-abbrev pub restore_in : List Given → Option RestoreWords
-restore_in options = do
-  checked ← check_names (codes "--store" ∷ codes "--work" ∷ codes "--layers" ∷ []) (codes "--cache" ∷ []) options
+-- what the options ask for, where each that must be given is
+abbrev pub restore_values : List Given → Option RestoreWords
+restore_values options = do
   store ← path_of (codes "--store") options
   work ← path_of (codes "--work") options
   layers ← path_of (codes "--layers") options
   caches ← caches_of options
   Some (record { store = store; work = work; layers = layers; caches = caches })
+
+-- no other option stands, none stands twice that mustn't, and each that must be given is
+abbrev pub restore_in : List Given → Option RestoreWords
+restore_in options = do
+  checked ← check_names (codes "--store" ∷ codes "--work" ∷ codes "--layers" ∷ []) (codes "--cache" ∷ []) options
+  restore_values options
 
 -- paths of at most 4,096 bytes, and fewer than 2 ^ 32 caches
 pub record KeepsLimits (words : RestoreWords) : Type 0 where

@@ -1,5 +1,5 @@
 -- What the words of a command line ask for.
-use Rattle.std.specs.Prelude.{ℕ, ◌≡◌, List, [], ◌∷◌, codes, if◌then◌else◌, Option, Some, None, Result, Ok, Err}
+use Rattle.std.specs.Prelude.{ℕ, List, [], ◌∷◌, codes, if◌then◌else◌, Option, Some, None, Result, Ok, Err}
 use Rattle.std.specs.Str.{bytes_eq}
 use Rattle.cnb_words.specs.Analyze as analyze
 use Rattle.cnb_words.specs.Base as base
@@ -16,7 +16,7 @@ use Rattle.cnb_words.specs.Restore as restore
 use Rattle.cnb_words.specs.Show as show
 use Rattle.cnb_words.specs.Unpack as unpack
 use Rattle.cnb_words.specs.declared.fault.WordsFault.{WordsFault}
-use Rattle.cnb_words.specs.declared.fault.WordsFault.TheVariants.{Usage, Memory}
+use Rattle.cnb_words.specs.declared.fault.WordsFault.TheVariants.{Usage}
 use Rattle.cnb_words.specs.declared.options.Given.{Given}
 use Rattle.cnb_words.specs.declared.words.Asked.{Asked}
 use Rattle.cnb_words.specs.declared.words.Asked.TheVariants.{Detect, Analyze, Restore, Build, Export, Create, Rebase, Base, Unpack, Show, Drill, Launch}
