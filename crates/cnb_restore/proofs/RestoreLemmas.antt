@@ -1,6 +1,7 @@
 -- Layers and buildpacks, one after another.
 use Rattle.std.proofs.Common.{◌≡◌, sym, subst, arith, ℕ, ◌<◌, ◌≤◌, Bor, List, get_or, length, map, Option, Some, Result, false}
 use Rattle.std.proofs.lemmas.List.{get_or-map, length-map}
+use Rattle.image_docs.specs.declared.image.ImageDoc.{ImageDoc}
 use Rattle.image_docs.specs.declared.layer_row.LayerRow.{LayerRow}
 use Rattle.image_docs.specs.declared.store_row.StoreRow.{StoreRow}
 use Rattle.layer_flags.specs.declared.restore.RestoreRow.{RestoreRow}
@@ -18,7 +19,8 @@ use Rattle.cnb_restore.specs.declared.restored.Restored.{Restored}
 use Rattle.cnb_restore.specs.declared.sources.Sources.{Sources}
 use Rattle.cnb_restore.specs.Faults.{cause_of}
 use Rattle.cnb_restore.specs.Layers.{writes_store}
-use Rattle.cnb_restore.specs.Restores.{prepares_folder, restores_document, restores_each, restores_found, restores_group, restores_laid, restores_layer, restores_layers, restores_part, restores_rows}
+use Rattle.cnb_restore.specs.Restores.{prepares_folder, restores_document, restores_each, restores_found, restores_laid, restores_layer, restores_layers, restores_part, restores_rows}
+use Rattle.cnb_restore.specs.RestoresFrom.{restores_from}
 use Rattle.cnb_restore.specs.Rows.{restored_part, row_of, source_of}
 
 -- a layer by its rows
@@ -52,9 +54,9 @@ prepared_as folder place id kept rows old result new same all h = subst (λ p. p
 pub stored_as : (folder : List ℕ) (kept row : Option StoreRow) (old : Seen) (result : Result (Unit {0}) RestoreFault) (new : Seen) → kept ≡ row → writes_store folder kept old result new → writes_store folder row old result new
 stored_as folder kept row old result new same h = subst (λ k. writes_store folder k old result new) same h
 
-pub group_as : (layers : List ℕ) (sources : Sources) (group rows : List GroupRow) (restored : Restored) (old : WorldAndCaches) (result : Result Restored RestoreFault) (new : WorldAndCaches)
-    → group ≡ rows → restores_group layers sources group restored old result new → restores_group layers sources rows restored old result new
-group_as layers sources group rows restored old result new same h = subst (λ g. restores_group layers sources g restored old result new) same h
+pub group_from : (layers : List ℕ) (group rows : List GroupRow) (previous : Option ImageDoc) (old : WorldAndCaches) (result : Result Restored RestoreFault) (new : WorldAndCaches)
+    → group ≡ rows → restores_from layers group previous old result new → restores_from layers rows previous old result new
+group_from layers group rows previous old result new same h = subst (λ g. restores_from layers g previous old result new) same h
 
 -- a name in a list of borrowed names
 abbrev pub texts_of : List (Bor (List ℕ)) → List (List ℕ)

@@ -72,12 +72,18 @@ served_unless (Some row) = Err (BuildpackApi row.api)
 abbrev pub served : List GroupRow → Result (Unit {0}) RestoreRefusal
 served group = served_unless (foreign_among group)
 
+-- the layers of a group are restored, where each of its buildpacks is served, and the text is made
+unfoldable pub restores_analyzed : RestoreWords → Analyzed → List GroupRow → WorldAndCaches
+    → Result (List ℕ) RestoreRefusal → WorldAndCaches → Type 0
+restores_analyzed words analyzed group = do
+  allowed ← gives refusal_cause (served group)
+  restored ← map_err Fault (restores words.store analyzed.previous group words.layers)
+  gives refusal_cause (Ok (restored_text restored))
+
 -- `restore`: what was analyzed and the group are read, the layers are restored, and the text is made
 unfoldable pub restores_command : RestoreWords → WorldAndCaches → Result (List ℕ) RestoreRefusal → WorldAndCaches
     → Type 0
 restores_command words = do
   analyzed ← map_err Fault (in_world (reads_at analyzed_at (analyzed_document words.work)))
   group ← map_err Fault (in_world (reads_at group_at (group_document words.work)))
-  allowed ← gives refusal_cause (served group)
-  restored ← map_err Fault (restores words.store analyzed.previous group words.layers)
-  gives refusal_cause (Ok (restored_text restored))
+  restores_analyzed words analyzed group

@@ -6,4 +6,5 @@ pub mod Layers
 pub mod Report
 pub mod Restored
 pub mod Restores
+pub mod RestoresFrom
 pub mod Rows

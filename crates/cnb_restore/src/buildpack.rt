@@ -38,8 +38,7 @@ fn prepare_folder<W: World>(
 {
     remove(alloc, world, folder)?;
     make_folder(alloc, world, folder)?;
-    write_store_document(alloc, world, folder, kept_for(id, kept))?;
-    Ok(())
+    write_store_document(alloc, world, folder, kept_for(id, kept))
 }
 
 // Restores the layers of a buildpack in its folder.
@@ -69,10 +68,9 @@ fn restore_rows<W: World>(
 {
     let app = rows_of(alloc, id, layers_of(&sources.previous))?;
     let cache = rows_of(alloc, id, sources.rows.as_slice())?;
-    let after = restore_layers(
+    restore_layers(
         alloc, world, shelves, places, folder, &app, &cache, restored,
-    )?;
-    Ok(after)
+    )
 }
 
 // Restores a buildpack.
@@ -102,10 +100,9 @@ fn restore_buildpack<W: World>(
 {
     let folder = layers_folder(alloc, layers, id)?;
     prepare_folder(alloc, world, &folder, id, store_of(&sources.previous))?;
-    let after = restore_rows(
+    restore_rows(
         alloc, world, shelves, places, &folder, sources, id, restored,
-    )?;
-    Ok(after)
+    )
 }
 
 /// Restores the buildpacks of a group, in order.

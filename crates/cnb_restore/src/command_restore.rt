@@ -7,7 +7,7 @@ ghost use Rattle.shelf_set.specs.Dropping.{AreStanding};
 ghost use Rattle.steps.specs.Causes.{CountsFiles, IsAnswer, IsGivenCause};
 ghost use Rattle.steps.specs.Outside.{seen};
 ghost use Rattle.steps.specs.Steps.{reads};
-ghost use Rattle.cnb_restore.specs.Commands.{analyzed_at, analyzed_document, group_at, group_document, needed, refusal_cause, restores_command, served};
+ghost use Rattle.cnb_restore.specs.Commands.{analyzed_at, analyzed_document, group_at, group_document, needed, refusal_cause, restores_analyzed, restores_command, served};
 ghost use Rattle.image_files.specs.Documents.{is_fit_document};
 ghost use Rattle.cnb_restore.specs.Faults.{cause_of};
 
@@ -51,8 +51,7 @@ fn read_analyzed<W: World>(
 {
     let path = work_document(alloc, work, "analyzed.toml")?;
     let found = find_document::<W, Analyzed>(alloc, world, &path)?;
-    let analyzed = needed(alloc, &path, found)?;
-    Ok(analyzed)
+    needed(alloc, &path, found)
 }
 
 // The chosen group.
@@ -65,8 +64,7 @@ fn read_group<W: World>(alloc: Global, world: &mut W, work: &Path) -> Result<Gro
 {
     let path = work_document(alloc, work, "group.toml")?;
     let found = find_document::<W, GroupTable>(alloc, world, &path)?;
-    let group = needed(alloc, &path, found)?;
-    Ok(group)
+    needed(alloc, &path, found)
 }
 
 // Whether the Buildpack API of each buildpack is served.
@@ -79,6 +77,43 @@ fn served(alloc: Global, group: &[GroupRow]) -> Result<(), RestoreRefusal>
         Some(row) => Err(RestoreRefusal::BuildpackApi(row.api.copy(alloc)?)),
         None => Ok(()),
     }
+}
+
+// Restores the layers of a group, where each of its buildpacks is served, and gives the text to be printed.
+fn restore_analyzed<W: World>(
+    alloc: Global,
+    options: &RestoreWords,
+    world: &mut W,
+    shelves: &mut Shelves,
+    places: &mut List<u32>,
+    analyzed: &Analyzed,
+    group: &GroupDoc,
+) -> Result<Text, RestoreRefusal>
+    requires limits { KeepsLimits options.now }
+    requires standing { AreStanding places.old (map (λ s. state_of (held s) (rows s) (faults s)) shelves.old.items) }
+    requires few { length shelves.old.items < 2 ^ 32 }
+    ensures steps { restores_analyzed options.now analyzed.now group.now
+        (world_and_caches (seen W.World world.old)
+        (caches_of (map (λ s. state_of (held s) (rows s) (faults s)) shelves.old.items) places.old)) result
+        (world_and_caches (seen W.World world.new)
+        (caches_of (map (λ s. state_of (held s) (rows s) (faults s)) shelves.new.items) places.new)) }
+    ensures again { AreStanding places.new (map (λ s. state_of (held s) (rows s) (faults s)) shelves.new.items) }
+    ensures files { CountsFiles refusal_cause result (W.file_faults world.old) (W.file_faults world.new) }
+    ensures children { W.child_faults world.new ≡ W.child_faults world.old }
+{
+    served(alloc, group.as_slice())?;
+    let restored = restore(
+        alloc,
+        world,
+        shelves,
+        places,
+        &options.store,
+        analyzed,
+        group,
+        &options.layers,
+    )?;
+    let text = restored_text(alloc, &restored)?;
+    Ok(text)
 }
 
 /// Restores what the buildpacks of the chosen group left the last time, and gives the text to be printed (platform.md,
@@ -104,17 +139,5 @@ pub fn restore_command<W: World>(
 {
     let analyzed = read_analyzed(alloc, world, &options.work)?;
     let group = read_group(alloc, world, &options.work)?;
-    served(alloc, group.as_slice())?;
-    let restored = restore(
-        alloc,
-        world,
-        shelves,
-        places,
-        &options.store,
-        &analyzed,
-        &group,
-        &options.layers,
-    )?;
-    let text = restored_text(alloc, &restored)?;
-    Ok(text)
+    restore_analyzed(alloc, options, world, shelves, places, &analyzed, &group)
 }

@@ -74,8 +74,7 @@ pub(crate) fn read_run_image<W: World>(
 {
     let path = run_path(alloc, store, name)?;
     let found = find_document::<W, RunDoc>(alloc, world, &path)?;
-    let image = named(alloc, name, found)?;
-    Ok(image)
+    named(alloc, name, found)
 }
 
 // The name of the previous image, where that is there.
@@ -93,8 +92,7 @@ fn read_known<W: World>(
 {
     let path = image_path(alloc, store, name)?;
     let found = find_document::<W, ImageDoc>(alloc, world, &path)?;
-    let known = name_of(alloc, name, found)?;
-    Ok(known)
+    name_of(alloc, name, found)
 }
 
 fn read_image<W: World>(
@@ -111,8 +109,7 @@ fn read_image<W: World>(
 {
     let path = image_path(alloc, store, name)?;
     let found = find_document::<W, ImageDoc>(alloc, world, &path)?;
-    let image = some_named(alloc, name, found)?;
-    Ok(image)
+    some_named(alloc, name, found)
 }
 
 /// The name of the previous image, where there is one and that is there.

@@ -59,8 +59,7 @@ fn restore_laid<W: World>(
     ensures children { W.child_faults world.new ≡ W.child_faults world.old }
 {
     lay_contents(alloc, world, folder, row, tree)?;
-    let after = restore_document(alloc, world, folder, row, true, restored)?;
-    Ok(after)
+    restore_document(alloc, world, folder, row, true, restored)
 }
 
 // Restores a layer by what the caches hold under its digest.
@@ -133,8 +132,7 @@ fn restore_contents<W: World>(
 {
     let Search { found, gone } = find_tree(alloc, shelves, places, &row.digest)?;
     let counted = after_search(restored, &gone)?;
-    let after = restore_found(alloc, world, folder, row, found, counted)?;
-    Ok(after)
+    restore_found(alloc, world, folder, row, found, counted)
 }
 
 // Restores a layer, by its line of the table.
@@ -270,8 +268,7 @@ pub(crate) fn restore_layers<W: World>(
     ensures children { W.child_faults world.new ≡ W.child_faults world.old }
 {
     let names = layer_names(alloc, app, cache)?;
-    let after = restore_each(
+    restore_each(
         alloc, world, shelves, places, folder, app, cache, &names, restored,
-    )?;
-    Ok(after)
+    )
 }

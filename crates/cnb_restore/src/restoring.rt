@@ -8,6 +8,7 @@ ghost use Rattle.steps.specs.Causes.{CountsFiles};
 ghost use Rattle.steps.specs.Outside.{seen};
 ghost use Rattle.cnb_restore.specs.Faults.{cause_of};
 ghost use Rattle.cnb_restore.specs.Restores.{restores};
+ghost use Rattle.cnb_restore.specs.RestoresFrom.{restores_from};
 
 use crate::buildpack::restore_group;
 use crate::fault::RestoreFault;
@@ -16,7 +17,7 @@ use crate::restored::{Restored, first};
 use crate::sources::Sources;
 use cnb_world::{List, Path, Shelf, World};
 use image_docs::Analyzed;
-use run_docs::GroupDoc;
+use run_docs::{GroupDoc, GroupRow};
 use shelf_set::{Gathered, Shelves, gather};
 use std::alloc::Global;
 
@@ -37,6 +38,36 @@ fn gather_rows(
 {
     let gathered = gather(alloc, shelves, places)?;
     Ok(gathered)
+}
+
+// Gathers the rows of the caches, and restores the buildpacks from them and from the previous image.
+fn restore_from<W: World>(
+    alloc: Global,
+    world: &mut W,
+    shelves: &mut Shelves,
+    places: &mut List<u32>,
+    layers: &Path,
+    sources: &mut Sources,
+    group: &[GroupRow],
+) -> Result<Restored, RestoreFault>
+    requires short { length layers.now ≤ 4096 }
+    requires standing { AreStanding places.old (map (λ s. state_of (held s) (rows s) (faults s)) shelves.old.items) }
+    requires few { length shelves.old.items < 2 ^ 32 }
+    ensures steps { restores_from layers.now group.now sources.old.previous
+        (world_and_caches (seen W.World world.old)
+        (caches_of (map (λ s. state_of (held s) (rows s) (faults s)) shelves.old.items) places.old)) result
+        (world_and_caches (seen W.World world.new)
+        (caches_of (map (λ s. state_of (held s) (rows s) (faults s)) shelves.new.items) places.new)) }
+    ensures again { AreStanding places.new (map (λ s. state_of (held s) (rows s) (faults s)) shelves.new.items) }
+    ensures files { CountsFiles cause_of result (W.file_faults world.old) (W.file_faults world.new) }
+    ensures children { W.child_faults world.new ≡ W.child_faults world.old }
+{
+    let Gathered { rows, unread, gone } = gather_rows(alloc, shelves, places)?;
+    sources.rows = rows;
+    let restored = first(alloc, unread, gone)?;
+    restore_group(
+        alloc, world, shelves, places, layers, sources, group, restored,
+    )
 }
 
 /// Restores for each buildpack of a group what it left in its layers folder at the build of the analyzed previous image
@@ -66,18 +97,17 @@ pub fn restore<W: World>(
     ensures children { W.child_faults world.new ≡ W.child_faults world.old }
 {
     let previous = read_previous(alloc, world, store, analyzed.previous.as_ref())?;
-    let Gathered { rows, unread, gone } = gather_rows(alloc, shelves, places)?;
-    let restored = first(alloc, unread, gone)?;
-    let sources = Sources { previous, rows };
-    let after = restore_group(
+    let mut sources = Sources {
+        previous,
+        rows: List::new(alloc),
+    };
+    restore_from(
         alloc,
         world,
         shelves,
         places,
         layers,
-        &sources,
+        &mut sources,
         group.as_slice(),
-        restored,
-    )?;
-    Ok(after)
+    )
 }

@@ -16,13 +16,7 @@ returns-in_err-make_folder-clause-step g c =
     let exit = err_from_is_err_and c.from_residual-in_err-make_folder.result c.from_residual-in_err-make_folder.ensures.1 in
     rw (exit.1, exit.2) (went _ _ _ _ _ _ _ c.in_ok-remove.ensures.step (ended _ _ _ _ _ c.in_err-make_folder.ensures.step))
 
-pub returns-in_err-write_store_document-clause-step : goal.returns-in_err-write_store_document-clause-step
-unfolding prepares_folder
-returns-in_err-write_store_document-clause-step g c =
-    let exit = err_from_is_err_and c.from_residual-in_err-write_store_document.result c.from_residual-in_err-write_store_document.ensures.1 in
-    rw (exit.1, exit.2) (went _ _ _ _ _ _ _ c.in_ok-remove.ensures.step (went _ _ _ _ _ _ _ c.in_ok-make_folder.ensures.step (stored_as _ _ _ _ _ _ c.kept_for.ensures c.in_err-write_store_document.ensures.step)))
-
 pub returns-clause-step : goal.returns-clause-step
 unfolding prepares_folder
 returns-clause-step g c =
-    went _ _ _ _ _ _ _ c.in_ok-remove.ensures.step (went _ _ _ _ _ _ _ c.in_ok-make_folder.ensures.step (stored_as _ _ _ _ _ _ c.kept_for.ensures c.in_ok-write_store_document.ensures.step))
+    went _ _ _ _ _ _ _ c.in_ok-remove.ensures.step (went _ _ _ _ _ _ _ c.in_ok-make_folder.ensures.step (stored_as _ _ _ _ _ _ c.kept_for.ensures c.write_store_document.ensures.step))

@@ -20,17 +20,9 @@ returns-in_err-cache-clause-step g c =
     let exit = err_from_is_err_and c.from_residual-in_err-cache.result c.from_residual-in_err-cache.ensures.1 in
     rw (exit.1, exit.2) (ended _ _ _ _ _ (no_memory _ _ _ Memory refl))
 
-pub returns-in_err-after-clause-step : goal.returns-in_err-after-clause-step
-unfolding restores_rows
-returns-in_err-after-clause-step g c =
-    let exit = err_from_is_err_and c.from_residual-in_err-after.result c.from_residual-in_err-after.ensures.1 in
-    rw (exit.1, exit.2) (went _ _ _ _ _ _ _ (given _ _ _ _ refl) (layers_as _ _ _ _ _ _ _ _ _
-    (ap (map (λ (row : Bor LayerRow). row.now)) c.deref.ensures.value ∙ c.in_ok-app.ensures ∙ ap (rows_of c.args.id.now) c.layers_of.ensures)
-    (ap (map (λ (row : Bor LayerRow). row.now)) c.deref-2.ensures.value ∙ c.in_ok-cache.ensures ∙ ap (rows_of c.args.id.now) c.as_slice.ensures) c.in_err-after.ensures.step))
-
 pub returns-clause-step : goal.returns-clause-step
 unfolding restores_rows
 returns-clause-step g c =
     went _ _ _ _ _ _ _ (given _ _ _ _ refl) (layers_as _ _ _ _ _ _ _ _ _
     (ap (map (λ (row : Bor LayerRow). row.now)) c.deref.ensures.value ∙ c.in_ok-app.ensures ∙ ap (rows_of c.args.id.now) c.layers_of.ensures)
-    (ap (map (λ (row : Bor LayerRow). row.now)) c.deref-2.ensures.value ∙ c.in_ok-cache.ensures ∙ ap (rows_of c.args.id.now) c.as_slice.ensures) c.in_ok-after.ensures.step)
+    (ap (map (λ (row : Bor LayerRow). row.now)) c.deref-2.ensures.value ∙ c.in_ok-cache.ensures ∙ ap (rows_of c.args.id.now) c.as_slice.ensures) c.restore_layers.ensures.step)

@@ -1,4 +1,4 @@
-use Rattle.std.proofs.Common.{Ok, refl}
+use Rattle.std.proofs.Common.{refl}
 use Rattle.std.proofs.lemmas.Result.{err_from_is_err_and}
 use Rattle.image_docs.specs.Analyzed.{table_in}
 use Rattle.image_files.proofs.ToldReads.{document_read, document_refused, nothing_read}
@@ -18,11 +18,6 @@ returns-in_err-found-clause-step g c =
     let exit = err_from_is_err_and c.from_residual-in_err-found.result c.from_residual-in_err-found.ensures.1 in
     rw (exit.1, exit.2) (document_refused cause_of of_read_fault same_cause table_in needed _ c.in_ok-path.ensures c.in_err-found.ensures.reads c.in_err-found.ensures.frame c.in_err-found.ensures.misused)
 
-pub returns-in_err-analyzed-clause-step : goal.returns-in_err-analyzed-clause-step
-returns-in_err-analyzed-clause-step g c =
-    let exit = err_from_is_err_and c.from_residual-in_err-analyzed.result c.from_residual-in_err-analyzed.ensures.1 in
-    rw (exit.1, exit.2) (document_read cause_of of_read_fault same_cause table_in needed c.in_ok-found.found _ c.in_ok-path.ensures c.in_ok-found.ensures.reads c.in_ok-found.ensures.frame c.in_ok-found.ensures.misused c.in_err-analyzed.ensures.answer c.in_err-analyzed.ensures.cause)
-
 pub returns-clause-step : goal.returns-clause-step
 returns-clause-step g c =
-    document_read cause_of of_read_fault same_cause table_in needed c.in_ok-found.found (Ok c.in_ok-analyzed.analyzed) c.in_ok-path.ensures c.in_ok-found.ensures.reads c.in_ok-found.ensures.frame c.in_ok-found.ensures.misused c.in_ok-analyzed.ensures.answer tt
+    document_read cause_of of_read_fault same_cause table_in needed c.in_ok-found.found _ c.in_ok-path.ensures c.in_ok-found.ensures.reads c.in_ok-found.ensures.frame c.in_ok-found.ensures.misused c.needed.ensures.answer c.needed.ensures.cause

@@ -10,13 +10,7 @@ returns-in_err-lay_contents-clause-step g c caches =
     let exit = err_from_is_err_and c.from_residual.result c.from_residual.ensures.1 in
     rw (exit.1, exit.2) (ended _ _ _ _ _ (within _ _ _ caches _ c.in_err-lay_contents.ensures.step))
 
-pub returns-in_err-after-clause-step : goal.returns-in_err-after-clause-step
-unfolding restores_laid
-returns-in_err-after-clause-step g c caches =
-    let exit = err_from_is_err_and c.from_residual-in_err-after.result c.from_residual-in_err-after.ensures.1 in
-    rw (exit.1, exit.2) (went _ _ _ _ _ _ _ (within _ _ _ caches _ c.in_ok-lay_contents.ensures.step) (c.in_err-after.ensures.step caches))
-
 pub returns-clause-step : goal.returns-clause-step
 unfolding restores_laid
 returns-clause-step g c caches =
-    went _ _ _ _ _ _ _ (within _ _ _ caches _ c.in_ok-lay_contents.ensures.step) (c.in_ok-after.ensures.step caches)
+    went _ _ _ _ _ _ _ (within _ _ _ caches _ c.in_ok-lay_contents.ensures.step) (c.restore_document.ensures.step caches)

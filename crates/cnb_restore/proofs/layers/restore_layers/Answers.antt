@@ -12,13 +12,7 @@ returns-in_err-names-clause-step g c =
     let exit = err_from_is_err_and c.from_residual.result c.from_residual.ensures.1 in
     rw (exit.1, exit.2) (ended _ _ _ _ _ (no_memory _ _ _ Memory refl))
 
-pub returns-in_err-after-clause-step : goal.returns-in_err-after-clause-step
-unfolding restores_layers
-returns-in_err-after-clause-step g c =
-    let exit = err_from_is_err_and c.from_residual-in_err-after.result c.from_residual-in_err-after.ensures.1 in
-    rw (exit.1, exit.2) (went _ _ _ _ _ _ _ (given _ _ _ _ refl) (each_as _ _ _ _ _ _ _ _ _ (ap (map (λ (name : Bor (List ℕ)). name.now)) c.deref.ensures.value ∙ c.in_ok-names.ensures) c.in_err-after.ensures.step))
-
 pub returns-clause-step : goal.returns-clause-step
 unfolding restores_layers
 returns-clause-step g c =
-    went _ _ _ _ _ _ _ (given _ _ _ _ refl) (each_as _ _ _ _ _ _ _ _ _ (ap (map (λ (name : Bor (List ℕ)). name.now)) c.deref.ensures.value ∙ c.in_ok-names.ensures) c.in_ok-after.ensures.step)
+    went _ _ _ _ _ _ _ (given _ _ _ _ refl) (each_as _ _ _ _ _ _ _ _ _ (ap (map (λ (name : Bor (List ℕ)). name.now)) c.deref.ensures.value ∙ c.in_ok-names.ensures) c.restore_each.ensures.step)
