@@ -1,5 +1,5 @@
 -- What the calls say, as steps.
-use Rattle.std.proofs.Common.{◌≡◌, ℕ, Bool, true, List, Option, Some, None, Result, Ok, Err}
+use Rattle.std.proofs.Common.{◌≡◌, ℕ, Bool, true, List, Result, Ok, Err}
 use Rattle.std.specs.Prelude.{IfErr, IfOk, IfSome, IsTrue, OnOk}
 use Rattle.std.specs.Option.{option_map}
 use Rattle.sha2.specs.Sha256.{sha256}

@@ -1,8 +1,7 @@
 -- Checking a tree's file: what is hashed and scanned as it comes, and what that says of getting the tree.
-use Rattle.std.proofs.Common.{◌≡◌, ℕ, ◌+◌, ◌*◌, ◌/◌, ◌≤◌, ◌∙◌, List, [], ◌++◌, length, take, drop, refl, sym, ap, subst, arith, Option, Some, None, Bool, true, false, Result, Ok, Err}
-use Rattle.std.specs.Prelude.{IfErr, IfSome, IsTrue, ◌↔◌}
+use Rattle.std.proofs.Common.{◌≡◌, ℕ, ◌*◌, ◌≤◌, ◌∙◌, List, [], ◌++◌, length, take, refl, sym, ap, subst, Option, Some, None, Bool, true, false, Result, Ok, Err}
+use Rattle.std.specs.Prelude.{IfErr, IfSome, IsTrue, OnOk, ◌↔◌}
 use Rattle.std.specs.Option.{option_map}
-use Rattle.std.proofs.Math.Seq.{take-add}
 use Rattle.std.proofs.lemmas.List.{take_all}
 use Rattle.sha2.specs.Sha256.{sha256}
 use Rattle.sha2.specs.Hashers.{Holds256}
@@ -30,10 +29,11 @@ use Rattle.tree_store.specs.Answers.{BlamesAt, cause_of}
 use Rattle.tree_store.specs.Checking.{Checks, ChecksOf, HasChecked}
 use Rattle.tree_store.specs.Judging.{IsFed}
 use Rattle.tree_store.specs.Steps.{checks_tree, gets_tree}
+use Rattle.tree_store.specs.Digests.{HasTree}
 use Rattle.tree_store.specs.Store.{tree_path, Gets}
 use Rattle.tree_store.proofs.CallSteps.{got}
 use Rattle.tree_store.proofs.Feeding.{fed_on, fed_broken, ended_badly}
-use Rattle.tree_store.proofs.Kept.{contents, next_number}
+use Rattle.tree_store.proofs.Kept.{Taken, contents}
 
 -- ---- one piece
 
@@ -76,33 +76,32 @@ ends_other digest bytes found is other = (refl, is, (λ e. absurd (let no : fals
 
 -- ---- the file
 
--- more of a file's bytes were taken
-pub checked_more : (o o1 : Option Tree) (path piece : List ℕ) (before after : Checking) (number : ℕ) → o1 ≡ o → IfSome o (λ files. HasChecked before (take (number * 65536) (contents files path)))
-    → IfSome o1 (λ files. piece ≡ take 65536 (drop (number * 65536) (contents files path))) → ((bytes : List ℕ) → HasChecked before bytes → HasChecked after (bytes ++ piece))
-    → IfSome o (λ files. HasChecked after (take ((number + 1) * 65536) (contents files path)))
-checked_more None o1 path piece before after number same taken read more = tt
-checked_more (Some files) o1 path piece before after number same taken read more =
-    subst (HasChecked after) (ap (λ p. take (number * 65536) (contents files path) ++ p) (subst (λ x. IfSome x (λ files. piece ≡ take 65536 (drop (number * 65536) (contents files path)))) same read) ∙ sym (take-add (number * 65536) 65536 (contents files path)) ∙ ap (λ n. take n (contents files path)) (next_number number)) (more (take (number * 65536) (contents files path)) taken)
-
-pub none_checked : (o : Option Tree) (path : List ℕ) (checking : Checking) → HasChecked checking [] → IfSome o (λ files. HasChecked checking (take (0 * 65536) (contents files path)))
-none_checked None path checking h = tt
-none_checked (Some files) path checking h = h
-
 in_file : (digest bytes : List ℕ) (exec : Bool) (result : Result Unit StoreFault) → ChecksOf digest bytes result → Checks digest (Some (item.File exec bytes)) result
 in_file digest bytes exec (Ok done) h = h
 in_file digest bytes exec (Err fault) h = h
 
-pub kept_checks : (o : Option Tree) (path digest : List ℕ) (len : ℕ) (checking : Checking) (result : Result Unit StoreFault) → IfSome o (λ files. length (contents files path) ≤ len) → IfSome o (λ files. IsTrue (is_file (item_at files path)))
-    → IfSome o (λ files. HasChecked checking (take ((len / 65536 + 1) * 65536) (contents files path))) → ((bytes : List ℕ) → HasChecked checking bytes → ChecksOf digest bytes result) → IfSome o (λ files. Checks digest (item_at files path) result)
-kept_checks None path digest len checking result short file taken ends = tt
-kept_checks (Some files) path digest len checking result short file taken ends = by (item_at files path) file short taken
+pub kept_checks : (o : Option Tree) (path digest : List ℕ) (number : ℕ) (checking : Checking) (result : Result Unit StoreFault) → IfSome o (λ files. length (contents files path) ≤ number * 65536) → IfSome o (λ files. IsTrue (is_file (item_at files path)))
+    → Taken o path number (HasChecked checking) → ((bytes : List ℕ) → HasChecked checking bytes → ChecksOf digest bytes result) → IfSome o (λ files. Checks digest (item_at files path) result)
+kept_checks o path digest number checking result few file t ends = by o few file t.told
   where
-    by : (found : Option Item) → IsTrue (is_file found) → length (bytes_of found) ≤ len → HasChecked checking (take ((len / 65536 + 1) * 65536) (bytes_of found)) → Checks digest found result
-    by None f s t = absurd (cc)
-    by (Some item.Folder) f s t = absurd (cc)
-    by (Some (item.Link target)) f s t = absurd (cc)
-    by (Some item.Odd) f s t = absurd (cc)
-    by (Some (item.File exec bytes)) f s t = in_file digest bytes exec result (ends bytes (subst (HasChecked checking) (take_all ((len / 65536 + 1) * 65536) bytes (omega arith)) t))
+    one : (found : Option Item) → IsTrue (is_file found) → length (bytes_of found) ≤ number * 65536 → t.bytes ≡ take (number * 65536) (bytes_of found) → Checks digest found result
+    one None f s told = absurd (cc)
+    one (Some item.Folder) f s told = absurd (cc)
+    one (Some (item.Link target)) f s told = absurd (cc)
+    one (Some item.Odd) f s told = absurd (cc)
+    one (Some (item.File exec bytes)) f s told = in_file digest bytes exec result (ends bytes (subst (HasChecked checking) (told ∙ take_all (number * 65536) bytes s) t.taken))
+
+    by : (o : Option Tree) → IfSome o (λ files. length (contents files path) ≤ number * 65536) → IfSome o (λ files. IsTrue (is_file (item_at files path))) → IfSome o (λ files. t.bytes ≡ take (number * 65536) (contents files path)) → IfSome o (λ files. Checks digest (item_at files path) result)
+    by None few file told = tt
+    by (Some files) few file told = one (item_at files path) file few told
+
+-- a tree whose spelling was taken
+pub checked_digest : (o : Option Tree) (path digest : List ℕ) (number : ℕ) (checking : Checking) (result : Result Unit StoreFault) → Taken o path number (HasChecked checking) → ((bytes : List ℕ) → HasChecked checking bytes → ChecksOf digest bytes result) → OnOk result (HasTree digest)
+checked_digest o path digest number checking (Ok done) t ends = by (ends t.bytes t.taken)
+  where
+    by : (root : Node) × ((sha256 t.bytes ≡ digest) × Spells root t.bytes) → HasTree digest
+    by (root, h) = record { tree = root; digest_is = ap sha256 (sym h.1.is) ∙ h.0 }
+checked_digest o path digest number checking (Err fault) t ends = tt
 
 -- ---- the step
 

@@ -14,7 +14,6 @@ use Rattle.cnb_world.specs.declared.world.Item.TheVariants as item
 use Rattle.cnb_world.specs.declared.world.Kind.{Kind}
 use Rattle.cnb_world.specs.declared.world.Kind.TheVariants as kind
 use Rattle.cnb_world.specs.declared.limits.LimitKind.TheVariants.{Depth, Tree as TreeLimit}
-use Rattle.cnb_world.specs.declared.world.World as world
 use Rattle.steps.specs.Causes.{Cause, FileFailed, ChildFailed, OutOfMemory, Decided, CountsFiles, IsAnswer, WhereDecided}
 use Rattle.steps.specs.Outside.{Seen}
 use Rattle.steps.specs.Reading.{ReadFrame}
@@ -30,7 +29,7 @@ use Rattle.tree_store.specs.Around.{KeepsAround, KeptAround}
 use Rattle.tree_store.specs.Reading.{◌>>=◌, FitsFrom, Sized, in_order, entry_in_front, folder_of, link_of, node_at, node_of, room, sized, tree_in}
 use Rattle.tree_store.specs.Writing.{Added, AreApart, AreEntriesOf, HasLength, HasWritten, IsNodeOf, IsPart, IsRootOf, IsTreeOf, LeavesNew, Refuses, new_path, sized_as, trees_of}
 use Rattle.tree_store.specs.declared.fault.StoreFault.{StoreFault}
-use Rattle.tree_store.specs.declared.fault.StoreFault.TheVariants.{Limit, File}
+use Rattle.tree_store.specs.declared.fault.StoreFault.TheVariants.{Limit}
 use Rattle.tree_store.specs.declared.writing.Writer.{Writer}
 use Rattle.tree_store.proofs.Ahead.{blames_at}
 use Rattle.tree_store.proofs.Apart.{again, apart_child, item_kept, still}
@@ -135,6 +134,17 @@ parts_joined {before} {path} {from} {mid} {to} {m} {n} a b = record {
         → IfSome o (λ files. take from (bytes_of (item_at files path)) ++ (m ++ n) ≡ take to (bytes_of (item_at files path)))
     some None a b = tt
     some (Some files) a b = sym (append_assoc (take from (bytes_of (item_at files path))) m n) ∙ ap (λ p. p ++ n) a ∙ b
+
+-- nothing behind the end
+pub no_part_more : (before : Option Tree) (path : List ℕ) (len : ℕ) → IsPart before path len len []
+no_part_more before path len = record { length_is = let e : len + 0 ≡ len = omega arith in e; told = some before }
+  where
+    some : (o : Option Tree) → IfSome o (λ files. take len (bytes_of (item_at files path)) ++ [] ≡ take len (bytes_of (item_at files path)))
+    some None = tt
+    some (Some files) = append-nil (take len (bytes_of (item_at files path)))
+
+pub part_ends : {before : Option Tree} {path : List ℕ} {len to : ℕ} {more : List ℕ} → to ≤ len → IsPart before path len to more → IsPart before path len len more
+part_ends {before} {path} {len} {to} {more} within part = subst (λ n. IsPart before path len n more) (let long : len + length more ≡ to = part.length_is in let same : to ≡ len = omega (arith, long, within) in same) part
 
 pub no_part : (before : Option Tree) (path : List ℕ) → IsPart before path 0 0 []
 no_part before path = record { length_is = refl; told = some before }

@@ -1,5 +1,5 @@
 -- Reading the bytes of a tree's file one field after another.
-use Rattle.std.proofs.Common.{◌≡◌, ◌≤◌, ◌+◌, ◌-◌, ◌∙◌, ◌==◌, refl, sym, ap, subst, arith, ℕ, zero, suc, Bool, true, false, not, ◌&&◌, List, [], ◌∷◌, ◌++◌, length, take, drop, length-append, Option, Some, None}
+use Rattle.std.proofs.Common.{◌≡◌, ◌≤◌, ◌+◌, ◌-◌, ◌∙◌, ◌==◌, refl, sym, ap, subst, arith, ℕ, zero, suc, Bool, true, false, not, ◌&&◌, List, [], ◌∷◌, ◌++◌, append_assoc, length, take, drop, length-append, Option, Some, None}
 use Rattle.std.specs.Prelude.{IfSome, IsTrue, nat_le, nat_lt}
 use Rattle.std.specs.List.{list_all}
 use Rattle.std.specs.Option.{option_map}
@@ -7,6 +7,9 @@ use Rattle.std.specs.Str.{bytes_eq, is_utf8}
 use Rattle.std.proofs.Math.Seq.{drop-append_seam, drop-nil}
 use Rattle.std.proofs.lemmas.Bool.{and_parts, and_from}
 use Rattle.std.proofs.lemmas.List.{drop-take, length-take}
+use Rattle.sha2.specs.Hashers.{Holds256}
+use Rattle.sha2.specs.Sha256.{sha256}
+use Rattle.sha2.specs.declared.Sha256.{Sha256}
 use Rattle.cnb_world.specs.Calls.{MayMisuse}
 use Rattle.cnb_world.specs.Path.{is_part, is_part_byte}
 use Rattle.cnb_world.specs.Tree.{Tree, bytes_of, is_file, item_at}
@@ -40,12 +43,15 @@ take_within (suc n) (suc m) (x ∷ xs) le = ap (λ l. x ∷ l) (take_within n m 
 
 -- ---- a piece that is read
 
-filled : (source after : KeptBytes) (found : Option Item) (bytes : List ℕ) → IsAhead source found bytes → after.at ≡ source.at → after.used ≡ 0 → after.piece ≡ take 65536 (drop source.at (bytes_of found)) → IsAhead after found bytes
-filled source after found bytes h at used piece = record {
+filled : (source after : KeptBytes) (found : Option Item) (bytes : List ℕ) → IsAhead source found bytes → after.digest ≡ source.digest → after.hasher ≡ source.hasher → after.at ≡ source.at → after.used ≡ 0 → after.piece ≡ take 65536 (drop source.at (bytes_of found)) → IsAhead after found bytes
+filled source after found bytes h digest hasher at used piece = record {
   file = h.file;
   few = subst (λ n. n + length bytes ≤ limit) (sym at) h.few;
   is = h.is ∙ ap (λ n. drop n (bytes_of found)) (sym at);
   held = ap (λ n. drop n after.piece) used ∙ whole ∙ ap (λ n. take (length after.piece - n) bytes) (sym used);
+  taken = h.taken;
+  hashed = subst (λ (s : Sha256). Holds256 s h.taken) (sym hasher) h.hashed;
+  whole = h.whole ∙ sym digest;
 }
   where
     first : after.piece ≡ take 65536 bytes
@@ -54,11 +60,11 @@ filled source after found bytes h at used piece = record {
     whole : after.piece ≡ take (length after.piece - 0) bytes
     whole = first ∙ sym (take_own 65536 bytes) ∙ ap (λ l. take (length l) bytes) (sym first) ∙ ap (λ n. take n bytes) (let e : length after.piece ≡ length after.piece - 0 = omega arith in e)
 
-pub ahead_filled : (source after : KeptBytes) (o o1 : Option Tree) (bytes : List ℕ) → o1 ≡ o → IfSome o (λ files. after.piece ≡ take 65536 (drop source.at (bytes_of (item_at files source.path)))) → after.path ≡ source.path → after.at ≡ source.at → after.used ≡ 0 → Ahead source o bytes → Ahead after o1 bytes
+pub ahead_filled : (source after : KeptBytes) (o o1 : Option Tree) (bytes : List ℕ) → o1 ≡ o → IfSome o (λ files. after.piece ≡ take 65536 (drop source.at (bytes_of (item_at files source.path)))) → after.path ≡ source.path → after.digest ≡ source.digest → after.hasher ≡ source.hasher → after.at ≡ source.at → after.used ≡ 0 → Ahead source o bytes → Ahead after o1 bytes
 unfolding Ahead
-ahead_filled source after None o1 bytes same read path at used h = absurd h
-ahead_filled source after (Some files) o1 bytes same read path at used h = subst (λ x. Ahead after x bytes) (sym same)
-    (subst (λ p. IsAhead after (item_at files p) bytes) (sym path) (filled source after (item_at files source.path) bytes h at used read))
+ahead_filled source after None o1 bytes same read path digest hasher at used h = absurd h
+ahead_filled source after (Some files) o1 bytes same read path digest hasher at used h = subst (λ x. Ahead after x bytes) (sym same)
+    (subst (λ p. IsAhead after (item_at files p) bytes) (sym path) (filled source after (item_at files source.path) bytes h digest hasher at used read))
 
 -- a piece has all the bytes that are wanted, where so many lie ahead
 pub piece_long : (source : KeptBytes) (o : Option Tree) (piece bytes : List ℕ) (len : ℕ) → len ≤ 65536 → len ≤ length bytes → IfSome o (λ files. piece ≡ take 65536 (drop source.at (bytes_of (item_at files source.path)))) → Ahead source o bytes → len ≤ length piece
@@ -81,8 +87,8 @@ unfolding Ahead
 ahead_taken source None field rest len is held h = absurd h
 ahead_taken source (Some files) field rest len is held h = ap (λ n. take n (drop source.used source.piece)) (sym is) ∙ taken source (item_at files source.path) field rest (omega arith) h
 
-moved : (source after : KeptBytes) (found : Option Item) (field rest : List ℕ) → source.used + length field ≤ length source.piece → IsAhead source found (field ++ rest) → after.piece ≡ source.piece → after.at ≡ source.at + length field → after.used ≡ source.used + length field → IsAhead after found rest
-moved source after found field rest held h piece at used = record {
+moved : (source after : KeptBytes) (found : Option Item) (field rest : List ℕ) → source.used + length field ≤ length source.piece → IsAhead source found (field ++ rest) → after.digest ≡ source.digest → ((bytes : List ℕ) → Holds256 source.hasher bytes → Holds256 after.hasher (bytes ++ field)) → after.piece ≡ source.piece → after.at ≡ source.at + length field → after.used ≡ source.used + length field → IsAhead after found rest
+moved source after found field rest held h digest hashes piece at used = record {
   file = h.file;
   few = omega (arith, h.few, at, length-append field rest);
   is = sym (drop-append_seam field rest) ∙ ap (drop (length field)) h.is ∙ sym (drop_more source.at (length field) (bytes_of found)) ∙ ap (λ n. drop n (bytes_of found)) (sym at);
@@ -91,13 +97,16 @@ moved source after found field rest held h piece at used = record {
       ∙ drop-take (length field) (length source.piece - (source.used + length field)) (field ++ rest)
       ∙ ap (take (length source.piece - (source.used + length field))) (drop-append_seam field rest)
       ∙ ap (λ p. take (length p - (source.used + length field)) rest) (sym piece) ∙ ap (λ n. take (length after.piece - n) rest) (sym used);
+  taken = h.taken ++ field;
+  hashed = hashes h.taken h.hashed;
+  whole = ap sha256 (append_assoc h.taken field rest) ∙ h.whole ∙ sym digest;
 }
 
-pub ahead_moved : (source after : KeptBytes) (o : Option Tree) (field rest : List ℕ) (len : ℕ) → length field ≡ len → source.used + len ≤ length source.piece → after.path ≡ source.path → after.piece ≡ source.piece → after.at ≡ source.at + len → after.used ≡ source.used + len → Ahead source o (field ++ rest) → Ahead after o rest
+pub ahead_moved : (source after : KeptBytes) (o : Option Tree) (field rest : List ℕ) (len : ℕ) → length field ≡ len → source.used + len ≤ length source.piece → after.path ≡ source.path → after.digest ≡ source.digest → ((bytes : List ℕ) → Holds256 source.hasher bytes → Holds256 after.hasher (bytes ++ field)) → after.piece ≡ source.piece → after.at ≡ source.at + len → after.used ≡ source.used + len → Ahead source o (field ++ rest) → Ahead after o rest
 unfolding Ahead
-ahead_moved source after None field rest len is held path piece at used h = absurd h
-ahead_moved source after (Some files) field rest len is held path piece at used h =
-    subst (λ p. IsAhead after (item_at files p) rest) (sym path) (moved source after (item_at files source.path) field rest (omega arith) h piece (at ∙ ap (λ n. source.at + n) (sym is)) (used ∙ ap (λ n. source.used + n) (sym is)))
+ahead_moved source after None field rest len is held path digest hashes piece at used h = absurd h
+ahead_moved source after (Some files) field rest len is held path digest hashes piece at used h =
+    subst (λ p. IsAhead after (item_at files p) rest) (sym path) (moved source after (item_at files source.path) field rest (omega arith) h digest hashes piece (at ∙ ap (λ n. source.at + n) (sym is)) (used ∙ ap (λ n. source.used + n) (sym is)))
 
 -- no file is longer than the most that a spelling has
 pub ahead_few : (source : KeptBytes) (o : Option Tree) (bytes : List ℕ) → Ahead source o bytes → source.at + length bytes ≤ limit

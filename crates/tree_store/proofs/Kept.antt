@@ -1,14 +1,12 @@
 -- The bytes of a tree's file, piece by piece.
-use Rattle.std.proofs.Common.{◌≡◌, ◌≢◌, ℕ, ◌+◌, ◌*◌, ◌/◌, ◌<◌, ◌∙◌, Bool, true, false, not, List, [], ◌++◌, length, take, drop, refl, sym, ap, subst, arith, Option, Some, None}
+use Rattle.std.proofs.Common.{◌≡◌, ◌≢◌, ℕ, ◌+◌, ◌*◌, ◌/◌, ◌<◌, ◌≤◌, ◌∙◌, Bool, true, false, not, List, [], ◌++◌, length, take, drop, refl, sym, ap, subst, arith, Option, Some, None}
 use Rattle.std.specs.Prelude.{IfSome, IsTrue, ◌↔◌}
 use Rattle.std.specs.Option.{option_map}
 use Rattle.std.specs.Str.{bytes_eq}
 use Rattle.std.proofs.lemmas.Slice.Eq.{bytes_eq-Decides}
 use Rattle.std.proofs.Math.Seq.{take-add}
-use Rattle.std.proofs.lemmas.List.{take_all, length-take}
+use Rattle.std.proofs.lemmas.List.{take_all, length-drop, length-take}
 use Rattle.cnb_world.specs.Calls.{MayMisuse}
-use Rattle.tree_store.specs.declared.judging.Judging.{Judging}
-use Rattle.tree_store.specs.Judging.{HasTaken}
 use Rattle.cnb_world.specs.Tree.{Tree, item_at, is_file, bytes_of}
 
 -- ---- lists read in pieces
@@ -65,6 +63,20 @@ pub other_piece : (o o1 : Option Tree) (path bytes piece expected : List ℕ) (n
 other_piece None o1 path bytes piece expected number same read is ne = tt
 other_piece (Some files) o1 path bytes piece expected number same read is ne = λ e. ne (subst (λ x. IfSome x (λ files. piece ≡ take 65536 (drop (number * 65536) (contents files path)))) same read ∙ ap (λ b. take 65536 (drop (number * 65536) b)) e ∙ sym is)
 
+-- so many pieces are all of a file
+pub within_pieces : (o : Option Tree) (path : List ℕ) (len number : ℕ) → len < number * 65536 → IfSome o (λ files. length (contents files path) ≤ len) → IfSome o (λ files. length (contents files path) ≤ number * 65536)
+within_pieces None path len number less few = tt
+within_pieces (Some files) path len number less few = omega (arith, less, few)
+
+-- the last of them is a short one
+pub last_piece : (o o1 : Option Tree) (path piece : List ℕ) (number : ℕ) → o1 ≡ o → length piece < 65536 → IfSome o1 (λ files. piece ≡ take 65536 (drop (number * 65536) (contents files path))) → IfSome o (λ files. length (contents files path) ≤ (number + 1) * 65536)
+last_piece None o1 path piece number same short read = tt
+last_piece (Some files) o1 path piece number same short read =
+    ends (contents files path) (subst (λ x. IfSome x (λ files. piece ≡ take 65536 (drop (number * 65536) (contents files path)))) same read)
+  where
+    ends : (bytes : List ℕ) → piece ≡ take 65536 (drop (number * 65536) bytes) → length bytes ≤ (number + 1) * 65536
+    ends bytes is = omega (arith, short, ap length is, length-take 65536 (drop (number * 65536) bytes), length-drop (number * 65536) bytes)
+
 -- ---- misuse
 
 pub may_begin : (o : Option Bool) (a : ℕ) → MayMisuse o a a
@@ -81,15 +93,29 @@ may_more (Some false) a b c x y = omega (arith, x, y)
 pub told_slice : (o : Option Tree) (path slice piece : List ℕ) (number : ℕ) → slice ≡ piece → IfSome o (λ files. piece ≡ take 65536 (drop (number * 65536) (contents files path))) → IfSome o (λ files. slice ≡ take 65536 (drop (number * 65536) (contents files path)))
 told_slice o path slice piece number e h = subst (λ p. IfSome o (λ files. p ≡ take 65536 (drop (number * 65536) (contents files path)))) (sym e) h
 
--- more of a file's bytes were taken
-pub taken_on : (o o1 : Option Tree) (path piece : List ℕ) (before after : Judging) (number : ℕ) → o1 ≡ o → IfSome o (λ files. HasTaken before (take (number * 65536) (contents files path))) → IfSome o1 (λ files. piece ≡ take 65536 (drop (number * 65536) (contents files path))) → ((bytes : List ℕ) → HasTaken before bytes → HasTaken after (bytes ++ piece)) → IfSome o (λ files. HasTaken after (take ((number + 1) * 65536) (contents files path)))
-taken_on None o1 path piece before after number same taken read more = tt
-taken_on (Some files) o1 path piece before after number same taken read more =
-    subst (HasTaken after) (ap (λ p. take (number * 65536) (contents files path) ++ p) (subst (λ x. IfSome x (λ files. piece ≡ take 65536 (drop (number * 65536) (contents files path)))) same read) ∙ sym (take-add (number * 65536) 65536 (contents files path)) ∙ ap (λ n. take n (contents files path)) (next_number number)) (more (take (number * 65536) (contents files path)) taken)
+-- some bytes were taken; where the file is told they are so many pieces of it
+pub record Taken (o : Option Tree) (path : List ℕ) (number : ℕ) (Takes : List ℕ → Type 0) : Type 0 where
+  pub bytes : List ℕ
+  pub taken : Takes bytes
+  pub told : IfSome o (λ files. bytes ≡ take (number * 65536) (contents files path))
 
-pub none_taken : (o : Option Tree) (path : List ℕ) (judging : Judging) → HasTaken judging [] → IfSome o (λ files. HasTaken judging (take (0 * 65536) (contents files path)))
-none_taken None path judging h = tt
-none_taken (Some files) path judging h = h
+pub none_taken : (o : Option Tree) (path : List ℕ) (Takes : List ℕ → Type 0) → Takes [] → Taken o path 0 Takes
+none_taken o path Takes h = record { bytes = []; taken = h; told = by o }
+  where
+    by : (o : Option Tree) → IfSome o (λ files. [] ≡ take (0 * 65536) (contents files path))
+    by None = tt
+    by (Some files) = refl
+
+-- more of a file's bytes were taken
+pub taken_on : (o o1 : Option Tree) (path piece : List ℕ) (number : ℕ) (Before After : List ℕ → Type 0) → o1 ≡ o → Taken o path number Before → IfSome o1 (λ files. piece ≡ take 65536 (drop (number * 65536) (contents files path))) → ((bytes : List ℕ) → Before bytes → After (bytes ++ piece)) → Taken o path (number + 1) After
+taken_on o o1 path piece number Before After same t read more = record { bytes = t.bytes ++ piece; taken = more t.bytes t.taken; told = by o same t.told }
+  where
+    by : (o : Option Tree) → o1 ≡ o → IfSome o (λ files. t.bytes ≡ take (number * 65536) (contents files path)) → IfSome o (λ files. t.bytes ++ piece ≡ take ((number + 1) * 65536) (contents files path))
+    by None same told = tt
+    by (Some files) same told =
+        ap (λ b. b ++ piece) told
+        ∙ ap (λ p. take (number * 65536) (contents files path) ++ p) (subst (λ x. IfSome x (λ files. piece ≡ take 65536 (drop (number * 65536) (contents files path)))) same read)
+        ∙ sym (take-add (number * 65536) 65536 (contents files path)) ∙ ap (λ n. take n (contents files path)) (next_number number)
 
 -- a file stands at a path from which a piece was read
 abbrev pub IsFileAfter : Option Tree → List ℕ → ℕ → Type 0
@@ -106,6 +132,13 @@ file_read (Some files) o1 path number same h = λ _. subst (λ x. IfSome x (λ f
 pub is_file_after : (o : Option Tree) (path : List ℕ) (number : ℕ) → 0 < number → IsFileAfter o path number → IfSome o (λ files. IsTrue (is_file (item_at files path)))
 is_file_after None path number more h = tt
 is_file_after (Some files) path number more h = h more
+
+-- all bytes of a file were taken, where it is told
+pub record TookAll (o : Option Tree) (path : List ℕ) (Takes : List ℕ → Type 0) : Type 0 where
+  pub number : ℕ
+  pub taken : Taken o path number Takes
+  pub few : IfSome o (λ files. length (contents files path) ≤ number * 65536)
+  pub file : IfSome o (λ files. IsTrue (is_file (item_at files path)))
 
 -- the same, asked of files that are as before
 pub may_go_on : (o o1 : Option Tree) (path : List ℕ) (a b c : ℕ) → o1 ≡ o → MayMisuse (option_map (λ t. is_file (item_at t path)) o) a b → MayMisuse (option_map (λ t. is_file (item_at t path)) o1) b c → MayMisuse (option_map (λ t. is_file (item_at t path)) o) a c

@@ -1,6 +1,6 @@
 -- What the store answers and leaves.
-use Rattle.std.proofs.Common.{◌≡◌, ◌≢◌, ℕ, ◌+◌, ◌*◌, ◌/◌, ◌≤◌, ◌∙◌, Bool, true, false, not, ◌&&◌, List, length, take, refl, sym, ap, subst, arith, Option, Some, None, Result, Ok, Err, is_some}
-use Rattle.std.specs.Prelude.{IfSome, IsTrue, ◌↔◌}
+use Rattle.std.proofs.Common.{◌≡◌, ◌≢◌, ℕ, ◌*◌, ◌≤◌, ◌∙◌, Bool, true, false, not, ◌&&◌, List, length, take, refl, sym, ap, subst, arith, Option, Some, None, Result, Ok, Err, is_some}
+use Rattle.std.specs.Prelude.{IfOk, IfSome, IsTrue, ◌↔◌}
 use Rattle.std.specs.Option.{option_map}
 use Rattle.std.proofs.lemmas.List.{take_all}
 use Rattle.cnb_world.specs.Calls.{MayMisuse}
@@ -10,7 +10,9 @@ use Rattle.cnb_world.specs.declared.world.Item.{Item}
 use Rattle.cnb_world.specs.declared.world.Item.TheVariants as item
 use Rattle.cnb_world.specs.declared.world.Kind.{Kind}
 use Rattle.cnb_world.specs.declared.world.Kind.TheVariants as kind
+use Rattle.sha2.specs.Sha256.{sha256}
 use Rattle.tree_canon.specs.Judging.{IsJudged}
+use Rattle.tree_canon.specs.Spelling.{spelling_of}
 use Rattle.tree_canon.specs.declared.judging.Judged.{Judged}
 use Rattle.tree_canon.specs.declared.judging.Judged.TheVariants as judged
 use Rattle.tree_canon.specs.declared.node.Node.{Node}
@@ -22,7 +24,7 @@ use Rattle.steps.specs.Causes.{IsAnswer, WhereDecided}
 use Rattle.tree_store.specs.Answers.{cause_of, is_free, is_file_kind, is_absent_kind}
 use Rattle.tree_store.specs.Store.{left_or_written, kept_or_written, KeepsOver, Keeps, LeavesStore, IsJudgedTree, GetsOf, Gets}
 use Rattle.cnb_world.proofs.WholeLemmas.{unbegun}
-use Rattle.tree_store.proofs.Kept.{contents}
+use Rattle.tree_store.proofs.Kept.{Taken, contents}
 
 -- ---- kinds
 
@@ -175,17 +177,28 @@ gets_judged : (digest bytes : List ℕ) (j : Judged) (result : Result Node Store
 gets_judged digest bytes (judged.Tree tree) result is e = subst (GetsOf digest bytes) (sym e) is
 gets_judged digest bytes (judged.Damaged asked found bad) result is e = subst (GetsOf digest bytes) (sym e) is
 
-pub judged_gets : (o : Option Tree) (path digest : List ℕ) (len : ℕ) (judging : Judging) (j : Judged) (result : Result Node StoreFault) → IfSome o (λ files. length (contents files path) ≤ len) → IfSome o (λ files. IsTrue (is_file (item_at files path))) → IfSome o (λ files. HasTaken judging (take ((len / 65536 + 1) * 65536) (contents files path)))
+pub judged_gets : (o : Option Tree) (path digest : List ℕ) (number : ℕ) (judging : Judging) (j : Judged) (result : Result Node StoreFault) → IfSome o (λ files. length (contents files path) ≤ number * 65536) → IfSome o (λ files. IsTrue (is_file (item_at files path))) → Taken o path number (HasTaken judging)
     → ((bytes : List ℕ) → HasTaken judging bytes → IsJudged digest bytes j) → IsJudgedTree j result → IfSome o (λ files. Gets digest (item_at files path) result)
-judged_gets None path digest len judging j result short file taken ends is = tt
-judged_gets (Some files) path digest len judging j result short file taken ends is = by (item_at files path) file short taken
+judged_gets o path digest number judging j result few file t ends is = by o few file t.told
   where
-    by : (found : Option Item) → IsTrue (is_file found) → length (bytes_of found) ≤ len → HasTaken judging (take ((len / 65536 + 1) * 65536) (bytes_of found)) → Gets digest found result
-    by None f s t = absurd (cc)
-    by (Some item.Folder) f s t = absurd (cc)
-    by (Some (item.Link target)) f s t = absurd (cc)
-    by (Some item.Odd) f s t = absurd (cc)
-    by (Some (item.File exec bytes)) f s t = gets_judged digest bytes j result (ends bytes (subst (HasTaken judging) (take_all ((len / 65536 + 1) * 65536) bytes (omega arith)) t)) is
+    one : (found : Option Item) → IsTrue (is_file found) → length (bytes_of found) ≤ number * 65536 → t.bytes ≡ take (number * 65536) (bytes_of found) → Gets digest found result
+    one None f s told = absurd (cc)
+    one (Some item.Folder) f s told = absurd (cc)
+    one (Some (item.Link target)) f s told = absurd (cc)
+    one (Some item.Odd) f s told = absurd (cc)
+    one (Some (item.File exec bytes)) f s told = gets_judged digest bytes j result (ends bytes (subst (HasTaken judging) (told ∙ take_all (number * 65536) bytes s) t.taken)) is
+
+    by : (o : Option Tree) → IfSome o (λ files. length (contents files path) ≤ number * 65536) → IfSome o (λ files. IsTrue (is_file (item_at files path))) → IfSome o (λ files. t.bytes ≡ take (number * 65536) (contents files path)) → IfSome o (λ files. Gets digest (item_at files path) result)
+    by None few file told = tt
+    by (Some files) few file told = one (item_at files path) file few told
+
+-- the tree whose spelling was taken
+pub judged_digest : (o : Option Tree) (path digest : List ℕ) (number : ℕ) (judging : Judging) (j : Judged) (result : Result Node StoreFault) → Taken o path number (HasTaken judging) → ((bytes : List ℕ) → HasTaken judging bytes → IsJudged digest bytes j) → IsJudgedTree j result → IfOk result (λ tree. sha256 (spelling_of tree) ≡ digest)
+judged_digest o path digest number judging j result t ends is = by j (ends t.bytes t.taken) is
+  where
+    by : (j : Judged) → IsJudged digest t.bytes j → IsJudgedTree j result → IfOk result (λ tree. sha256 (spelling_of tree) ≡ digest)
+    by (judged.Tree tree) h is = subst (λ (r : Result Node StoreFault). IfOk r (λ tree. sha256 (spelling_of tree) ≡ digest)) (sym is) (ap sha256 (sym h.1.is) ∙ h.0)
+    by (judged.Damaged asked found bad) h is = subst (λ (r : Result Node StoreFault). IfOk r (λ tree. sha256 (spelling_of tree) ≡ digest)) (sym is) tt
 
 free_of : (digest bytes : List ℕ) (fault : StoreFault) → IsTrue (is_free fault) → GetsOf digest bytes (Err fault)
 free_of digest bytes (File path) free = tt

@@ -1,10 +1,11 @@
 -- A file that was written gets its name, or is removed.
-use Rattle.std.proofs.Common.{◌≡◌, ◌≤◌, ◌∙◌, refl, sym, ap, subst, arith, ℕ, Bool, true, false, cond, not, ◌+◌, ◌*◌, ◌/◌, ◌&&◌, inl, inr, ◌++◌, List, [], ◌∷◌, append-nil, drop, take, length, Option, Some, None, is_some, Result, Ok, Err}
+use Rattle.std.proofs.Common.{◌≡◌, ◌<◌, ◌≤◌, ◌∙◌, refl, sym, ap, subst, arith, ℕ, Bool, true, false, cond, not, ◌+◌, ◌*◌, ◌/◌, ◌&&◌, inl, inr, ◌++◌, List, [], ◌∷◌, append-nil, drop, take, length, Option, Some, None, is_some, Result, Ok, Err}
 use Rattle.std.specs.Prelude.{IfErr, IfSome, IsTrue, OnErr, OnOk, codes, is_err, is_ok, ◌↔◌}
 use Rattle.std.specs.Option.{option_map}
 use Rattle.std.specs.Str.{bytes_eq}
 use Rattle.std.specs.FinMap.{get, insert, remove}
 use Rattle.std.proofs.lemmas.Bool.{and_from}
+use Rattle.std.proofs.lemmas.List.{length-drop, length-take}
 use Rattle.std.proofs.lemmas.Slice.Eq.{bytes_eq-Decides}
 use Rattle.sha2.specs.Sha256.{sha256}
 use Rattle.cnb_world.specs.Calls.{CountsFailed, CountsMisuse, LastFailed, MayMisuse}
@@ -23,6 +24,9 @@ use Rattle.cnb_world.specs.declared.world.World as world
 use Rattle.tree_canon.specs.Digest.{is_digest_text}
 use Rattle.tree_store.specs.Answers.{BlamesAt, BlamesEither, BlamesWithin, cause_of, is_free}
 use Rattle.tree_store.specs.Around.{KeptAround, LeavesAround}
+use Rattle.tree_store.specs.Comparing.{IsCompared}
+use Rattle.tree_store.specs.declared.naming.Compared.{Compared}
+use Rattle.tree_store.specs.declared.naming.Compared.TheVariants.{Other, Last, Whole}
 use Rattle.tree_store.specs.Store.{Keeps, tree_path}
 use Rattle.tree_store.specs.Writing.{AreApart, ClashesUnless, HasWritten, IsCleared, IsClearedOf, NamesBytes, NewFrame, PutFrame, begun_with, bytes_put, named_or_left, new_path, trees_of}
 use Rattle.tree_store.specs.declared.writing.Writer.{Writer}
@@ -372,22 +376,41 @@ blames_fault folder path fault within h = let refused : Result (Unit {0}) StoreF
 
 -- ---- two files, piece by piece
 
-pub both_alike : (o o1 : Option Tree) (path file : List ℕ) (number at : ℕ) (same : Bool) → at ≡ number * 65536 → same ≡ true → o1 ≡ o → IfSome o (λ files. take (number * 65536) (contents files path) ≡ take (number * 65536) (contents files file))
-    → IfSome o1 (λ files. IsTrue same ↔ (take 65536 (drop at (bytes_of (item_at files path))) ≡ take 65536 (drop at (bytes_of (item_at files file))))) → IfSome o (λ files. take ((number + 1) * 65536) (contents files path) ≡ take ((number + 1) * 65536) (contents files file))
-both_alike None o1 path file number at same is e stays before told = tt
-both_alike (Some files) o1 path file number at same is e stays before told =
-    let here = subst (λ n. take 65536 (drop n (contents files path)) ≡ take 65536 (drop n (contents files file))) is ((subst (λ x. IfSome x (λ files. IsTrue same ↔ (take 65536 (drop at (bytes_of (item_at files path))) ≡ take 65536 (drop at (bytes_of (item_at files file)))))) stays told).0 e) in
-    ap (λ n. take n (contents files path)) (sym (next_number number)) ∙ piece_more (contents files path) (contents files file) (number * 65536) 65536 before here ∙ ap (λ n. take n (contents files file)) (next_number number)
+one_alike : (xs ys : List ℕ) (number : ℕ) → take (number * 65536) xs ≡ take (number * 65536) ys → take 65536 (drop (number * 65536) xs) ≡ take 65536 (drop (number * 65536) ys) → take ((number + 1) * 65536) xs ≡ take ((number + 1) * 65536) ys
+one_alike xs ys number before here = ap (λ n. take n xs) (sym (next_number number)) ∙ piece_more xs ys (number * 65536) 65536 before here ∙ ap (λ n. take n ys) (next_number number)
 
-pub one_differs : (o o1 : Option Tree) (path file : List ℕ) (len at : ℕ) (same : Bool) → same ≡ false → o1 ≡ o → IfSome o1 (λ files. IsTrue same ↔ (take 65536 (drop at (bytes_of (item_at files path))) ≡ take 65536 (drop at (bytes_of (item_at files file)))))
-    → IfSome o (λ files. length (bytes_of (item_at files file)) ≤ len → IsTrue false ↔ (bytes_of (item_at files path) ≡ bytes_of (item_at files file)))
-one_differs None o1 path file len at same e stays told = tt
-one_differs (Some files) o1 path file len at same e stays told = λ short. (
-  λ no. absurd (cc),
-  λ alike. absurd (
-      let yes : same ≡ true = (subst (λ x. IfSome x (λ files. IsTrue same ↔ (take 65536 (drop at (bytes_of (item_at files path))) ≡ take 65536 (drop at (bytes_of (item_at files file)))))) stays told).1 (ap (λ b. take 65536 (drop at b)) alike) in
-      let no : true ≡ false = sym yes ∙ e in cc),
+-- what a piece said, of files that are as before
+said_of : (o o1 : Option Tree) (path file : List ℕ) (at : ℕ) (said is : Compared) → said ≡ is → o1 ≡ o → IfSome o1 (λ files. IsCompared (take 65536 (drop at (contents files path))) (take 65536 (drop at (contents files file))) said)
+    → IfSome o (λ files. IsCompared (take 65536 (drop at (contents files path))) (take 65536 (drop at (contents files file))) is)
+said_of o o1 path file at said is same stays told =
+    subst (λ (v : Compared). IfSome o (λ files. IsCompared (take 65536 (drop at (contents files path))) (take 65536 (drop at (contents files file))) v)) same
+    (subst (λ x. IfSome x (λ files. IsCompared (take 65536 (drop at (contents files path))) (take 65536 (drop at (contents files file))) said)) stays told)
+
+pub both_alike : (o o1 : Option Tree) (path file : List ℕ) (number : ℕ) (said : Compared) → said ≡ Whole → o1 ≡ o → IfSome o (λ files. take (number * 65536) (contents files path) ≡ take (number * 65536) (contents files file))
+    → IfSome o1 (λ files. IsCompared (take 65536 (drop (number * 65536) (contents files path))) (take 65536 (drop (number * 65536) (contents files file))) said) → IfSome o (λ files. take ((number + 1) * 65536) (contents files path) ≡ take ((number + 1) * 65536) (contents files file))
+both_alike None o1 path file number said is stays before told = tt
+both_alike (Some files) o1 path file number said is stays before told = one_alike (contents files path) (contents files file) number before (said_of (Some files) o1 path file (number * 65536) said Whole is stays told)
+
+-- the second file ends with these pieces
+pub last_alike : (o o1 : Option Tree) (path file : List ℕ) (len number : ℕ) (said : Compared) → said ≡ Last → o1 ≡ o → IfSome o (λ files. take (number * 65536) (contents files path) ≡ take (number * 65536) (contents files file))
+    → IfSome o1 (λ files. IsCompared (take 65536 (drop (number * 65536) (contents files path))) (take 65536 (drop (number * 65536) (contents files file))) said)
+    → IfSome o (λ files. length (contents files file) ≤ len → IsTrue true ↔ (contents files path ≡ contents files file))
+last_alike None o1 path file len number said is stays before told = tt
+last_alike (Some files) o1 path file len number said is stays before told = λ _. (
+  λ yes. same_to_end (contents files path) (contents files file) ((number + 1) * 65536) (ends (contents files file) here.1) (one_alike (contents files path) (contents files file) number before here.0),
+  λ same. refl,
 )
+  where
+    here : (take 65536 (drop (number * 65536) (contents files path)) ≡ take 65536 (drop (number * 65536) (contents files file))) × (length (take 65536 (drop (number * 65536) (contents files file))) < 65536)
+    here = said_of (Some files) o1 path file (number * 65536) said Last is stays told
+
+    ends : (ys : List ℕ) → length (take 65536 (drop (number * 65536) ys)) < 65536 → length ys < (number + 1) * 65536
+    ends ys short = omega (arith, short, length-take 65536 (drop (number * 65536) ys), length-drop (number * 65536) ys)
+
+pub one_differs : (o o1 : Option Tree) (path file : List ℕ) (len at : ℕ) (said : Compared) → said ≡ Other → o1 ≡ o → IfSome o1 (λ files. IsCompared (take 65536 (drop at (contents files path))) (take 65536 (drop at (contents files file))) said)
+    → IfSome o (λ files. length (contents files file) ≤ len → IsTrue false ↔ (contents files path ≡ contents files file))
+one_differs None o1 path file len at said is stays told = tt
+one_differs (Some files) o1 path file len at said is stays told = λ short. (λ no. absurd (cc), λ alike. absurd (said_of (Some files) o1 path file at said Other is stays told (ap (λ b. take 65536 (drop at b)) alike)))
 
 pub none_differs : (o : Option Tree) (path file : List ℕ) (len number : ℕ) → number ≡ len / 65536 + 1 → IfSome o (λ files. take (number * 65536) (contents files path) ≡ take (number * 65536) (contents files file))
     → IfSome o (λ files. length (bytes_of (item_at files file)) ≤ len → IsTrue true ↔ (bytes_of (item_at files path) ≡ bytes_of (item_at files file)))

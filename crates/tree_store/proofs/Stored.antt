@@ -1,10 +1,12 @@
 -- Laying a stored tree, as a step.
 use Rattle.std.proofs.Common.{◌≡◌, ◌≤◌, ◌-◌, ◌∙◌, refl, sym, ap, subst, arith, ℕ, Bool, true, false, ◌⊎◌, inl, inr, List, [], ◌∷◌, ◌++◌, length, length-append, take, drop, Option, Some, None, Result, Ok, Err}
-use Rattle.std.specs.Prelude.{IfSome, IsTrue, OnOk}
+use Rattle.std.specs.Prelude.{IfErr, IfSome, IsTrue, OnOk}
 use Rattle.std.specs.List.{list_all}
 use Rattle.std.specs.Option.{option_map}
 use Rattle.std.proofs.Math.Seq.{drop-nil}
 use Rattle.std.proofs.lemmas.List.{append-nil}
+use Rattle.sha2.specs.Hashers.{Holds256}
+use Rattle.sha2.specs.Sha256.{sha256}
 use Rattle.cnb_world.specs.Calls.{CountsMisuse, MayMisuse}
 use Rattle.cnb_world.specs.Path.{is_part, joined}
 use Rattle.cnb_world.specs.Tree.{IsTree, Tree, can_make_folder, folder_made, is_file_or_absent, is_root, item_at}
@@ -12,14 +14,14 @@ use Rattle.cnb_world.specs.declared.world.FileFault.{FileFault}
 use Rattle.cnb_world.specs.declared.world.Item.{Item}
 use Rattle.cnb_world.specs.declared.world.Item.TheVariants as item
 use Rattle.cnb_world.specs.declared.world.World as world
-use Rattle.steps.specs.Causes.{Cause, FileFailed, ChildFailed, OutOfMemory, Decided}
+use Rattle.steps.specs.Causes.{Cause, FileFailed, ChildFailed, OutOfMemory, Decided, FilesBy}
 use Rattle.steps.specs.Outside.{Seen, seen}
 use Rattle.steps.specs.Reading.{ReadFrame}
 use Rattle.steps.proofs.StepLemmas.{ended, went}
 use Rattle.tree_canon.specs.Fits.{fits}
 use Rattle.tree_canon.specs.Spelling.{limit, magic, node_bytes}
 use Rattle.tree_canon.specs.declared.node.Node.{Node}
-use Rattle.tree_store.specs.Ahead.{Ahead, BlamesEither, Did, IsAhead, Lays, LaysTree, Leaves}
+use Rattle.tree_store.specs.Ahead.{Ahead, BlamesEither, Did, HasDigest, IsAhead, Lays, LaysTree, Leaves}
 use Rattle.tree_store.specs.Answers.{BlamesAt, cause_of, is_free}
 use Rattle.tree_store.specs.Around.{KeptAround, LeavesAround}
 use Rattle.tree_store.specs.Checking.{Checks}
@@ -72,31 +74,42 @@ on_ok (Err fault) P h = tt
 pub tree_kept : (root place : List ℕ) (node : Node) (source after : KeptBytes) (old mid new : Seen) (answer : Result (Unit {0}) FileFault) (result : Result (Unit {0}) StoreFault)
     → is_root root ≡ false → fits node 0 ≡ true → mid.files ≡ option_map (folder_made root) old.files → CountsMisuse (option_map (λ files. can_make_folder files root) old.files) answer old.misused mid.misused → IfSome old.files IsTree → IfSome mid.files IsTree
     → IsTrue (list_all is_part (parts_of place)) → LeavesAround root mid new → Ahead source mid.files (node_bytes node)
-    → Lays (node_bytes node ++ []) [] (laid_under node (parts_of place) root) (way_to root) [] source mid result after new → LaysTree root place node old result new
+    → Lays (node_bytes node ++ []) [] (laid_under node (parts_of place) root) (way_to root) [] source mid result after new → LaysTree root place node old result after new
 tree_kept root place node source after old mid new answer result plain fit made counts tree tree1 names around ahead lays = by (lays.so (subst (Ahead source mid.files) (sym (append-nil (node_bytes node))) ahead) (way_made root old.files mid.files made tree1))
   where
-    by : Did {A = Unit {0}} (λ done. Unit {0}) [] (laid_under node (parts_of place) root) [] mid result after new → LaysTree root place node old result new
+    by : Did {A = Unit {0}} (λ done. Unit {0}) [] (laid_under node (parts_of place) root) [] mid result after new → LaysTree root place node old result after new
     by did = record {
+      ended = did.ahead;
       files = laid_where result old.files new.files root place node node refl fit (made_where result old.files mid.files new.files root place node made did.files) (on_ok result _ names) (told_placed old.files result node (parts_of place) root plain) tree;
       free = did.free;
       allows = laid_right old.files root place node answer old.misused mid.misused new.misused counts around.misused (λ can. did.right);
     }
 
-pub tree_stopped : (root place : List ℕ) (node : Node) (old new : Seen) (answer : Result (Unit {0}) FileFault) (fault : StoreFault) → IsTrue (is_free fault) → CountsMisuse (option_map (λ files. can_make_folder files root) old.files) answer old.misused new.misused → LaysTree root place node old (Err fault) new
-tree_stopped root place node old new answer fault free counts = record { files = tt; free = free; allows = made_right old.files root place node answer old.misused new.misused counts }
+pub tree_stopped : (root place : List ℕ) (node : Node) (after : KeptBytes) (old new : Seen) (answer : Result (Unit {0}) FileFault) (fault : StoreFault) → IsTrue (is_free fault) → CountsMisuse (option_map (λ files. can_make_folder files root) old.files) answer old.misused new.misused → LaysTree root place node old (Err fault) after new
+tree_stopped root place node after old new answer fault free counts = record { ended = tt; files = tt; free = free; allows = made_right old.files root place node answer old.misused new.misused counts }
 
 -- ---- the file that was judged
 
-file_ahead : (source : KeptBytes) (digest : List ℕ) (found : Option Item) (tree : Node) → source.at ≡ 5 → source.piece ≡ [] → Gets digest found (Ok tree) → IsAhead source found (node_bytes tree)
-file_ahead source digest None tree at piece gets = absurd gets
-file_ahead source digest (Some item.Folder) tree at piece gets = absurd gets
-file_ahead source digest (Some (item.Link target)) tree at piece gets = absurd gets
-file_ahead source digest (Some item.Odd) tree at piece gets = absurd gets
-file_ahead source digest (Some (item.File exec bytes)) tree at piece gets = record {
+-- a reader that was made for the file of a digest
+pub record IsBegun (source : KeptBytes) (digest : List ℕ) : Type 0 where
+  pub named : source.digest ≡ digest
+  pub hashed : Holds256 source.hasher magic
+  pub at : source.at ≡ 5
+  pub piece : source.piece ≡ []
+
+file_ahead : (source : KeptBytes) (digest : List ℕ) (found : Option Item) (tree : Node) → IsBegun source digest → Gets digest found (Ok tree) → IsAhead source found (node_bytes tree)
+file_ahead source digest None tree begun gets = absurd gets
+file_ahead source digest (Some item.Folder) tree begun gets = absurd gets
+file_ahead source digest (Some (item.Link target)) tree begun gets = absurd gets
+file_ahead source digest (Some item.Odd) tree begun gets = absurd gets
+file_ahead source digest (Some (item.File exec bytes)) tree begun gets = record {
   file = refl;
-  few = let size : length bytes ≤ limit = gets.1.size in omega (arith, size, ap length gets.1.is, length-append magic (node_bytes tree), at);
-  is = sym (ap (λ n. drop n bytes) at ∙ ap (drop 5) gets.1.is);
-  held = ap (drop source.used) piece ∙ drop-nil source.used ∙ ap (λ n. take n (node_bytes tree)) (let none : length source.piece ≡ 0 = ap length piece in let e : 0 ≡ length source.piece - source.used = omega arith in e);
+  few = let size : length bytes ≤ limit = gets.1.size in omega (arith, size, ap length gets.1.is, length-append magic (node_bytes tree), begun.at);
+  is = sym (ap (λ n. drop n bytes) begun.at ∙ ap (drop 5) gets.1.is);
+  held = ap (drop source.used) begun.piece ∙ drop-nil source.used ∙ ap (λ n. take n (node_bytes tree)) (let none : length source.piece ≡ 0 = ap length begun.piece in let e : 0 ≡ length source.piece - source.used = omega arith in e);
+  taken = magic;
+  hashed = begun.hashed;
+  whole = ap sha256 (sym gets.1.is) ∙ gets.0 ∙ sym begun.named;
 }
 
 file_fits : (digest : List ℕ) (found : Option Item) (tree : Node) → Gets digest found (Ok tree) → fits tree 0 ≡ true
@@ -107,10 +120,10 @@ file_fits digest (Some item.Odd) tree gets = absurd gets
 file_fits digest (Some (item.File exec bytes)) tree gets = gets.1.fit
 
 -- nothing is told, or the bytes of a tree lie ahead
-told : (source : KeptBytes) (path digest : List ℕ) (o : Option Tree) (tree : Node) → source.path ≡ path → source.at ≡ 5 → source.piece ≡ [] → IfSome o (λ files. Gets digest (item_at files path) (Ok tree)) → (o ≡ None) ⊎ (Ahead source o (node_bytes tree) × (fits tree 0 ≡ true))
+told : (source : KeptBytes) (path digest : List ℕ) (o : Option Tree) (tree : Node) → source.path ≡ path → IsBegun source digest → IfSome o (λ files. Gets digest (item_at files path) (Ok tree)) → (o ≡ None) ⊎ (Ahead source o (node_bytes tree) × (fits tree 0 ≡ true))
 unfolding Ahead
-told source path digest None tree is at piece gets = inl refl
-told source path digest (Some files) tree is at piece gets = inr (subst (λ p. IsAhead source (item_at files p) (node_bytes tree)) (sym is) (file_ahead source digest (item_at files path) tree at piece gets), file_fits digest (item_at files path) tree gets)
+told source path digest None tree is begun gets = inl refl
+told source path digest (Some files) tree is begun gets = inr (subst (λ p. IsAhead source (item_at files p) (node_bytes tree)) (sym is) (file_ahead source digest (item_at files path) tree begun gets), file_fits digest (item_at files path) tree gets)
 
 none_files : (path : List ℕ) (o o1 : Option Tree) (change : Tree → Tree) → o ≡ None → KeptAround path o o1 → o1 ≡ option_map change o
 unfolding KeptAround
@@ -141,17 +154,49 @@ untold_cause root file o (Damaged asked found bad) none blames = none
 untold_cause root file o (Clash digest) none blames = none
 
 kept_step : (store digest root place : List ℕ) (tree : Node) (source after : KeptBytes) (old new : Seen) (result : Result (Unit {0}) StoreFault)
-    → source.path ≡ tree_path store digest → source.at ≡ 5 → source.piece ≡ [] → IfSome old.files (λ files. Gets digest (item_at files (tree_path store digest)) (Ok tree))
-    → Leaves root source old result after new → ((node : Node) → fits node 0 ≡ true → Ahead source old.files (node_bytes node) → LaysTree root place node old result new) → lays_kept store digest root place tree old result new
+    → source.path ≡ tree_path store digest → IsBegun source digest → IfSome old.files (λ files. Gets digest (item_at files (tree_path store digest)) (Ok tree))
+    → Leaves root source old result after new → ((node : Node) → fits node 0 ≡ true → Ahead source old.files (node_bytes node) → LaysTree root place node old result after new) → lays_kept store digest root place tree old result new
 unfolding lays_kept
-kept_step store digest root place tree source after old new result is at piece gets leaves lays = by result leaves (told source (tree_path store digest) digest old.files tree is at piece gets) (lays tree)
+kept_step store digest root place tree source after old new result is begun gets leaves lays = by result leaves (told source (tree_path store digest) digest old.files tree is begun gets) (lays tree)
   where
-    by : (result : Result (Unit {0}) StoreFault) → Leaves root source old result after new → (old.files ≡ None) ⊎ (Ahead source old.files (node_bytes tree) × (fits tree 0 ≡ true)) → (fits tree 0 ≡ true → Ahead source old.files (node_bytes tree) → LaysTree root place tree old result new)
+    by : (result : Result (Unit {0}) StoreFault) → Leaves root source old result after new → (old.files ≡ None) ⊎ (Ahead source old.files (node_bytes tree) × (fits tree 0 ≡ true)) → (fits tree 0 ≡ true → Ahead source old.files (node_bytes tree) → LaysTree root place tree old result after new)
         → lays_kept store digest root place tree old result new
     by (Ok done) leaves (inl none) lays = (none_files root old.files new.files (tree_laid root place tree) none leaves.around.files, leaves.around, none_allowed old.files (can_lay root place tree) old.misused new.misused none leaves.untold)
     by (Ok done) leaves (inr (ahead, fit)) lays = let laid = lays fit ahead in (laid.files, leaves.around, laid.allows)
     by (Err fault) leaves (inl none) lays = (untold_cause root (tree_path store digest) old.files fault none (subst (λ f. BlamesEither root f fault) is leaves.blames), leaves.around, none_allowed old.files (can_lay root place tree) old.misused new.misused none leaves.untold)
     by (Err fault) leaves (inr (ahead, fit)) lays = let laid = lays fit ahead in (free_cause root (tree_path store digest) old.files fault laid.free (subst (λ f. BlamesEither root f fault) is leaves.blames), leaves.around, laid.allows)
+
+-- ---- the digest of what was laid
+
+ends_never : (after : KeptBytes) (o : Option Tree) (fault : StoreFault) → Ahead after o [] → ((bytes : List ℕ) → Holds256 after.hasher bytes → HasDigest after.digest bytes (Err fault)) → ⊥
+unfolding Ahead
+ends_never after None fault ahead has = ahead
+ends_never after (Some files) fault ahead has = let other = has ahead.taken ahead.hashed in other.0 (ap sha256 (sym (append-nil ahead.taken)) ∙ ahead.whole)
+
+pub lays_ended : (root place : List ℕ) (node : Node) (after : KeptBytes) (old new : Seen) (result : Result (Unit {0}) StoreFault)
+    → ((bytes : List ℕ) → Holds256 after.hasher bytes → HasDigest after.digest bytes result) → LaysTree root place node old (Ok tt) after new → LaysTree root place node old result after new
+lays_ended root place node after old new (Ok done) has laid = laid
+lays_ended root place node after old new (Err fault) has laid = absurd (ends_never after new.files fault laid.ended has)
+
+pub leaves_ended : (path : List ℕ) (source after : KeptBytes) (old new : Seen) (result : Result (Unit {0}) StoreFault) → IfErr result (λ fault. cause_of fault ≡ Decided) → Leaves {A = Unit {0}} path source old (Ok tt) after new → Leaves path source old result after new
+leaves_ended path source after old new (Ok done) decided leaves = leaves
+leaves_ended path source after old new (Err fault) decided leaves = record {
+  stays = leaves.stays;
+  around = leaves.around;
+  untold = leaves.untold;
+  children = leaves.children;
+  counts = subst (λ cause. FilesBy cause old.file_faults new.file_faults) (sym decided) leaves.counts;
+  blames = blames_none path source.path fault decided;
+}
+  where
+    blames_none : (path file : List ℕ) (fault : StoreFault) → cause_of fault ≡ Decided → BlamesEither path file fault
+    blames_none path file (File blamed) decided = absurd (cc)
+    blames_none path file Memory decided = tt
+    blames_none path file (OddFile odd) decided = tt
+    blames_none path file (Limit kind) decided = tt
+    blames_none path file (NoTree digest) decided = tt
+    blames_none path file (Damaged asked found bad) decided = tt
+    blames_none path file (Clash digest) decided = tt
 
 -- ---- the whole step
 
@@ -166,15 +211,15 @@ not_judged ghosts store digest root place fault old new answer blames frame allo
 pub judged_and_laid : {W : Type 0} (ghosts : world.Ghosts W) (store digest root place : List ℕ) (done : Unit {0}) (source after : KeptBytes) (old mid new : W) (result : Result (Unit {0}) StoreFault)
     → IfSome (ghosts.tree old) (λ files. Checks digest (item_at files (tree_path store digest)) (Ok done)) → ReadFrame cause_of (Ok done) (seen ghosts old) (seen ghosts mid)
     → MayMisuse (option_map (λ files. is_file_or_absent (item_at files (tree_path store digest))) (ghosts.tree old)) (ghosts.misused old) (ghosts.misused mid)
-    → source.path ≡ tree_path store digest → source.at ≡ 5 → source.piece ≡ []
-    → Leaves root source (seen ghosts mid) result after (seen ghosts new) → ((node : Node) → fits node 0 ≡ true → Ahead source (ghosts.tree mid) (node_bytes node) → LaysTree root place node (seen ghosts mid) result (seen ghosts new))
+    → source.path ≡ tree_path store digest → IsBegun source digest
+    → Leaves root source (seen ghosts mid) result after (seen ghosts new) → ((node : Node) → fits node 0 ≡ true → Ahead source (ghosts.tree mid) (node_bytes node) → LaysTree root place node (seen ghosts mid) result after (seen ghosts new))
     → lays_stored store digest root place (seen ghosts old) result (seen ghosts new)
 unfolding lays_stored
-judged_and_laid ghosts store digest root place done source after old mid new result answer frame allows is at piece leaves lays =
+judged_and_laid ghosts store digest root place done source after old mid new result answer frame allows is begun leaves lays =
     let tree = got_some (ghosts.tree old) (tree_path store digest) digest answer in
     went (gets_tree store digest) (lays_kept store digest root place) (seen ghosts old) (seen ghosts mid) (seen ghosts new) tree.0 result
     (got ghosts store digest (Ok tree.0) old mid tree.1 tt tt frame.files frame.runs allows)
-    (kept_step store digest root place tree.0 source after (seen ghosts mid) (seen ghosts new) result is at piece (subst (λ o. IfSome o (λ files. Gets digest (item_at files (tree_path store digest)) (Ok tree.0))) (sym frame.files) tree.1) leaves lays)
+    (kept_step store digest root place tree.0 source after (seen ghosts mid) (seen ghosts new) result is begun (subst (λ o. IfSome o (λ files. Gets digest (item_at files (tree_path store digest)) (Ok tree.0))) (sym frame.files) tree.1) leaves lays)
 
 -- a tree that was got whole, and written
 wider_cause : (root file : List ℕ) (o : Option Tree) (cause : Cause) → IsCauseWithin root cause → IsKeptCause root file o cause

@@ -1,6 +1,8 @@
 -- Laying a tree as the bytes of its file are read: what lies ahead of the reader, and what each call does.
-use Rattle.std.specs.Prelude.{ℕ, false, ◌≡◌, ◌≤◌, ◌+◌, ◌-◌, List, length, take, drop, Option, Some, None, Result, IfErr, IfOk, OnOk, IsTrue}
+use Rattle.std.specs.Prelude.{ℕ, false, ◌≡◌, ◌≢◌, ◌≤◌, ◌+◌, ◌-◌, ◌++◌, List, [], length, take, drop, Option, Some, None, Result, Ok, Err, IfErr, IfOk, OnOk, IsTrue}
 use Rattle.std.specs.Option.{option_map}
+use Rattle.sha2.specs.Hashers.{Holds256}
+use Rattle.sha2.specs.Sha256.{sha256}
 use Rattle.cnb_world.specs.Calls.{MayMisuse}
 use Rattle.cnb_world.specs.Tree.{Tree, item_at, is_file, bytes_of}
 use Rattle.cnb_world.specs.declared.world.Item.{Item}
@@ -16,14 +18,19 @@ use Rattle.tree_store.specs.Right.{AreFolders}
 use Rattle.tree_store.specs.Steps.{can_lay}
 use Rattle.tree_canon.specs.declared.node.Node.{Node}
 use Rattle.tree_store.specs.declared.fault.StoreFault.{StoreFault}
+use Rattle.tree_store.specs.declared.fault.StoreFault.TheVariants.{Damaged}
 use Rattle.tree_store.specs.declared.kept_bytes.KeptBytes.{KeptBytes}
 
--- of what stands at the reader's path, these bytes lie behind its place, and it holds the first of them
+-- Of what stands at the reader's path, these bytes lie behind its place, and it holds the first of them. Together with those
+-- that it hashed they have its digest.
 pub record IsAhead (source : KeptBytes) (found : Option Item) (bytes : List ℕ) : Type 0 where
   pub file : IsTrue (is_file found)
   pub few : source.at + length bytes ≤ limit
   pub is : bytes ≡ drop source.at (bytes_of found)
   pub held : drop source.used source.piece ≡ take (length source.piece - source.used) bytes
+  pub taken : List ℕ
+  pub hashed : Holds256 source.hasher taken
+  pub whole : sha256 (taken ++ bytes) ≡ source.digest
 
 -- the same of files that are told
 unfoldable pub Ahead : KeptBytes → Option Tree → List ℕ → Type 0
@@ -65,8 +72,15 @@ Lays bytes rest change before paths source old result after new = Does (λ done.
 abbrev pub Reading : {A : Type 0} → (A → Type 0) → List ℕ → List ℕ → List (List ℕ) → KeptBytes → Seen → Result A StoreFault → KeptBytes → Seen → Type 0
 Reading Is bytes rest paths source old result after new = Does Is bytes rest (λ files. files) paths paths source old result after new
 
--- a tree is laid at a place under a folder, where the files are told and its bytes lie ahead
-pub record LaysTree (root place : List ℕ) (tree : Node) (old : Seen) (result : Result (Unit {0}) StoreFault) (new : Seen) : Type 0 where
+-- A tree is laid at a place under a folder, where the files are told and its bytes lie ahead. Then the reader is at the end of
+-- the file.
+pub record LaysTree (root place : List ℕ) (tree : Node) (old : Seen) (result : Result (Unit {0}) StoreFault) (after : KeptBytes) (new : Seen) : Type 0 where
+  pub ended : OnOk result (Ahead after new.files [])
   pub files : OnOk result (new.files ≡ option_map (tree_laid root place tree) old.files)
   pub free : IfErr result (λ fault. IsTrue (is_free fault))
   pub allows : Allows (can_lay root place tree) old new
+
+-- bytes have a digest, or are refused as damaged
+abbrev pub HasDigest : List ℕ → List ℕ → Result (Unit {0}) StoreFault → Type 0
+HasDigest digest bytes (Ok done) = sha256 bytes ≡ digest
+HasDigest digest bytes (Err fault) = (sha256 bytes ≢ digest) × (fault ≡ Damaged digest (sha256 bytes) None)

@@ -2,6 +2,8 @@ pub mod Ahead
 pub mod Answers
 pub mod Around
 pub mod Checking
+pub mod Comparing
+pub mod Digests
 pub mod Judging
 pub mod Laying
 pub mod Overlay

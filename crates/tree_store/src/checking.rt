@@ -8,11 +8,12 @@ ghost use Rattle.steps.specs.Outside.{seen};
 ghost use Rattle.steps.specs.Reading.{ReadFrame};
 ghost use Rattle.tree_store.specs.Answers.{BlamesAt, cause_of};
 ghost use Rattle.tree_store.specs.Checking.{Checks, ChecksOf, HasChecked};
+ghost use Rattle.tree_store.specs.Digests.{HasTree};
 ghost use Rattle.tree_store.specs.Store.{tree_path};
 
 use crate::fault::StoreFault;
 use crate::reading::kind_at;
-use crate::store::{PIECE, read_piece, tree_file};
+use crate::store::{PIECE, is_last, read_piece, tree_file};
 use cnb_world::{Kind, Memory, Path, World};
 use sha2::{Digest as _, Sha256};
 use std::alloc::Global;
@@ -88,6 +89,7 @@ fn check_kept<W: World>(
     requires len { IfSome (W.tree world.old) (λ files. length (bytes_of (item_at files path.now)) ≤ len) }
     requires stands { IfSome (W.tree world.old) (λ files. IsTrue (is_some (item_at files path.now))) }
     ensures checks { IfSome (W.tree world.old) (λ files. Checks digest.now (item_at files path.now) result) }
+    ensures digest { OnOk result (HasTree digest.now) }
     ensures blames { IfErr result (BlamesAt path.now) }
     ensures frame { ReadFrame cause_of result (seen W.World world.old) (seen W.World world.new) }
     ensures misused { MayMisuse (option_map (λ t. is_file (item_at t path.now)) (W.tree world.old))
@@ -98,6 +100,9 @@ fn check_kept<W: World>(
     for number in 0..len / PIECE + 1 {
         let piece = read_piece(alloc, world, path, number * PIECE)?;
         checking.take(piece.as_slice())?;
+        if is_last(&piece) {
+            break;
+        }
     }
     checking.end(digest)
 }
@@ -112,6 +117,7 @@ pub(crate) fn check_file<W: World>(
     requires { length store.now ≤ 8192 }
     ensures checks { IfSome (W.tree world.old) (λ files. Checks digest.now
         (item_at files (tree_path store.now digest.now)) result) }
+    ensures digest { OnOk result (HasTree digest.now) }
     ensures blames { IfErr result (BlamesAt (tree_path store.now digest.now)) }
     ensures frame { ReadFrame cause_of result (seen W.World world.old) (seen W.World world.new) }
     ensures misused { MayMisuse (option_map (λ t. is_file_or_absent (item_at t (tree_path store.now digest.now)))

@@ -1,9 +1,10 @@
 // Folders that go into the store, and stored trees that are checked and laid.
-ghost use Rattle.std.specs.Prelude.{◌≡◌, ◌≤◌, false, length};
+ghost use Rattle.std.specs.Prelude.{◌≡◌, ◌≤◌, OnOk, false, length};
 ghost use Rattle.cnb_world.specs.Tree.{is_within};
 ghost use Rattle.steps.specs.Causes.{CountsFiles};
 ghost use Rattle.steps.specs.Outside.{seen};
 ghost use Rattle.tree_store.specs.Answers.{cause_of};
+ghost use Rattle.tree_store.specs.Digests.{HasTree};
 ghost use Rattle.tree_store.specs.Steps.{checks_tree, lays_stored, puts_folder};
 ghost use Rattle.tree_store.specs.Store.{tree_path};
 ghost use Rattle.tree_store.specs.Writing.{AreApart, new_path};
@@ -98,6 +99,7 @@ pub fn check_tree<W: World>(
 ) -> Result<(), StoreFault>
     requires { length store.now ≤ 8192 }
     ensures steps { checks_tree store.now digest.now (seen W.World world.old) result (seen W.World world.new) }
+    ensures digest { OnOk result (HasTree digest.now) }
     ensures files { CountsFiles cause_of result (W.file_faults world.old) (W.file_faults world.new) }
     ensures children { W.child_faults world.new ≡ W.child_faults world.old }
 {
@@ -126,7 +128,8 @@ fn lay_whole<W: World>(
     Ok(())
 }
 
-// Lays the tree of a file that isn't at the root or below it: the file is judged, and then read again.
+// Lays the tree of a file that isn't at the root or below it: the file is judged, and then read again. The bytes of the second
+// reading have to have the digest too.
 fn lay_judged<W: World>(
     alloc: Global,
     world: &mut W,
@@ -148,13 +151,15 @@ fn lay_judged<W: World>(
 {
     check_file(alloc, world, store, digest)?;
     let mut source = KeptBytes::new(alloc, path, digest);
-    lay_kept(alloc, world, &mut source, root, place)
+    lay_kept(alloc, world, &mut source, root, place)?;
+    source.end()
 }
 
 /// Lays a stored tree at a place under a folder, by the rule of `write_tree`. The tree's file is read twice, in pieces
-/// of 65,536 bytes: it is judged as `check_tree` does, and then each node is laid as its bytes come. Nothing of the
-/// tree is kept but two pieces and the names on the way. Where the file stands at the root or below it, where laying
-/// could change it, the tree is got whole and then written.
+/// of 65,536 bytes: it is judged as `check_tree` does, and then each node is laid as its bytes come. These are hashed
+/// again: where the file was changed between the readings, the call is refused as `Damaged`, and what was laid until
+/// then is left below the root. Nothing of the tree is kept but two pieces and the names on the way. Where the file
+/// stands at the root or below it, where laying could change it, the tree is got whole and then written.
 pub fn lay_stored<W: World>(
     alloc: Global,
     world: &mut W,

@@ -1,19 +1,21 @@
 // The bytes of a tree's file, which are read in their order.
 ghost use Rattle.std.specs.Prelude.{◌≡◌, ◌≤◌, ◌↔◌, ◌+◌, ◌++◌, ◌∷◌, [], ℕ, List as Seq, Option, IfErr, IfOk, IsTrue, OnOk, Some, length, true};
 ghost use Rattle.std.specs.Int.{from_be_bytes, to_be_bytes, w16, w32, w64};
+ghost use Rattle.sha2.specs.Hashers.{Holds256};
 ghost use Rattle.cnb_world.specs.Path.{is_part};
 ghost use Rattle.cnb_world.specs.Tree.{Tree};
 ghost use Rattle.tree_canon.specs.Names.{is_name, is_text};
 ghost use Rattle.tree_canon.specs.Rules.{first_byte};
-ghost use Rattle.tree_canon.specs.Spelling.{name_bytes};
+ghost use Rattle.tree_canon.specs.Spelling.{magic, name_bytes};
 ghost use Rattle.steps.specs.Outside.{seen};
-ghost use Rattle.steps.specs.Causes.{CountsFiles};
-ghost use Rattle.tree_store.specs.Ahead.{Ahead, BlamesEither, Leaves, Reading};
+ghost use Rattle.steps.specs.Causes.{CountsFiles, Decided};
+ghost use Rattle.tree_store.specs.Ahead.{Ahead, BlamesEither, HasDigest, Leaves, Reading};
 ghost use Rattle.tree_store.specs.Answers.{cause_of, is_free};
 
 use crate::fault::StoreFault;
 use crate::store::read_piece;
 use cnb_world::{Bytes, Path, Text, World, is_part};
+use sha2::{Digest as _, Sha256};
 use std::alloc::Global;
 use std::str;
 use tree_canon::{Digest, Reason};
@@ -60,11 +62,12 @@ pub(crate) fn u64_of(field: &[u8]) -> u64
     }
 }
 
-/// Reads the bytes of a tree's file one field after another. It holds a piece of them.
+/// Reads the bytes of a tree's file one field after another. It holds a piece of them, and hashes those that were taken.
 #[derive(Drop)]
 pub(crate) struct KeptBytes {
     path: Path,
     digest: Digest,
+    hasher: Sha256,
     at: u64,
     piece: Bytes,
     used: usize,
@@ -74,15 +77,45 @@ impl KeptBytes {
     /// The bytes of the root node, which stand behind the first five of the file.
     pub(crate) fn new(alloc: Global, path: Path, digest: &Digest) -> KeptBytes
         ensures path { result.path ≡ path }
+        ensures digest { result.digest ≡ digest.now }
         ensures at { result.at ≡ 5 }
         ensures piece { result.piece ≡ [] }
+        ensures hashed { Holds256 result.hasher magic }
     {
+        let mut hasher = Sha256::new();
+        hasher.update(b"CNBT\x01");
         KeptBytes {
             path,
             digest: *digest,
+            hasher,
             at: 5,
             piece: Bytes::from_vec(Vec::new(alloc)),
             used: 0,
+        }
+    }
+
+    /// Sees that the bytes that were taken have the digest. Where they don't, the file was changed since it was judged.
+    pub(crate) fn end(self) -> Result<(), StoreFault>
+        ensures digest { (bytes : Seq ℕ) → Holds256 self.hasher bytes → HasDigest self.digest bytes result }
+        ensures decided { IfErr result (λ fault. cause_of fault ≡ Decided) }
+    {
+        let KeptBytes {
+            path: _,
+            digest,
+            hasher,
+            at: _,
+            piece: _,
+            used: _,
+        } = self;
+        let found = Digest::from_bytes(hasher.finalize());
+        if found.same(&digest) {
+            Ok(())
+        } else {
+            Err(StoreFault::Damaged {
+                asked: digest,
+                found,
+                bad: None,
+            })
         }
     }
 
@@ -147,6 +180,7 @@ impl KeptBytes {
         let held = self.piece.as_slice();
         let end = self.used + len;
         let field = Bytes::of(alloc, &held[self.used..end])?;
+        self.hasher.update(field.as_slice());
         self.used = end;
         self.at += len as u64;
         Ok(field)

@@ -303,7 +303,7 @@ pub(crate) fn lay_kept<W: World>(
     requires place { length place.now ≤ 8192 }
     ensures leaves { Leaves root.now source.old (seen W.World world.old) result source.new (seen W.World world.new) }
     ensures lays { (tree : Node) → fits tree 0 ≡ true → Ahead source.old (W.tree world.old) (node_bytes tree)
-        → LaysTree root.now place.now tree (seen W.World world.old) result (seen W.World world.new) }
+        → LaysTree root.now place.now tree (seen W.World world.old) result source.new (seen W.World world.new) }
 {
     or_blame(alloc, root, world.make_folder(root))?;
     lay_kept_at(alloc, world, source, root, place)

@@ -8,13 +8,14 @@ ghost use Rattle.steps.specs.Outside.{seen};
 ghost use Rattle.steps.specs.Reading.{ReadFrame};
 ghost use Rattle.tree_store.specs.Answers.{BlamesAt, BlamesWithin, cause_of, is_free};
 ghost use Rattle.tree_store.specs.Around.{KeptAround};
+ghost use Rattle.tree_store.specs.Comparing.{IsCompared};
 ghost use Rattle.tree_store.specs.Store.{tree_path};
 ghost use Rattle.tree_store.specs.Writing.{AreApart, ClashesUnless, HasWritten, IsClearedOf, NamesBytes, NewFrame, PutFrame, PutsBytes, begun_with, new_path, trees_of};
 
 use crate::fault::{StoreFault, or_blame};
-use crate::store::{PIECE, is_absent_at, read_piece, tree_file};
+use crate::store::{PIECE, is_absent_at, is_last, read_piece, tree_file};
 use crate::writing::Writer;
-use cnb_world::{Path, World};
+use cnb_world::{Bytes, Path, World};
 use std::alloc::Global;
 use tree_canon::Digest;
 
@@ -33,17 +34,36 @@ pub(crate) fn remove_new<W: World>(
     or_blame(alloc, file, world.remove(file))
 }
 
-// Whether two files have the same bytes from a place on, as many as are read at once.
-fn same_piece<W: World>(
+// What two pieces say of their files: other bytes, the same to the end of the second file, or the same and perhaps more.
+enum Compared {
+    Other,
+    Last,
+    Whole,
+}
+
+fn compare(there: &Bytes, here: &Bytes) -> Compared
+    ensures { IsCompared there.now here.now result }
+{
+    if there.as_slice() != here.as_slice() {
+        Compared::Other
+    } else if is_last(here) {
+        Compared::Last
+    } else {
+        Compared::Whole
+    }
+}
+
+// Compares two files from a place on, as many bytes as are read at once.
+fn compare_piece<W: World>(
     alloc: Global,
     world: &mut W,
     path: &Path,
     file: &Path,
     at: u64,
-) -> Result<bool, StoreFault>
-    ensures told { IfSome (W.tree world.old) (λ files. IfOk result (λ same. IsTrue same
-        ↔ (take 65536 (drop at (bytes_of (item_at files path.now)))
-        ≡ take 65536 (drop at (bytes_of (item_at files file.now)))))) }
+) -> Result<Compared, StoreFault>
+    ensures told { IfSome (W.tree world.old) (λ files. IfOk result (IsCompared
+        (take 65536 (drop at (bytes_of (item_at files path.now))))
+        (take 65536 (drop at (bytes_of (item_at files file.now)))))) }
     ensures stands { IfSome (W.tree world.old) (λ files. OnOk result (IsTrue (is_file (item_at files path.now)))) }
     ensures free { IfErr result (λ fault. IsTrue (is_free fault)) }
     ensures blames { (folder : Seq ℕ) → is_within folder path.now ≡ true → is_within folder file.now ≡ true
@@ -54,7 +74,7 @@ fn same_piece<W: World>(
 {
     let there = read_piece(alloc, world, path, at)?;
     let here = read_piece(alloc, world, file, at)?;
-    Ok(there.as_slice() == here.as_slice())
+    Ok(compare(&there, &here))
 }
 
 // Whether two files have the same bytes. The second has at most so many.
@@ -77,8 +97,10 @@ fn same_files<W: World>(
         (W.tree world.old)) (W.misused world.old) (W.misused world.new) }
 {
     for number in 0..len / PIECE + 1 {
-        if !same_piece(alloc, world, path, file, number * PIECE)? {
-            return Ok(false);
+        match compare_piece(alloc, world, path, file, number * PIECE)? {
+            Compared::Other => return Ok(false),
+            Compared::Last => return Ok(true),
+            Compared::Whole => {}
         }
     }
     Ok(true)

@@ -108,6 +108,30 @@ fn put_piece<W: World>(
     Ok(done + size)
 }
 
+// Sees that a file has no more bytes. A last piece that is shorter than what is read at once shows that already.
+fn put_end<W: World>(
+    alloc: Global,
+    world: &mut W,
+    writer: &mut Writer,
+    path: &Path,
+    len: u64,
+) -> Result<(), StoreFault>
+    ensures leaves { LeavesNew path.now writer.old (seen W.World world.old) result writer.new
+        (seen W.World world.new) }
+    ensures puts { (store : Seq ℕ) (before : Option Tree) (bytes : Seq ℕ)
+        → HasWritten store before writer.old bytes (W.tree world.old) → AreApart (new_path store) path.now
+        → IfSome before (λ files. HasLength len (item_at files path.now))
+        → Added store before (λ done more. IsPart before path.now len len more)
+        (λ fault. IfSome before (λ files. IsTrue (is_free fault))) bytes
+        (seen W.World world.old) result writer.new (seen W.World world.new) }
+{
+    if len == 0 || len % 65536 != 0 {
+        return Ok(());
+    }
+    put_piece(alloc, world, writer, path, len, len)?;
+    Ok(())
+}
+
 // The bytes of a file, so many.
 fn put_contents<W: World>(
     alloc: Global,
@@ -130,7 +154,7 @@ fn put_contents<W: World>(
         let next = put_piece(alloc, world, writer, path, len, done)?;
         done = next;
     }
-    Ok(())
+    put_end(alloc, world, writer, path, len)
 }
 
 // The file at a path.

@@ -126,6 +126,13 @@ pub(crate) fn read_piece<W: World>(
     }
 }
 
+/// Whether a file ends with a piece that was read: fewer bytes came than were asked for.
+pub(crate) fn is_last(piece: &Bytes) -> bool
+    ensures { IsTrue result ↔ (length piece.now < 65536) }
+{
+    (piece.as_slice().len() as u64) < PIECE
+}
+
 // The bytes from a place on, at most as many as are read at once.
 fn piece_of(bytes: &[u8], at: usize) -> &[u8]
     requires { at ≤ length bytes.now }
@@ -326,6 +333,7 @@ fn read_kept<W: World>(
     requires len { IfSome (W.tree world.old) (λ files. length (bytes_of (item_at files path.now)) ≤ len) }
     requires stands { IfSome (W.tree world.old) (λ files. IsTrue (is_some (item_at files path.now))) }
     ensures gets { IfSome (W.tree world.old) (λ files. Gets digest.now (item_at files path.now) result) }
+    ensures digest { IfOk result (λ tree. sha256 (spelling_of tree) ≡ digest.now) }
     ensures blames { IfErr result (BlamesAt path.now) }
     ensures frame { ReadFrame cause_of result (seen W.World world.old) (seen W.World world.new) }
     ensures misused { MayMisuse (option_map (λ t. is_file (item_at t path.now)) (W.tree world.old))
@@ -336,6 +344,9 @@ fn read_kept<W: World>(
     for number in 0..len / PIECE + 1 {
         let piece = read_piece(alloc, world, path, number * PIECE)?;
         judging.take(piece.as_slice())?;
+        if is_last(&piece) {
+            break;
+        }
     }
     let judged = judging.end(digest)?;
     judged_tree(judged)
@@ -351,6 +362,7 @@ fn get_file<W: World>(
     requires { length store.now ≤ 8192 }
     ensures gets { IfSome (W.tree world.old) (λ files. Gets digest.now
         (item_at files (tree_path store.now digest.now)) result) }
+    ensures digest { IfOk result (λ tree. sha256 (spelling_of tree) ≡ digest.now) }
     ensures blames { IfErr result (BlamesAt (tree_path store.now digest.now)) }
     ensures frame { ReadFrame cause_of result (seen W.World world.old) (seen W.World world.new) }
     ensures misused { MayMisuse (option_map (λ t. is_file_or_absent (item_at t (tree_path store.now digest.now)))
@@ -377,6 +389,7 @@ pub fn get<W: World>(
 ) -> Result<Tree, StoreFault>
     requires { length store.now ≤ 8192 }
     ensures steps { gets_tree store.now digest.now (seen W.World world.old) result (seen W.World world.new) }
+    ensures digest { IfOk result (λ tree. sha256 (spelling_of tree) ≡ digest.now) }
     ensures files { CountsFiles cause_of result (W.file_faults world.old) (W.file_faults world.new) }
     ensures children { W.child_faults world.new ≡ W.child_faults world.old }
 {

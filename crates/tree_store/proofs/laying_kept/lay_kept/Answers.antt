@@ -19,7 +19,7 @@ returns-in_err-or_blame-clause-leaves g c =
 pub returns-in_err-or_blame-clause-lays : goal.returns-in_err-or_blame-clause-lays
 returns-in_err-or_blame-clause-lays g c = λ tree fit ahead.
     let exit = err_from_is_err_and c.from_residual.result c.from_residual.ensures.1 in
-    rw (exit.1, exit.2) (tree_stopped c.args.root.now c.args.place.now tree (seen g.W.World c.args.world.now) (seen g.W.World c.make_folder.new.self) c.make_folder.result _ c.in_err-or_blame.ensures.free c.make_folder.ensures.misused)
+    rw (exit.1, exit.2) (tree_stopped c.args.root.now c.args.place.now tree _ (seen g.W.World c.args.world.now) (seen g.W.World c.make_folder.new.self) c.make_folder.result _ c.in_err-or_blame.ensures.free c.make_folder.ensures.misused)
 
 pub returns-clause-leaves : goal.returns-clause-leaves
 returns-clause-leaves g c = leaves_then (leaves_called g.W.World c.args.root.now c.args.source.now c.make_folder.result (Ok tt) _ _ c.make_folder.ensures.files c.in_ok-or_blame.ensures.counts tt c.make_folder.ensures.children

@@ -1,4 +1,4 @@
-use Rattle.std.proofs.Common.{◌∙◌, ap, None, refl, true}
+use Rattle.std.proofs.Common.{◌∙◌, ap, None, refl}
 use Rattle.std.proofs.lemmas.Result.{err_from_is_err_and}
 use Rattle.cnb_world.specs.Tree.{is_within}
 use Rattle.steps.specs.Outside.{seen}

@@ -45,10 +45,11 @@ returns-in_err-next-clause-puts g c =
 
 pub returns-clause-leaves : goal.returns-clause-leaves
 returns-clause-leaves g c =
-    c.loop-done.invariant.leaves
+    leaves_then c.loop-done.invariant.leaves c.put_end.ensures.leaves
 
 pub returns-clause-puts : goal.returns-clause-puts
 returns-clause-puts g c =
     λ store before bytes h apart file.
     let end : c.loop-done.done ≡ c.args.len = omega (arith, c.loop-done-test.false, c.loop-done.invariant.within) in
-    added_as (λ done more part. subst (λ n. IsPart before c.args.path.now 0 n more) end part) (λ fault free. free) (c.loop-done.invariant.puts store before bytes h apart file)
+    added_then (c.loop-done.invariant.puts store before bytes h apart file)
+    (λ more part held. added_as (λ done next last. parts_joined (subst (λ n. IsPart before c.args.path.now 0 n more) end part) last) (λ fault free. free) (c.put_end.ensures.puts store before _ held apart file))

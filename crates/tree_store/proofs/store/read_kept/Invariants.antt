@@ -1,15 +1,14 @@
-use Rattle.std.proofs.Common.{◌≡◌, ◌*◌, take}
-use Rattle.std.specs.Prelude.{IfSome}
+use Rattle.std.proofs.Common.{◌≡◌}
 use Rattle.std.specs.Option.{option_map}
 use Rattle.cnb_world.specs.Calls.{MayMisuse}
 use Rattle.cnb_world.specs.Tree.{item_at, is_file}
 use Rattle.tree_store.specs.Judging.{HasTaken}
-use Rattle.tree_store.proofs.Kept.{IsFileAfter, contents}
+use Rattle.tree_store.proofs.Kept.{IsFileAfter, Taken}
 use Rattle.tree_store.proofs.store.read_kept.Given as goal
 
 abbrev pub invariant-loop-number : goal.invariant-loop-number
 invariant-loop-number g l = record {
-  taken : IfSome (g.W.World.tree l.initial.world) (λ files. HasTaken l.judging (take (l.number * 65536) (contents files l.path)));
+  taken : Taken (g.W.World.tree l.initial.world) l.path l.number (HasTaken l.judging);
   file : IsFileAfter (g.W.World.tree l.initial.world) l.path l.number;
   tree : g.W.World.tree l.world ≡ g.W.World.tree l.initial.world;
   files : g.W.World.file_faults l.world ≡ g.W.World.file_faults l.initial.world;

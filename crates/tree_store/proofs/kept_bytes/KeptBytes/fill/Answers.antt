@@ -24,7 +24,7 @@ returns-then-holds-2-clause-leaves g c = λ path.
 pub returns-then-holds-2-clause-reads : goal.returns-then-holds-2-clause-reads
 returns-then-holds-2-clause-reads g c = λ bytes folders long.
     does_read _ _ bytes bytes folders c.args.self.now _ _ _ c.in_ok-self.ensures.frame.files (λ ahead. tt)
-    (λ ahead. ahead_filled c.args.self.now _ (g.W.World.tree c.args.world.now) _ bytes c.in_ok-self.ensures.frame.files c.in_ok-self.ensures.told refl refl refl ahead)
+    (λ ahead. ahead_filled c.args.self.now _ (g.W.World.tree c.args.world.now) _ bytes c.in_ok-self.ensures.frame.files c.in_ok-self.ensures.told refl refl refl refl refl ahead)
     (λ ahead. read_right c.args.self.now (g.W.World.tree c.args.world.now) bytes _ _ ahead c.in_ok-self.ensures.misused)
 
 pub returns-else-holds-2-clause-leaves : goal.returns-else-holds-2-clause-leaves
