@@ -1,7 +1,9 @@
 // Gathering rows.
-ghost use Rattle.std.specs.Prelude.{◌≡◌, ◌++◌, ◌∷◌, [], IfOk, OnErr, OnOk, fold, map, unwrap_or};
+ghost use Rattle.std.specs.Prelude.{◌≡◌, ◌++◌, ◌∷◌, [], IfOk, List, OnErr, OnOk, fold, map, not, unwrap_or};
+ghost use Rattle.std.specs.HashSet.{contains};
 ghost use Rattle.cnb_toml.specs.Distinct.{HasKeysOf};
 ghost use Rattle.image_docs.specs.LayerRow.{layer_key, same_layer};
+ghost use Rattle.image_docs.specs.declared.layer_row.LayerRow.{LayerRow};
 ghost use Rattle.shelf_set.specs.ShelfState.{state_of};
 ghost use Rattle.shelf_set.specs.Dropping.{AreStanding};
 ghost use Rattle.shelf_set.specs.Finding.{LeavesSame};
@@ -33,7 +35,21 @@ struct Merged {
     unread: List<u32>,
 }
 
+// Whether a row is the first of its layer, whose key is seen from then on.
 #[tactic(auto, using(cnb_toml::specs::DistinctLaws::one_more_seen))]
+fn is_first(alloc: Global, seen: &mut HashSet<LayerKey>, row: &LayerRow) -> Result<bool, Memory>
+    ensures first { IfOk result (λ first. first ≡ not (contains same_layer seen.old (layer_key row.now))) }
+    ensures seen { (rows : List LayerRow) → HasKeysOf same_layer layer_key rows seen.old
+        → OnOk result (HasKeysOf same_layer layer_key (with_row rows row.now) seen.new) }
+{
+    let key = layer_key(alloc, row)?;
+    if seen.contains(&key) {
+        return Ok(false);
+    }
+    see_key(seen, key)?;
+    Ok(true)
+}
+
 fn add_row(
     alloc: Global,
     rows: &mut List<LayerRow>,
@@ -44,12 +60,11 @@ fn add_row(
     ensures rows { OnOk result (rows.new ≡ with_row rows.old row) }
     ensures seen { OnOk result (HasKeysOf same_layer layer_key rows.new seen.new) }
 {
-    let key = layer_key(alloc, &row)?;
-    if seen.contains(&key) {
-        return Ok(());
+    if is_first(alloc, seen, &row)? {
+        rows.push(row)
+    } else {
+        Ok(())
     }
-    see_key(seen, key)?;
-    rows.push(row)
 }
 
 fn add_rows(
