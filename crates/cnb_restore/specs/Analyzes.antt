@@ -34,7 +34,7 @@ abbrev pub is_fit_image : List ℕ → Option (List ℕ) → Tree → Bool
 is_fit_image store None files = true
 is_fit_image store (Some name) files = is_fit_document (image_path store name) files
 
-abbrev pub name_of : List ℕ → Option ImageDoc → Result (Option (List ℕ)) RestoreFault
+abbrev pub name_of : {A : Type 0} → List ℕ → Option A → Result (Option (List ℕ)) RestoreFault
 name_of name None = Ok None
 name_of name (Some image) = Ok (Some name)
 

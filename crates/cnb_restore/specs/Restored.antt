@@ -2,6 +2,7 @@
 use Rattle.std.specs.Prelude.{ℕ, Bool, ◌++◌, List, [], ◌∷◌, length}
 use Rattle.image_docs.specs.declared.layer_row.LayerRow.{LayerRow}
 use Rattle.cnb_restore.specs.declared.restored.Restored.{Restored}
+use Rattle.cnb_restore.specs.declared.restored.RestoredRow.{RestoredRow}
 
 -- nothing before the first buildpack; these caches are refused their rows, and these were dropped
 abbrev pub gathered_first : List ℕ → List ℕ → Restored
@@ -16,10 +17,14 @@ after_search more restored = record {
   searches = restored.searches ++ length (restored.gone ++ more) ∷ [];
 }
 
--- one layer more, with its contents or without
+-- a layer that was restored, with its contents or without
+abbrev pub restored_row : LayerRow → Bool → RestoredRow
+restored_row row contents = record { id = row.id; layer = row.layer; contents = contents }
+
+-- one layer more
 abbrev pub with_layer : LayerRow → Bool → Restored → Restored
 with_layer row contents restored = record {
-  rows = restored.rows ++ record { id = row.id; layer = row.layer; contents = contents } ∷ [];
+  rows = restored.rows ++ restored_row row contents ∷ [];
   unread = restored.unread;
   gone = restored.gone;
   searches = restored.searches;

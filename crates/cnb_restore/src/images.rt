@@ -44,10 +44,10 @@ fn some_named(
 }
 
 // The name of an image, where that is there.
-fn name_of(
+fn name_of<T: Drop>(
     alloc: Global,
     name: &ImageName,
-    found: Option<ImageDoc>,
+    found: Option<T>,
 ) -> Result<Option<ImageName>, RestoreFault>
     ensures answer { IsAnswer cause_of result (name_of name.now found) }
     ensures cause { IfErr result (λ fault. IsGivenCause (cause_of fault)) }

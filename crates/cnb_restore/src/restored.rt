@@ -1,6 +1,6 @@
 // What was restored.
 ghost use Rattle.std.specs.Prelude.{◌≡◌, ◌+◌, ◌<◌, ◌^◌, IfOk, length};
-ghost use Rattle.cnb_restore.specs.Restored.{after_search, gathered_first, with_layer};
+ghost use Rattle.cnb_restore.specs.Restored.{after_search, gathered_first, restored_row, with_layer};
 
 use cnb_toml::{BpId, LayerName};
 use cnb_world::{List, Memory};
@@ -63,30 +63,25 @@ pub(crate) fn after_search(restored: Restored, more: &List<u32>) -> Result<Resto
     })
 }
 
+fn restored_row(alloc: Global, row: &LayerRow, contents: bool) -> Result<RestoredRow, Memory>
+    ensures { IfOk result (λ restored. restored ≡ restored_row row.now contents) }
+{
+    Ok(RestoredRow {
+        id: row.id.copy(alloc)?,
+        layer: row.layer.copy(alloc)?,
+        contents,
+    })
+}
+
 /// One layer more.
 pub(crate) fn with_layer(
     alloc: Global,
-    restored: Restored,
+    mut restored: Restored,
     row: &LayerRow,
     contents: bool,
 ) -> Result<Restored, Memory>
     ensures { IfOk result (λ after. after ≡ with_layer row.now contents restored) }
 {
-    let Restored {
-        mut rows,
-        unread,
-        gone,
-        searches,
-    } = restored;
-    rows.push(RestoredRow {
-        id: row.id.copy(alloc)?,
-        layer: row.layer.copy(alloc)?,
-        contents,
-    })?;
-    Ok(Restored {
-        rows,
-        unread,
-        gone,
-        searches,
-    })
+    restored.rows.push(restored_row(alloc, row, contents)?)?;
+    Ok(restored)
 }
