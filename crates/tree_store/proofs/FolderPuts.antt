@@ -18,11 +18,12 @@ use Rattle.tree_store.specs.Around.{KeptAround}
 use Rattle.tree_store.specs.Reading.{tree_in}
 use Rattle.tree_store.specs.Steps.{BlamesFolder, LeavesFolder, PutsRead, can_name, can_put_folder, folder_put, puts_folder, reads_tree}
 use Rattle.tree_store.specs.Store.{Keeps, done_of, tree_path}
-use Rattle.tree_store.specs.Writing.{IsCleared, IsClearedOf, LeavesNew, NewFrame, PutFrame, PutsBytes, Refuses, bytes_put, can_begin, new_path, trees_of}
+use Rattle.tree_store.specs.Writing.{IsCleared, IsClearedOf, KeptFile, LeavesNew, NewFrame, PutFrame, PutsBytes, Refuses, bytes_put, can_begin, new_path, trees_of}
 use Rattle.tree_store.specs.declared.fault.StoreFault.{StoreFault}
 use Rattle.tree_store.specs.declared.fault.StoreFault.TheVariants.{OddFile, Limit, File, NoTree, Damaged, Clash, Memory}
 use Rattle.tree_store.specs.declared.writing.Writer.{Writer}
 use Rattle.tree_store.proofs.Around.{kept_itself}
+use Rattle.tree_store.proofs.NewPlace.{place_itself}
 use Rattle.tree_store.proofs.Puts.{free_keeps, unless_free}
 use Rattle.tree_store.proofs.Written.{frame_stop, frame_then}
 use Rattle.tree_store.proofs.Settled.{decided_is, new_within, where_so, put_frame_then, same_right}
@@ -95,11 +96,26 @@ unfolding puts_folder
 not_begun store path {a} {b} {fault} frame free blames may = record {
   answer = free_puts a.files store path fault free;
   leaves = (frame.around.files, unless_free fault (IsCleared store b.files ⊎ (b.files ≡ a.files)) free);
+  place = frame.place;
   blames = blames_trees store path fault blames;
   cause = frame.cause;
   runs = frame.around.runs;
   allows = rest_allowed store path a.files a.misused b.misused b.misused may refl;
 }
+
+-- what was written is removed
+free_answered : (fault answered : StoreFault) → IsTrue (is_free fault) → IsTrue (is_free answered) ⊎ (answered ≡ fault) → IsTrue (is_free answered)
+free_answered fault answered free (inl h) = h
+free_answered fault answered free (inr same) = ap is_free same ∙ free
+
+blames_answered : (trees : List ℕ) (fault answered : StoreFault) → BlamesWithin trees fault → BlamesWithin trees answered ⊎ (answered ≡ fault) → BlamesWithin trees answered
+blames_answered trees fault answered before (inl h) = h
+blames_answered trees fault answered before (inr same) = subst (BlamesWithin trees) (sym same) before
+
+pub not_added : {A : Type 0} (store path : List ℕ) {a b c : Seen} {fault answered : StoreFault} → NewFrame {A = A} (new_path store) a (Err fault) b → IsTrue (is_free fault) → BlamesWithin (trees_of store) fault → MayMisuse (option_map (can_begin store) a.files) a.misused b.misused
+    → IsClearedOf fault store b answered c → BlamesWithin (trees_of store) answered ⊎ (answered ≡ fault) → puts_folder store path a (Err answered) c
+not_added store path {a} {b} {c} {fault} {answered} frame free blames may clear blamed =
+    not_begun {A = Unit {0}} store path (clear.frame a (frame_stop frame)) (free_answered fault answered free clear.same) (blames_answered (trees_of store) fault answered blames blamed) (subst (λ n. MayMisuse (option_map (can_begin store) a.files) a.misused n) (sym clear.right) may)
 
 -- nothing was done
 pub no_memory : (store path : List ℕ) (a : Seen) → puts_folder store path a (Err Memory) a
@@ -107,6 +123,7 @@ unfolding puts_folder
 no_memory store path a = record {
   answer = free_puts a.files store path Memory refl;
   leaves = (kept_itself (new_path store) a.files a.files refl, tt);
+  place = place_itself (new_path store) a.files a.files refl;
   blames = tt;
   cause = tt;
   runs = refl;
@@ -120,6 +137,7 @@ unfolding puts_folder
 walk_refused {store} {path} {writer} {after} {a} {b} {c} {d} {fault} {answered} at begun may leaves refused right clear blames = record {
   answer = answer clear.same;
   leaves = (all.around.files, where_map (cause_of answered) (IsCleared store d.files) (IsCleared store d.files ⊎ (d.files ≡ a.files)) (λ h. inl h) clear.cleared);
+  place = all.place;
   blames = blamed blames;
   cause = all.cause;
   runs = all.around.runs;
@@ -156,6 +174,7 @@ unfolding puts_folder
 tree_named path {store} {bytes} {a} {b} {c} {result} tree is read may frame puts blames = record {
   answer = named_answer store path bytes tree a.files result is read puts.named.keeps;
   leaves = leaves result frame.kept puts.digest puts.named.files puts.named.cleared;
+  place = frame.place;
   blames = blamed result blames;
   cause = frame.cause;
   runs = frame.runs;
@@ -181,6 +200,7 @@ unfolding puts_folder reads_tree reads
 read_refused store path a b fault read blames = record {
   answer = refused_puts a.files store path fault read.answer;
   leaves = (kept_itself (new_path store) a.files b.files read.same.files, where_so (cause_of fault) (IsCleared store b.files ⊎ (b.files ≡ a.files)) (inr read.same.files));
+  place = place_itself (new_path store) a.files b.files read.same.files;
   blames = blames_path store path fault blames;
   cause = read.cause;
   runs = read.same.runs;
@@ -202,6 +222,7 @@ unfolding puts_folder
 folder_from store path a b c r files runs misused h = record {
   answer = subst (λ o. IfSome o (λ files. PutsRead store (tree_in path files) files r)) files h.answer;
   leaves = leaves r h.leaves;
+  place = subst (λ o. OnErr r (KeptFile (new_path store) o c.files)) files h.place;
   blames = h.blames;
   cause = h.cause;
   runs = h.runs ∙ runs;

@@ -1,4 +1,5 @@
 pub mod Nodes
+pub mod NewPlace
 pub mod Ahead
 pub mod Around
 pub mod Blames

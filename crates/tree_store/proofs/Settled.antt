@@ -1,6 +1,6 @@
 -- A file that was written gets its name, or is removed.
-use Rattle.std.proofs.Common.{◌≡◌, ◌<◌, ◌≤◌, ◌∙◌, refl, sym, ap, subst, arith, ℕ, Bool, true, false, cond, not, ◌+◌, ◌*◌, ◌/◌, ◌&&◌, inl, inr, ◌++◌, List, [], ◌∷◌, append-nil, drop, take, length, Option, Some, None, is_some, Result, Ok, Err}
-use Rattle.std.specs.Prelude.{IfErr, IfSome, IsTrue, OnErr, OnOk, codes, is_err, is_ok, ◌↔◌}
+use Rattle.std.proofs.Common.{◌≡◌, ◌<◌, ◌≤◌, ◌∙◌, refl, sym, ap, subst, arith, ℕ, Bool, true, false, cond, not, ◌+◌, ◌-◌, ◌^◌, ◌*◌, ◌/◌, ◌&&◌, inl, inr, ◌++◌, List, [], ◌∷◌, append-nil, drop, take, length, Option, Some, None, is_some, Result, Ok, Err}
+use Rattle.std.specs.Prelude.{IfErr, IfSome, IsTrue, OnErr, OnOk, codes, is_err, is_ok, min, ◌↔◌, ◌⊎◌}
 use Rattle.std.specs.Option.{option_map}
 use Rattle.std.specs.Str.{bytes_eq}
 use Rattle.std.specs.FinMap.{get, insert, remove}
@@ -17,24 +17,25 @@ use Rattle.cnb_world.specs.declared.world.Item.TheVariants as item
 use Rattle.cnb_world.proofs.Folders.{folder_stands, get-without, item_at-insert_shorter}
 use Rattle.cnb_world.proofs.Joins.{parent_of_file}
 use Rattle.cnb_world.proofs.Trees.{get-insert_bytes, get-insert_same, renamed-insert, same_tree}
-use Rattle.steps.specs.Causes.{Cause, FileFailed, ChildFailed, OutOfMemory, CountsFiles, Decided, FilesBy, IsReadCause, WhereDecided}
+use Rattle.steps.specs.Causes.{Cause, FileFailed, ChildFailed, OutOfMemory, CountsFiles, Decided, IsReadCause, WhereDecided}
 use Rattle.steps.specs.Outside.{Seen, seen}
 use Rattle.sha2.specs.Hashers.{Holds256}
 use Rattle.cnb_world.specs.declared.world.World as world
 use Rattle.tree_canon.specs.Digest.{is_digest_text}
-use Rattle.tree_store.specs.Answers.{BlamesAt, BlamesEither, BlamesWithin, cause_of, is_free}
+use Rattle.tree_store.specs.Answers.{BlamesAt, BlamesEither, BlamesWithin, IsLater, cause_of, is_free}
 use Rattle.tree_store.specs.Around.{KeptAround, LeavesAround}
 use Rattle.tree_store.specs.Comparing.{IsCompared}
 use Rattle.tree_store.specs.declared.naming.Compared.{Compared}
 use Rattle.tree_store.specs.declared.naming.Compared.TheVariants.{Other, Last, Whole}
 use Rattle.tree_store.specs.Store.{Keeps, tree_path}
-use Rattle.tree_store.specs.Writing.{AreApart, ClashesUnless, HasWritten, IsCleared, IsClearedOf, NamesBytes, NewFrame, PutFrame, begun_with, bytes_put, named_or_left, new_path, trees_of}
+use Rattle.tree_store.specs.Writing.{AreApart, ClashesUnless, HasWritten, IsCleared, IsClearedOf, KeptFile, NamesBytes, NewFrame, PutFrame, PutsBytes, begun_with, bytes_put, named_or_left, new_path, trees_of}
 use Rattle.tree_store.specs.declared.writing.Writer.{Writer}
 use Rattle.tree_store.specs.declared.fault.StoreFault.{StoreFault}
 use Rattle.tree_store.specs.declared.fault.StoreFault.TheVariants.{OddFile, Limit, File, NoTree, Damaged, Clash, Memory}
 use Rattle.tree_store.proofs.Apart.{item_kept, siblings_apart, still}
 use Rattle.tree_store.proofs.Blames.{within_child, within_itself}
 use Rattle.tree_store.proofs.Around.{kept_itself, kept_on, never_falls, onward}
+use Rattle.tree_store.proofs.NewPlace.{place_itself, place_on}
 use Rattle.tree_store.proofs.Kept.{contents, next_number, piece_more, same_to_end}
 use Rattle.tree_store.proofs.Places.{child_not_root, longer_child}
 use Rattle.tree_store.proofs.Puts.{free_keeps, other_keeps, same_keeps, unless_free}
@@ -188,15 +189,20 @@ where_so Decided P h = h
 -- ---- what putting leaves
 
 pub put_frame : {A : Type 0} {store : List ℕ} {a b : Seen} {r : Result A StoreFault} → NewFrame (new_path store) a r b → PutFrame store a r b
-put_frame {A} {store} {a} {b} {r} h = record { kept = by r h.around.files; runs = h.around.runs; misused = h.around.misused; children = h.children; counts = h.counts; cause = h.cause }
+put_frame {A} {store} {a} {b} {r} h = record { kept = by r h.around.files; place = stays r h.place; runs = h.around.runs; misused = h.around.misused; children = h.children; counts = h.counts; cause = h.cause }
   where
     by : (r : Result A StoreFault) → KeptAround (new_path store) a.files b.files → OnErr r (KeptAround (new_path store) a.files b.files)
     by (Ok v) k = tt
     by (Err fault) k = k
 
+    stays : (r : Result A StoreFault) → KeptFile (new_path store) a.files b.files → OnErr r (KeptFile (new_path store) a.files b.files)
+    stays (Ok v) k = tt
+    stays (Err fault) k = k
+
 pub put_frame_then : {A B : Type 0} {store : List ℕ} {a b c : Seen} {v : A} {r : Result B StoreFault} → NewFrame (new_path store) a (Ok v) b → PutFrame store b r c → PutFrame store a r c
 put_frame_then {B = B} {store} {a} {b} {c} {v} {r} first next = record {
   kept = by r next.kept;
+  place = stays r next.place;
   runs = next.runs ∙ first.around.runs;
   misused = let f : a.misused ≤ b.misused = first.around.misused in let n : b.misused ≤ c.misused = next.misused in omega (arith, f, n);
   children = next.children ∙ first.children;
@@ -208,12 +214,16 @@ put_frame_then {B = B} {store} {a} {b} {c} {v} {r} first next = record {
     by (Ok v) k = tt
     by (Err fault) k = kept_on (new_path store) a.files b.files c.files first.around.files k
 
+    stays : (r : Result B StoreFault) → OnErr r (KeptFile (new_path store) b.files c.files) → OnErr r (KeptFile (new_path store) a.files c.files)
+    stays (Ok v) k = tt
+    stays (Err fault) k = place_on (new_path store) a.files b.files c.files first.place k
+
 -- another value
 pub put_frame_value : {A B : Type 0} {store : List ℕ} {a b : Seen} {v : A} (w : B) → PutFrame store a (Ok v) b → PutFrame store a (Ok w) b
-put_frame_value w h = record { kept = tt; runs = h.runs; misused = h.misused; children = h.children; counts = h.counts; cause = tt }
+put_frame_value w h = record { kept = tt; place = tt; runs = h.runs; misused = h.misused; children = h.children; counts = h.counts; cause = tt }
 
 pub put_frame_stop : {A B : Type 0} {store : List ℕ} {a b : Seen} {fault : StoreFault} → PutFrame {A = A} store a (Err fault) b → PutFrame {A = B} store a (Err fault) b
-put_frame_stop h = record { kept = h.kept; runs = h.runs; misused = h.misused; children = h.children; counts = h.counts; cause = h.cause }
+put_frame_stop h = record { kept = h.kept; place = h.place; runs = h.runs; misused = h.misused; children = h.children; counts = h.counts; cause = h.cause }
 
 pub rename_frame : {W : Type 0} (ghosts : world.Ghosts W) (store path : List ℕ) (allows : Option Bool) (answer : Result (Unit {0}) FileFault) (result : Result (Unit {0}) StoreFault) (old new : W) → OnErr answer (ghosts.tree new ≡ ghosts.tree old) → OnErr result (IsTrue (is_err answer))
     → ghosts.runs new ≡ ghosts.runs old → ghosts.child_faults new ≡ ghosts.child_faults old → CountsFailed answer (ghosts.file_faults old) (ghosts.file_faults new) → LastFailed path answer (ghosts.failed_at old) (ghosts.failed_at new)
@@ -221,6 +231,7 @@ pub rename_frame : {W : Type 0} (ghosts : world.Ghosts W) (store path : List ℕ
     → CountsMisuse allows answer (ghosts.misused old) (ghosts.misused new) → PutFrame store (seen ghosts old) result (seen ghosts new)
 rename_frame ghosts store path allows answer result old new same err runs children counted failed counts cause misused = record {
   kept = by answer result same err;
+  place = stays answer result same err;
   runs = runs;
   misused = never_falls allows answer _ _ misused;
   children = children;
@@ -232,6 +243,11 @@ rename_frame ghosts store path allows answer result old new same err runs childr
     by answer (Ok v) s e = tt
     by (Ok v) (Err fault) s e = absurd (cc)
     by (Err f) (Err fault) s e = kept_itself (new_path store) (ghosts.tree old) (ghosts.tree new) s
+
+    stays : (answer : Result (Unit {0}) FileFault) (r : Result (Unit {0}) StoreFault) → OnErr answer (ghosts.tree new ≡ ghosts.tree old) → OnErr r (IsTrue (is_err answer)) → OnErr r (KeptFile (new_path store) (ghosts.tree old) (ghosts.tree new))
+    stays answer (Ok v) s e = tt
+    stays (Ok v) (Err fault) s e = absurd (cc)
+    stays (Err f) (Err fault) s e = place_itself (new_path store) (ghosts.tree old) (ghosts.tree new) s
 
 -- ---- what is answered
 
@@ -342,34 +358,98 @@ decided_is (NoTree digest) e = refl
 decided_is (Damaged asked found bad) e = refl
 decided_is (Clash digest) e = refl
 
-pub cleared_free : {store : List ℕ} {a : Seen} (fault : StoreFault) → is_free fault ≡ true → IsClearedOf fault store a fault a
-cleared_free {store} {a} fault free = record { frame = λ first f. f; right = refl; cleared = unless_free fault (IsCleared store a.files) free; same = inr refl }
+pub last_ok : (path : List ℕ) (answer : Result (Unit {0}) FileFault) (result : Result (Unit {0}) StoreFault) (before now : Option (List ℕ)) → OnOk result (IsTrue (is_ok answer)) → LastFailed path answer before now → OnOk result (now ≡ before)
+last_ok path (Ok done) (Ok v) before now ok last = last
+last_ok path (Err fault) (Ok v) before now ok last = absurd (cc)
+last_ok path answer (Err fault) before now ok last = tt
 
-pub cleared_gone : {store file : List ℕ} {a b : Seen} (fault : StoreFault) → is_free fault ≡ false → file ≡ new_path store → NewFrame {A = Unit {0}} file a (Ok tt) b → b.files ≡ option_map (without file) a.files → b.misused ≡ a.misused → IsClearedOf fault store a fault b
-cleared_gone {store} {file} {a} {b} fault other new frame removed same = record {
+-- what was written is removed
+removed_around : (store : List ℕ) {file : List ℕ} {a b : Seen} {r : Result (Unit {0}) StoreFault} (first : Seen) → file ≡ new_path store → LeavesAround (new_path store) first a → NewFrame file a r b → LeavesAround (new_path store) first b
+removed_around store {file} {a} {b} first new before frame = onward (new_path store) first a b before (subst (λ p. LeavesAround p a b) new frame.around)
+
+removed_place : (store : List ℕ) {file : List ℕ} {a b : Seen} {r : Result (Unit {0}) StoreFault} (first : Seen) → file ≡ new_path store → KeptFile (new_path store) first.files a.files → NewFrame file a r b → KeptFile (new_path store) first.files b.files
+removed_place store {file} {a} {b} first new before frame = place_on (new_path store) first.files a.files b.files before (subst (λ p. KeptFile p a.files b.files) new frame.place)
+
+pub cleared_gone : {store file : List ℕ} {a b : Seen} (fault : StoreFault) → file ≡ new_path store → NewFrame {A = Unit {0}} file a (Ok tt) b → b.failed_at ≡ a.failed_at → b.files ≡ option_map (without file) a.files → b.misused ≡ a.misused → IsClearedOf fault store a fault b
+cleared_gone {store} {file} {a} {b} fault new frame last removed same = record {
   frame = λ first f. record {
-    around = onward (new_path store) first a b f.around (subst (λ p. LeavesAround p a b) new frame.around);
+    around = removed_around store first new f.around frame;
+    place = removed_place store first new f.place frame;
     children = frame.children ∙ f.children;
     counts = let stays : b.file_faults ≡ a.file_faults = frame.counts in subst (λ n. CountsFiles {A = Unit {0}} cause_of (Err fault) first.file_faults n) (sym stays) f.counts;
-    cause = subst (IsReadCause b.failed_at) (sym (decided_is fault other)) tt;
+    cause = subst (λ at. IsReadCause at (cause_of fault)) (sym last) f.cause;
   };
   right = same;
   cleared = where_so (cause_of fault) (IsCleared store b.files) (is_cleared store file a.files b.files new removed);
   same = inr refl;
 }
 
-pub cleared_failed : {store file : List ℕ} {a b : Seen} (fault failed : StoreFault) → is_free fault ≡ false → IsTrue (is_free failed) → file ≡ new_path store → NewFrame {A = Unit {0}} file a (Err failed) b → b.misused ≡ a.misused → IsClearedOf fault store a failed b
-cleared_failed {store} {file} {a} {b} fault failed other free new frame same = record {
+rose : (fault : StoreFault) (x y : ℕ) → CountsFiles {A = Unit {0}} cause_of (Err fault) x y → x ≤ y
+rose (File path) x y h = h.later
+rose Memory x y h = h
+rose (OddFile path) x y h = omega (arith, h)
+rose (Limit kind) x y h = omega (arith, h)
+rose (NoTree digest) x y h = omega (arith, h)
+rose (Damaged asked found bad) x y h = omega (arith, h)
+rose (Clash digest) x y h = omega (arith, h)
+
+-- one count after another: where a call failed, or what was read decided, and where the removal fails then
+counts_twice : (fault failed : StoreFault) (x y z : ℕ) → IsTrue (is_free failed) → CountsFiles {A = Unit {0}} cause_of (Err fault) x y → CountsFiles {A = Unit {0}} cause_of (Err failed) y z → CountsFiles {A = Unit {0}} cause_of (Err failed) x z
+counts_twice fault (OddFile path) x y z free one two = absurd (cc)
+counts_twice fault (Limit kind) x y z free one two = absurd (cc)
+counts_twice fault (NoTree digest) x y z free one two = absurd (cc)
+counts_twice fault (Damaged asked found bad) x y z free one two = absurd (cc)
+counts_twice fault (Clash digest) x y z free one two = absurd (cc)
+counts_twice fault Memory x y z free one two = let rises : x ≤ y = rose fault x y one in omega (arith, rises, two)
+counts_twice fault (File path) x y z free one two = record { later = let rises : x ≤ y = rose fault x y one in let later : y ≤ z = two.later in omega (arith, rises, later); up = let rises : x ≤ y = rose fault x y one in let up : min (y + 1) (2 ^ 64 - 1) ≤ z = two.up in omega (arith, rises, up) }
+
+pub cleared_failed : {store file : List ℕ} {a b : Seen} (fault failed : StoreFault) → IsTrue (is_free failed) → file ≡ new_path store → NewFrame {A = Unit {0}} file a (Err failed) b → b.misused ≡ a.misused → IsClearedOf fault store a failed b
+cleared_failed {store} {file} {a} {b} fault failed free new frame same = record {
   frame = λ first f. record {
-    around = onward (new_path store) first a b f.around (subst (λ p. LeavesAround p a b) new frame.around);
+    around = removed_around store first new f.around frame;
+    place = removed_place store first new f.place frame;
     children = frame.children ∙ f.children;
-    counts = let stays : a.file_faults ≡ first.file_faults = subst (λ cause. FilesBy cause first.file_faults a.file_faults) (decided_is fault other) f.counts in subst (λ n. CountsFiles {A = Unit {0}} cause_of (Err failed) n b.file_faults) stays frame.counts;
+    counts = counts_twice fault failed first.file_faults a.file_faults b.file_faults free f.counts frame.counts;
     cause = frame.cause;
   };
   right = same;
   cleared = unless_free failed (IsCleared store b.files) free;
   same = inl free;
 }
+
+-- memory ran out before, whatever the removal answers
+pub cleared_memory : {store file : List ℕ} {a b : Seen} (failed : StoreFault) → file ≡ new_path store → NewFrame {A = Unit {0}} file a (Err failed) b → b.misused ≡ a.misused → IsClearedOf Memory store a Memory b
+cleared_memory {store} {file} {a} {b} failed new frame same = record {
+  frame = λ first f. record {
+    around = removed_around store first new f.around frame;
+    place = removed_place store first new f.place frame;
+    children = frame.children ∙ f.children;
+    counts = let before : first.file_faults ≤ a.file_faults = f.counts in let rises : a.file_faults ≤ b.file_faults = rose failed a.file_faults b.file_faults frame.counts in omega (arith, before, rises);
+    cause = tt;
+  };
+  right = same;
+  cleared = tt;
+  same = inr refl;
+}
+
+-- the removal's refusal, but where memory ran out before
+pub cleared_later : {store file : List ℕ} {a b : Seen} (fault failed answered : StoreFault) → IsLater fault failed answered → IsTrue (is_free failed) → file ≡ new_path store → NewFrame {A = Unit {0}} file a (Err failed) b → b.misused ≡ a.misused → IsClearedOf fault store a answered b
+cleared_later {store} {a = a} {b} Memory failed answered is free new frame same = subst (λ (f : StoreFault). IsClearedOf Memory store a f b) (sym is) (cleared_memory failed new frame same)
+cleared_later {store} {a = a} {b} (File path) failed answered is free new frame same = subst (λ (f : StoreFault). IsClearedOf (File path) store a f b) (sym is) (cleared_failed (File path) failed free new frame same)
+cleared_later {store} {a = a} {b} (OddFile path) failed answered is free new frame same = subst (λ (f : StoreFault). IsClearedOf (OddFile path) store a f b) (sym is) (cleared_failed (OddFile path) failed free new frame same)
+cleared_later {store} {a = a} {b} (Limit kind) failed answered is free new frame same = subst (λ (f : StoreFault). IsClearedOf (Limit kind) store a f b) (sym is) (cleared_failed (Limit kind) failed free new frame same)
+cleared_later {store} {a = a} {b} (NoTree digest) failed answered is free new frame same = subst (λ (f : StoreFault). IsClearedOf (NoTree digest) store a f b) (sym is) (cleared_failed (NoTree digest) failed free new frame same)
+cleared_later {store} {a = a} {b} (Damaged asked found bad) failed answered is free new frame same = subst (λ (f : StoreFault). IsClearedOf (Damaged asked found bad) store a f b) (sym is) (cleared_failed (Damaged asked found bad) failed free new frame same)
+cleared_later {store} {a = a} {b} (Clash digest) failed answered is free new frame same = subst (λ (f : StoreFault). IsClearedOf (Clash digest) store a f b) (sym is) (cleared_failed (Clash digest) failed free new frame same)
+
+pub blames_later : (trees : List ℕ) (fault failed answered : StoreFault) → IsLater fault failed answered → BlamesWithin trees failed → BlamesWithin trees answered ⊎ (answered ≡ fault)
+blames_later trees Memory failed answered is within = inr is
+blames_later trees (File path) failed answered is within = inl (subst (BlamesWithin trees) (sym is) within)
+blames_later trees (OddFile path) failed answered is within = inl (subst (BlamesWithin trees) (sym is) within)
+blames_later trees (Limit kind) failed answered is within = inl (subst (BlamesWithin trees) (sym is) within)
+blames_later trees (NoTree digest) failed answered is within = inl (subst (BlamesWithin trees) (sym is) within)
+blames_later trees (Damaged asked found bad) failed answered is within = inl (subst (BlamesWithin trees) (sym is) within)
+blames_later trees (Clash digest) failed answered is within = inl (subst (BlamesWithin trees) (sym is) within)
 
 pub blames_fault : (folder path : List ℕ) (fault : StoreFault) → is_within folder path ≡ true → BlamesAt path fault → BlamesWithin folder fault
 blames_fault folder path fault within h = let refused : Result (Unit {0}) StoreFault = Err fault in blames_in folder path refused within h
@@ -452,3 +532,22 @@ other_path store = joined (trees_of store) (46 ∷ 46 ∷ 46 ∷ 46 ∷ [])
 
 pub apart_name : (store : List ℕ) → AreApart (new_path store) (other_path store)
 apart_name store = siblings_apart (trees_of store) (codes "new") (46 ∷ 46 ∷ 46 ∷ 46 ∷ []) refl refl (λ e. let same : length (codes "new") ≡ 4 = ap length e in absurd (omega arith))
+
+-- the bytes that were written, and refused, are gone
+pub frame_of_put : {A : Type 0} {store : List ℕ} {a b : Seen} {fault : StoreFault} → PutFrame {A = A} store a (Err fault) b → NewFrame {A = Unit {0}} (new_path store) a (Err fault) b
+frame_of_put h = record { around = record { files = h.kept; runs = h.runs; misused = h.misused }; place = h.place; children = h.children; counts = h.counts; cause = h.cause }
+
+pub puts_cleared : {store bytes : List ℕ} {before : Option Tree} {a b c : Seen} {fault answered : StoreFault} → PutsBytes store bytes before a (Err fault) b → IsClearedOf fault store b answered c → PutsBytes store bytes before a (Err answered) c
+puts_cleared {store} {bytes} {before} {a} {b} {c} {fault} {answered} h clear = record {
+  digest = tt;
+  named = record {
+    keeps = keeps clear.same h.named.keeps;
+    files = tt;
+    cleared = clear.cleared;
+    right = may_then (option_map (λ t. is_file_or_absent (item_at t (tree_path store (sha256 bytes)))) before) a.misused clear.right h.named.right;
+  };
+}
+  where
+    keeps : IsTrue (is_free answered) ⊎ (answered ≡ fault) → IfSome before (λ files. Keeps (sha256 bytes) bytes (item_at files (tree_path store (sha256 bytes))) (Err fault)) → IfSome before (λ files. Keeps (sha256 bytes) bytes (item_at files (tree_path store (sha256 bytes))) (Err answered))
+    keeps (inl free) k = free_keeps before (tree_path store (sha256 bytes)) (sha256 bytes) bytes answered free
+    keeps (inr same) k = subst (λ (f : StoreFault). IfSome before (λ files. Keeps (sha256 bytes) bytes (item_at files (tree_path store (sha256 bytes))) (Err f))) (sym same) k

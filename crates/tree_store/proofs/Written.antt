@@ -24,7 +24,7 @@ use Rattle.tree_store.specs.Around.{KeptAround, LeavesAround}
 use Rattle.tree_store.specs.Reading.{room}
 use Rattle.tree_canon.specs.Spelling.{limit}
 use Rattle.cnb_world.specs.declared.limits.LimitKind.TheVariants.{Tree as TreeLimit}
-use Rattle.tree_store.specs.Writing.{Added, HasWritten, LeavesNew, NewFrame, begun_with, can_begin, new_path, trees_of}
+use Rattle.tree_store.specs.Writing.{Added, HasWritten, KeptFile, LeavesNew, NewFrame, begun_with, can_begin, new_path, trees_of}
 use Rattle.tree_store.specs.declared.fault.StoreFault.{StoreFault}
 use Rattle.tree_store.specs.declared.fault.StoreFault.TheVariants.{OddFile, Limit, File, NoTree, Damaged, Clash, Memory}
 use Rattle.tree_store.specs.declared.writing.Writer.{Writer}
@@ -33,6 +33,7 @@ use Rattle.tree_store.proofs.Around as around
 use Rattle.tree_store.proofs.Apart.{keeps_made_above}
 use Rattle.tree_store.proofs.Blames.{at_within, names_none, part_within}
 use Rattle.tree_store.proofs.Kept.{may_begin}
+use Rattle.tree_store.proofs.NewPlace.{place_itself, place_on}
 use Rattle.tree_store.proofs.Pieces.{appended-set}
 use Rattle.tree_store.proofs.Places.{child_not_root, longer_child, part_form}
 use Rattle.tree_store.proofs.Right.{right}
@@ -45,6 +46,7 @@ counts_on r a b c same h = subst (λ n. CountsFiles cause_of r n c) same h
 pub frame_then : {A B : Type 0} {file : List ℕ} {a b c : Seen} {v : A} {r : Result B StoreFault} → NewFrame file a (Ok v) b → NewFrame file b r c → NewFrame file a r c
 frame_then {file = file} {a} {b} {c} {r = r} first next = record {
   around = around.onward file a b c first.around next.around;
+  place = place_on file a.files b.files c.files first.place next.place;
   children = next.children ∙ first.children;
   counts = counts_on r _ _ _ first.counts next.counts;
   cause = next.cause;
@@ -52,26 +54,26 @@ frame_then {file = file} {a} {b} {c} {r = r} first next = record {
 
 -- the first refusal ends them
 pub frame_stop : {A B : Type 0} {file : List ℕ} {a b : Seen} {fault : StoreFault} → NewFrame {A = A} file a (Err fault) b → NewFrame {A = B} file a (Err fault) b
-frame_stop h = record { around = h.around; children = h.children; counts = h.counts; cause = h.cause }
+frame_stop h = record { around = h.around; place = h.place; children = h.children; counts = h.counts; cause = h.cause }
 
 -- another value
 pub frame_value : {A B : Type 0} {file : List ℕ} {a b : Seen} {v : A} (w : B) → NewFrame file a (Ok v) b → NewFrame file a (Ok w) b
-frame_value w h = record { around = h.around; children = h.children; counts = h.counts; cause = tt }
+frame_value w h = record { around = h.around; place = h.place; children = h.children; counts = h.counts; cause = tt }
 
 -- no call on files
 pub frame_local : {A : Type 0} (file : List ℕ) (a : Seen) (r : Result A StoreFault) → ((n : ℕ) → CountsFiles cause_of r n n) → NewFrame file a r a
-frame_local {A} file a r counts = record { around = around.itself file a; children = refl; counts = counts a.file_faults; cause = names_none A r a.failed_at counts }
+frame_local {A} file a r counts = record { around = around.itself file a; place = place_itself file a.files a.files refl; children = refl; counts = counts a.file_faults; cause = names_none A r a.failed_at counts }
 
 -- a call that reads
 pub frame_read : {A : Type 0} (file : List ℕ) {a b : Seen} {r : Result A StoreFault} → ReadFrame cause_of r a b → a.misused ≤ b.misused → NewFrame file a r b
-frame_read file {a} {b} h m = record { around = record { files = around.kept_itself file a.files b.files h.files; runs = h.runs; misused = m }; children = h.children; counts = h.counts; cause = h.cause }
+frame_read file {a} {b} h m = record { around = record { files = around.kept_itself file a.files b.files h.files; runs = h.runs; misused = m }; place = place_itself file a.files b.files h.files; children = h.children; counts = h.counts; cause = h.cause }
 
 -- a call at the path
 pub frame_called : {W : Type 0} (ghosts : world.Ghosts W) (file path : List ℕ) (answer : Result (Unit {0}) FileFault) (result : Result (Unit {0}) StoreFault) (old new : W)
-    → LeavesAround file (seen ghosts old) (seen ghosts new) → ghosts.child_faults new ≡ ghosts.child_faults old → CountsFailed answer (ghosts.file_faults old) (ghosts.file_faults new) → LastFailed path answer (ghosts.failed_at old) (ghosts.failed_at new)
+    → LeavesAround file (seen ghosts old) (seen ghosts new) → KeptFile file (ghosts.tree old) (ghosts.tree new) → ghosts.child_faults new ≡ ghosts.child_faults old → CountsFailed answer (ghosts.file_faults old) (ghosts.file_faults new) → LastFailed path answer (ghosts.failed_at old) (ghosts.failed_at new)
     → ((before now : ℕ) → CountsFailed answer before now → CountsFiles cause_of result before now) → ((before now : Option (List ℕ)) → LastFailed path answer before now → IfErr result (λ fault. IsReadCause now (cause_of fault)))
     → NewFrame file (seen ghosts old) result (seen ghosts new)
-frame_called ghosts file path answer result old new kept children counted failed counts cause = record { around = kept; children = children; counts = counts _ _ counted; cause = cause _ _ failed }
+frame_called ghosts file path answer result old new kept place children counted failed counts cause = record { around = kept; place = place; children = children; counts = counts _ _ counted; cause = cause _ _ failed }
 
 -- no call fails
 no_blame : {A : Type 0} (path file : List ℕ) (r : Result A StoreFault) → ((n : ℕ) → CountsFiles cause_of r n n) → IfErr r (BlamesEither path file)
@@ -86,12 +88,12 @@ no_blame path file (Err Memory) h = tt
 
 -- a call at the writer's path
 pub leaves_called : {W : Type 0} (ghosts : world.Ghosts W) (path : List ℕ) (s s1 : Writer) (answer : Result (Unit {0}) FileFault) (result : Result (Unit {0}) StoreFault) (old new : W)
-    → s1.path ≡ s.path → LeavesAround s.path (seen ghosts old) (seen ghosts new) → ghosts.child_faults new ≡ ghosts.child_faults old → CountsFailed answer (ghosts.file_faults old) (ghosts.file_faults new) → LastFailed s.path answer (ghosts.failed_at old) (ghosts.failed_at new)
+    → s1.path ≡ s.path → LeavesAround s.path (seen ghosts old) (seen ghosts new) → KeptFile s.path (ghosts.tree old) (ghosts.tree new) → ghosts.child_faults new ≡ ghosts.child_faults old → CountsFailed answer (ghosts.file_faults old) (ghosts.file_faults new) → LastFailed s.path answer (ghosts.failed_at old) (ghosts.failed_at new)
     → ((before now : ℕ) → CountsFailed answer before now → CountsFiles cause_of result before now) → ((before now : Option (List ℕ)) → LastFailed s.path answer before now → IfErr result (λ fault. IsReadCause now (cause_of fault))) → IfErr result (BlamesAt s.path)
     → LeavesNew path s (seen ghosts old) result s1 (seen ghosts new)
-leaves_called ghosts path s s1 answer result old new stays kept children counted failed counts cause blames = record {
+leaves_called ghosts path s s1 answer result old new stays kept place children counted failed counts cause blames = record {
   stays = stays;
-  frame = frame_called ghosts s.path s.path answer result old new kept children counted failed counts cause;
+  frame = frame_called ghosts s.path s.path answer result old new kept place children counted failed counts cause;
   blames = blames_file path s.path result blames;
 }
 

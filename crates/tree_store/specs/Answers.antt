@@ -73,6 +73,16 @@ abbrev pub Blames : List ℕ → FileFault → StoreFault → Type 0
 Blames path file_fault.Failed refusal = IsBlamed path refusal
 Blames path file_fault.Memory refusal = refusal ≡ Memory
 
+-- of two refusals the later one, but where memory ran out first
+abbrev pub IsLater : StoreFault → StoreFault → StoreFault → Type 0
+IsLater Memory later result = result ≡ Memory
+IsLater (File path) later result = result ≡ later
+IsLater (OddFile odd) later result = result ≡ later
+IsLater (Limit kind) later result = result ≡ later
+IsLater (NoTree digest) later result = result ≡ later
+IsLater (Damaged asked found bad) later result = result ≡ later
+IsLater (Clash digest) later result = result ≡ later
+
 abbrev pub is_odd_file : List ℕ → StoreFault → Type 0
 is_odd_file path (OddFile odd) = odd ≡ path
 is_odd_file path Memory = Unit {0}

@@ -1,5 +1,5 @@
 -- What each call does, as a step: from what is seen before, by an answer, to what is seen after.
-use Rattle.std.specs.Prelude.{[], ◌∷◌, ◌&&◌, ◌⊎◌, ℕ, Bool, true, ◌≡◌, List, Option, None, Result, Ok, Err, IfErr, IfSome, IsTrue}
+use Rattle.std.specs.Prelude.{[], ◌∷◌, ◌&&◌, ◌⊎◌, ℕ, Bool, true, ◌≡◌, List, Option, None, Result, Ok, Err, IfErr, IfSome, IsTrue, OnErr}
 use Rattle.std.specs.Option.{option_map}
 use Rattle.sha2.specs.Sha256.{sha256}
 use Rattle.cnb_world.specs.Tree.{Tree, can_make_folder, item_at, is_file, is_file_or_absent, is_within}
@@ -14,7 +14,7 @@ use Rattle.tree_store.specs.Around.{KeptAround, LeavesAround}
 use Rattle.tree_store.specs.Overlay.{can_stand, parts_of, tree_laid}
 use Rattle.tree_store.specs.Reading.{tree_in}
 use Rattle.tree_store.specs.Store.{Gets, LeavesStore, Puts, tree_path, tree_put}
-use Rattle.tree_store.specs.Writing.{IsCleared, bytes_put, can_begin, new_path, trees_of}
+use Rattle.tree_store.specs.Writing.{IsCleared, KeptFile, bytes_put, can_begin, new_path, trees_of}
 use Rattle.tree_store.specs.declared.fault.StoreFault.{StoreFault}
 use Rattle.tree_store.specs.declared.fault.StoreFault.TheVariants.{OddFile, Limit, File, NoTree, Damaged, Clash, Memory}
 
@@ -106,10 +106,12 @@ BlamesFolder store path (Clash digest) = Unit {0}
 BlamesFolder store path Memory = Unit {0}
 
 -- The tree of a folder is read and written, and its file is named by its digest, or one of that name has its bytes. A refusal
--- for a failed call comes with the path whose call failed last.
+-- for a failed call comes with the path whose call failed last. Where it is refused, at the path where that file is written is
+-- what was there, or a file or nothing, so that a later call can begin there.
 pub record PutsFolder (store path : List ℕ) (old : Seen) (result : Result (List ℕ) StoreFault) (new : Seen) : Type 0 where
   pub answer : IfSome old.files (λ files. PutsRead store (tree_in path files) files result)
   pub leaves : LeavesFolder store path old result new
+  pub place : OnErr result (KeptFile (new_path store) old.files new.files)
   pub blames : IfErr result (BlamesFolder store path)
   pub cause : IfErr result (λ fault. IsReadCause new.failed_at (cause_of fault))
   pub runs : new.runs ≡ old.runs

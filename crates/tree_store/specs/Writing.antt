@@ -39,6 +39,17 @@ begun_with store bytes files = insert (folder_made (trees_of store) files) (new_
 abbrev pub can_begin : List ℕ → Tree → Bool
 can_begin store files = is_file_or_absent (item_at files (new_path store)) && can_make_folder files (trees_of store)
 
+-- what stands at a path stood there before, or it is a file or nothing
+abbrev pub KeepsFile : List ℕ → Tree → Tree → Type 0
+KeepsFile path old new = (item_at new path ≡ item_at old path) ⊎ IsTrue (is_file_or_absent (item_at new path))
+
+-- the same of files that may not be told
+unfoldable pub KeptFile : List ℕ → Option Tree → Option Tree → Type 0
+KeptFile path None None = Unit {0}
+KeptFile path None (Some new) = ⊥
+KeptFile path (Some old) None = ⊥
+KeptFile path (Some old) (Some new) = KeepsFile path old new
+
 -- neither path is the other or lies in it
 pub record AreApart (file path : List ℕ) : Type 0 where
   pub outside : is_within path file ≡ false
@@ -54,9 +65,10 @@ pub record HasWritten (store : List ℕ) (before : Option Tree) (writer : Writer
   pub kept : KeptAround (new_path store) before now
 
 -- What a call leaves that writes at no path but this one, whatever stands there: all but what is at that path, or a folder
--- above it that was made. A refusal for a failed call comes where the count rose, with the path whose call failed last.
+-- above it that was made; and at the path what was there, or a file or nothing. A refusal for a failed call comes where the count rose, with the path whose call failed last.
 pub record NewFrame {A : Type 0} (file : List ℕ) (old : Seen) (result : Result A StoreFault) (new : Seen) : Type 0 where
   pub around : LeavesAround file old new
+  pub place : KeptFile file old.files new.files
   pub children : new.child_faults ≡ old.child_faults
   pub counts : CountsFiles cause_of result old.file_faults new.file_faults
   pub cause : IfErr result (λ fault. IsReadCause new.failed_at (cause_of fault))
@@ -136,6 +148,7 @@ IsCleared store files = IfSome files (λ t. item_at t (new_path store) ≡ None)
 -- file is written stands as before, but folders above it.
 pub record PutFrame {A : Type 0} (store : List ℕ) (old : Seen) (result : Result A StoreFault) (new : Seen) : Type 0 where
   pub kept : OnErr result (KeptAround (new_path store) old.files new.files)
+  pub place : OnErr result (KeptFile (new_path store) old.files new.files)
   pub runs : new.runs ≡ old.runs
   pub misused : old.misused ≤ new.misused
   pub children : new.child_faults ≡ old.child_faults

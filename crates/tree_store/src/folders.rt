@@ -14,7 +14,7 @@ use crate::fault::StoreFault;
 use crate::kept_bytes::KeptBytes;
 use crate::laying::write_tree;
 use crate::laying_kept::{is_within, lay_kept};
-use crate::naming::{cleared, put_written};
+use crate::naming::{cleared, put_or_clear};
 use crate::putting::put_tree;
 use crate::reading::read_tree;
 use crate::store::{get, tree_file};
@@ -28,9 +28,11 @@ fn put_walked<W: World>(
     alloc: Global,
     world: &mut W,
     store: &Path,
+    file: &Path,
     path: &Path,
 ) -> Result<Digest, StoreFault>
     requires store { length store.now ≤ 8192 }
+    requires file { file.now ≡ new_path store.now }
     requires path { length path.now ≤ 8192 }
     requires apart { AreApart (new_path store.now) path.now }
     ensures steps { puts_folder store.now path.now (seen W.World world.old) result (seen W.World world.new) }
@@ -39,8 +41,8 @@ fn put_walked<W: World>(
 {
     let mut writer = Writer::begin(alloc, world, store)?;
     match put_tree(alloc, world, &mut writer, path) {
-        Ok(len) => put_written(alloc, world, store, writer, len),
-        Err(fault) => Err(cleared(alloc, world, store, writer.path(), fault)),
+        Ok(len) => put_or_clear(alloc, world, store, file, writer, len),
+        Err(fault) => Err(cleared(alloc, world, store, file, fault)),
     }
 }
 
@@ -49,9 +51,11 @@ fn put_whole<W: World>(
     alloc: Global,
     world: &mut W,
     store: &Path,
+    file: &Path,
     path: &Path,
 ) -> Result<Digest, StoreFault>
     requires store { length store.now ≤ 8192 }
+    requires file { file.now ≡ new_path store.now }
     requires path { length path.now ≤ 8192 }
     ensures steps { puts_folder store.now path.now (seen W.World world.old) result (seen W.World world.new) }
     ensures files { CountsFiles cause_of result (W.file_faults world.old) (W.file_faults world.new) }
@@ -60,13 +64,16 @@ fn put_whole<W: World>(
     let tree = read_tree(alloc, world, path)?;
     let bytes = encode(alloc, &tree)?;
     let mut writer = Writer::begin(alloc, world, store)?;
-    writer.add_all(alloc, world, bytes.as_slice())?;
-    put_written(alloc, world, store, writer, bytes.as_slice().len() as u64)
+    let len = bytes.as_slice().len() as u64;
+    match writer.add_all(alloc, world, bytes.as_slice()) {
+        Ok(()) => put_or_clear(alloc, world, store, file, writer, len),
+        Err(fault) => Err(cleared(alloc, world, store, file, fault)),
+    }
 }
 
 /// Puts the tree of a folder into the store, as `put` does. The folder is walked once: while it is read its bytes are
 /// hashed and written, in pieces of at most 65,536 bytes, to the file `new` beside the trees' files, which then gets
-/// the name of the digest. Nothing of the tree is kept but two pieces and the names of the folders round the place that
+/// the name of the digest. Where that is refused, that file is removed again. Nothing of the tree is kept but two pieces and the names of the folders round the place that
 /// is read. Where the folder and that file lie in one another, the tree is read whole and then written.
 pub fn put_folder<W: World>(
     alloc: Global,
@@ -82,9 +89,9 @@ pub fn put_folder<W: World>(
 {
     let file = new_file(alloc, store)?;
     if is_within(path.as_str(), file.as_str()) || is_within(file.as_str(), path.as_str()) {
-        put_whole(alloc, world, store, path)
+        put_whole(alloc, world, store, &file, path)
     } else {
-        put_walked(alloc, world, store, path)
+        put_walked(alloc, world, store, &file, path)
     }
 }
 

@@ -6,7 +6,7 @@ ghost use Rattle.cnb_world.specs.Tree.{Tree, bytes_of, is_file, is_root, is_with
 ghost use Rattle.sha2.specs.Sha256.{sha256};
 ghost use Rattle.steps.specs.Outside.{seen};
 ghost use Rattle.steps.specs.Reading.{ReadFrame};
-ghost use Rattle.tree_store.specs.Answers.{BlamesAt, BlamesWithin, cause_of, is_free};
+ghost use Rattle.tree_store.specs.Answers.{BlamesAt, BlamesWithin, IsLater, cause_of, is_free};
 ghost use Rattle.tree_store.specs.Around.{KeptAround};
 ghost use Rattle.tree_store.specs.Comparing.{IsCompared};
 ghost use Rattle.tree_store.specs.Store.{tree_path};
@@ -27,6 +27,7 @@ pub(crate) fn remove_new<W: World>(
 ) -> Result<(), StoreFault>
     ensures ok { OnOk result (W.tree world.new ≡ option_map (without file.now) (W.tree world.old)) }
     ensures frame { NewFrame file.now (seen W.World world.old) result (seen W.World world.new) }
+    ensures last { OnOk result (W.failed_at world.new ≡ W.failed_at world.old) }
     ensures free { IfErr result (λ fault. IsTrue (is_free fault)) }
     ensures blames { IfErr result (BlamesAt file.now) }
     ensures right { is_root file.now ≡ false → W.misused world.new ≡ W.misused world.old }
@@ -168,8 +169,8 @@ pub(crate) fn name_file<W: World>(
     }
 }
 
-/// Puts the bytes that were written into the store.
-pub(crate) fn put_written<W: World>(
+// Puts the bytes that were written into the store.
+fn put_written<W: World>(
     alloc: Global,
     world: &mut W,
     store: &Path,
@@ -190,22 +191,23 @@ pub(crate) fn put_written<W: World>(
     Ok(digest)
 }
 
-fn is_free(fault: &StoreFault) -> bool
-    ensures { result ≡ is_free fault.now }
+// Of two refusals the later one, but where memory ran out first.
+fn later(fault: StoreFault, failed: StoreFault) -> StoreFault
+    ensures { IsLater fault failed result }
 {
     match fault {
-        StoreFault::File(_) => true,
-        StoreFault::Memory => true,
-        StoreFault::OddFile(_) => false,
-        StoreFault::Limit(_) => false,
-        StoreFault::NoTree(_) => false,
-        StoreFault::Damaged { .. } => false,
-        StoreFault::Clash { .. } => false,
+        StoreFault::Memory => StoreFault::Memory,
+        StoreFault::File(_) => failed,
+        StoreFault::OddFile(_) => failed,
+        StoreFault::Limit(_) => failed,
+        StoreFault::NoTree(_) => failed,
+        StoreFault::Damaged { .. } => failed,
+        StoreFault::Clash { .. } => failed,
     }
 }
 
-/// The answer where the tree that is written is refused: what was written is removed first, where what was read decided
-/// that.
+/// The answer where the tree that is written is refused: what was written is removed first. Where that fails, the answer
+/// is that refusal, but where memory had run out.
 pub(crate) fn cleared<W: World>(
     alloc: Global,
     world: &mut W,
@@ -217,11 +219,32 @@ pub(crate) fn cleared<W: World>(
     ensures cleared { IsClearedOf fault store.now (seen W.World world.old) result (seen W.World world.new) }
     ensures blames { BlamesWithin (trees_of store.now) result ⊎ (result ≡ fault) }
 {
-    if is_free(&fault) {
-        return fault;
-    }
     match remove_new(alloc, world, file) {
         Ok(()) => fault,
-        Err(failed) => failed,
+        Err(failed) => later(fault, failed),
+    }
+}
+
+/// Puts the bytes that were written into the store. Where that is refused, what was written is removed.
+pub(crate) fn put_or_clear<W: World>(
+    alloc: Global,
+    world: &mut W,
+    store: &Path,
+    file: &Path,
+    writer: Writer,
+    len: u64,
+) -> Result<Digest, StoreFault>
+    requires store { length store.now ≤ 8192 }
+    requires file { file.now ≡ new_path store.now }
+    requires path { writer.path ≡ new_path store.now }
+    ensures frame { PutFrame store.now (seen W.World world.old) result (seen W.World world.new) }
+    ensures blames { IfErr result (BlamesWithin (trees_of store.now)) }
+    ensures puts { (before : Option Tree) (bytes : Seq ℕ) → HasWritten store.now before writer bytes (W.tree world.old)
+        → length bytes ≤ len → PutsBytes store.now bytes before (seen W.World world.old) result
+        (seen W.World world.new) }
+{
+    match put_written(alloc, world, store, writer, len) {
+        Ok(digest) => Ok(digest),
+        Err(fault) => Err(cleared(alloc, world, store, file, fault)),
     }
 }

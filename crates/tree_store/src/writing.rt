@@ -184,12 +184,6 @@ impl Writer {
         Ok(())
     }
 
-    pub(crate) fn path(&self) -> &Path
-        ensures { result.now ≡ self.now.path }
-    {
-        &self.path
-    }
-
     /// The file, and the digest of the bytes.
     pub(crate) fn end(self) -> (Path, Digest)
         ensures path { result.0 ≡ self.path }

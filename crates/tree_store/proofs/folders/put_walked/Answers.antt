@@ -21,27 +21,23 @@ pub returns-in_err-writer-clause-children : goal.returns-in_err-writer-clause-ch
 returns-in_err-writer-clause-children g c =
     c.in_err-writer.ensures.frame.children
 
-pub put_written-requires : goal.put_written-requires
-put_written-requires g c =
-    record { store = c.requires.store; path = c.in-Ok.ensures.leaves.stays ∙ c.in_ok-writer.ensures.path }
+pub put_or_clear-requires : goal.put_or_clear-requires
+put_or_clear-requires g c =
+    record { store = c.requires.store; file = c.requires.file; path = c.in-Ok.ensures.leaves.stays ∙ c.in_ok-writer.ensures.path }
 
 pub returns-in-Ok-clause-steps : goal.returns-in-Ok-clause-steps
 returns-in-Ok-clause-steps g c =
     let walked = c.in-Ok.ensures.puts.so c.args.store.now (g.W.World.tree c.args.world.now) [] c.in_ok-writer.ensures.begun c.requires.apart in let tree = walked.added.1 in
-    tree_named c.args.path.now tree.node tree.bytes tree.read (may_then (option_map (can_begin c.args.store.now) (g.W.World.tree c.args.world.now)) _ walked.right c.in_ok-writer.ensures.misused) (put_frames c.in_ok-writer.ensures.path c.in_ok-writer.ensures.frame c.in-Ok.ensures.leaves c.put_written.ensures.frame)
-    (c.put_written.ensures.puts (g.W.World.tree c.args.world.now) walked.added.0 walked.added.2 (omega (arith, tree.length_is))) c.put_written.ensures.blames
+    tree_named c.args.path.now tree.node tree.bytes tree.read (may_then (option_map (can_begin c.args.store.now) (g.W.World.tree c.args.world.now)) _ walked.right c.in_ok-writer.ensures.misused) (put_frames c.in_ok-writer.ensures.path c.in_ok-writer.ensures.frame c.in-Ok.ensures.leaves c.put_or_clear.ensures.frame)
+    (c.put_or_clear.ensures.puts (g.W.World.tree c.args.world.now) walked.added.0 walked.added.2 (omega (arith, tree.length_is))) c.put_or_clear.ensures.blames
 
 pub returns-in-Ok-clause-files : goal.returns-in-Ok-clause-files
 returns-in-Ok-clause-files g c =
-    let all = (put_frames c.in_ok-writer.ensures.path c.in_ok-writer.ensures.frame c.in-Ok.ensures.leaves c.put_written.ensures.frame) in all.counts
+    let all = (put_frames c.in_ok-writer.ensures.path c.in_ok-writer.ensures.frame c.in-Ok.ensures.leaves c.put_or_clear.ensures.frame) in all.counts
 
 pub returns-in-Ok-clause-children : goal.returns-in-Ok-clause-children
 returns-in-Ok-clause-children g c =
-    let all = (put_frames c.in_ok-writer.ensures.path c.in_ok-writer.ensures.frame c.in-Ok.ensures.leaves c.put_written.ensures.frame) in all.children
-
-pub cleared-requires : goal.cleared-requires
-cleared-requires g c =
-    c.path.ensures ∙ c.in-Err.ensures.leaves.stays ∙ c.in_ok-writer.ensures.path
+    let all = (put_frames c.in_ok-writer.ensures.path c.in_ok-writer.ensures.frame c.in-Ok.ensures.leaves c.put_or_clear.ensures.frame) in all.children
 
 pub returns-in-Err-clause-steps : goal.returns-in-Err-clause-steps
 returns-in-Err-clause-steps g c =

@@ -1,7 +1,7 @@
-use Rattle.std.proofs.Common.{◌≡◌, ◌∙◌, ℕ, List, ap, false, inl, sym}
+use Rattle.std.proofs.Common.{◌≡◌, ◌∙◌, ℕ, List, ap, false}
 use Rattle.tree_store.specs.Writing.{new_path, trees_of}
 use Rattle.cnb_world.specs.Tree.{is_root, is_within}
-use Rattle.tree_store.proofs.Settled.{blames_fault, cleared_failed, cleared_gone, new_plain, new_within}
+use Rattle.tree_store.proofs.Settled.{blames_fault, blames_later, cleared_gone, cleared_later, new_plain, new_within}
 use Rattle.tree_store.proofs.naming.cleared.Goals as goal
 
 plain : (store file : List ℕ) → file ≡ new_path store → is_root file ≡ false
@@ -9,12 +9,12 @@ plain store file at = ap is_root at ∙ new_plain store
 
 pub returns-in-Ok-clause-cleared : goal.returns-in-Ok-clause-cleared
 returns-in-Ok-clause-cleared g c =
-    cleared_gone c.args.fault (sym c.is_free.ensures ∙ c.if-is_free.false) c.requires c.in-Ok.ensures.frame c.in-Ok.ensures.ok (c.in-Ok.ensures.right (plain c.args.store.now c.args.file.now c.requires))
+    cleared_gone c.args.fault c.requires c.in-Ok.ensures.frame c.in-Ok.ensures.last c.in-Ok.ensures.ok (c.in-Ok.ensures.right (plain c.args.store.now c.args.file.now c.requires))
 
 pub returns-in-Err-clause-cleared : goal.returns-in-Err-clause-cleared
 returns-in-Err-clause-cleared g c =
-    cleared_failed c.args.fault c.in-Err.failed (sym c.is_free.ensures ∙ c.if-is_free.false) c.in-Err.ensures.free c.requires c.in-Err.ensures.frame (c.in-Err.ensures.right (plain c.args.store.now c.args.file.now c.requires))
+    cleared_later c.args.fault c.in-Err.failed _ c.later.ensures c.in-Err.ensures.free c.requires c.in-Err.ensures.frame (c.in-Err.ensures.right (plain c.args.store.now c.args.file.now c.requires))
 
 pub returns-in-Err-clause-blames : goal.returns-in-Err-clause-blames
 returns-in-Err-clause-blames g c =
-    inl (blames_fault (trees_of c.args.store.now) c.args.file.now c.in-Err.failed (ap (is_within (trees_of c.args.store.now)) c.requires ∙ new_within c.args.store.now) c.in-Err.ensures.blames)
+    blames_later (trees_of c.args.store.now) c.args.fault c.in-Err.failed _ c.later.ensures (blames_fault (trees_of c.args.store.now) c.args.file.now c.in-Err.failed (ap (is_within (trees_of c.args.store.now)) c.requires ∙ new_within c.args.store.now) c.in-Err.ensures.blames)

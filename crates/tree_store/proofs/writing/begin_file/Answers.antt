@@ -1,6 +1,7 @@
 use Rattle.std.proofs.Common.{Err, Ok}
 use Rattle.std.proofs.lemmas.Result.{err_from_is_err_and}
 use Rattle.tree_store.specs.Writing.{new_path}
+use Rattle.tree_store.proofs.NewPlace.{place_created, place_made}
 use Rattle.tree_store.proofs.Ways.{when_ok}
 use Rattle.tree_store.proofs.Written.{create_around, create_misuse, folder_around, folder_misuse, frame_called, frame_memory, frame_then, trees_blamed}
 use Rattle.tree_store.proofs.writing.begin_file.Goals as goal
@@ -15,15 +16,18 @@ returns-in_err-or_blame-clause-frame g c =
     let exit = err_from_is_err_and c.from_residual-in_err-or_blame.result c.from_residual-in_err-or_blame.ensures.1 in
     rw (exit.1, exit.2) (frame_called g.W.World (new_path c.args.store.now) _ c.make_folder.result (Err c.in_err-or_blame.field-0.0) _ _
     (folder_around g.W.World c.args.store.now _ c.make_folder.result _ _ c.in_ok-trees.ensures.path c.make_folder.ensures.ok c.make_folder.ensures.err c.make_folder.ensures.runs c.make_folder.ensures.misused)
+    (place_made c.args.store.now _ c.make_folder.result _ _ c.in_ok-trees.ensures.path c.make_folder.ensures.ok c.make_folder.ensures.err)
     c.make_folder.ensures.children c.make_folder.ensures.files c.make_folder.ensures.at c.in_err-or_blame.ensures.counts c.in_err-or_blame.ensures.last)
 
 pub returns-clause-frame : goal.returns-clause-frame
 returns-clause-frame g c =
     frame_then (frame_called g.W.World (new_path c.args.store.now) _ c.make_folder.result (Ok tt) _ _
     (folder_around g.W.World c.args.store.now _ c.make_folder.result _ _ c.in_ok-trees.ensures.path c.make_folder.ensures.ok c.make_folder.ensures.err c.make_folder.ensures.runs c.make_folder.ensures.misused)
+    (place_made c.args.store.now _ c.make_folder.result _ _ c.in_ok-trees.ensures.path c.make_folder.ensures.ok c.make_folder.ensures.err)
     c.make_folder.ensures.children c.make_folder.ensures.files c.make_folder.ensures.at c.in_ok-or_blame.ensures.counts c.in_ok-or_blame.ensures.last)
     (frame_called g.W.World (new_path c.args.store.now) _ c.create.result c.or_blame-2.result _ _
     (create_around g.W.World c.args.store.now _ c.create.result _ _ c.requires.path c.create.ensures.ok c.create.ensures.err c.create.ensures.runs c.create.ensures.misused)
+    (place_created c.args.store.now _ _ c.create.result _ _ c.requires.path c.create.ensures.ok c.create.ensures.err)
     c.create.ensures.children c.create.ensures.files c.create.ensures.at c.or_blame-2.ensures.counts c.or_blame-2.ensures.last)
 
 pub returns-clause-blames : goal.returns-clause-blames
