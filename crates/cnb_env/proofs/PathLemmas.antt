@@ -6,7 +6,7 @@ use Rattle.std.proofs.lemmas.Bool.Decides.{nat_tests}
 use Rattle.std.proofs.lemmas.List.{flat_map_more, take_more}
 use Rattle.cnb_world.specs.Tree.{Tree}
 use Rattle.cnb_world.specs.declared.env.Variable.{Variable}
-use Rattle.cnb_env.specs.Layers.{folders_at, with_build_paths, with_front, with_launch_paths}
+use Rattle.cnb_env.specs.Layers.{folders_at, with_front}
 
 abbrev joined_by_colon : List (List ℕ) → List ℕ
 joined_by_colon paths = join_by (λ path. path) (codes ":") paths
@@ -26,29 +26,23 @@ joined_more (p ∷ ps) (suc n) path text h e t =
     ∙ joined_behind p (take n ps) path
     ∙ ap joined_by_colon (sym (take_more (p ∷ ps) (suc n) path h ∙ ap (λ x. take (suc n) (p ∷ ps) ++ x ∷ []) (sym e)))
 
--- the folders that were found, in front of their variables
-module _ (layers : List (List ℕ)) (env : List Variable) where
-  abbrev pub Finds : Option Tree → List ℕ → List ℕ → Type 0
-  Finds o name text = IfSome o (λ files. text ≡ folders_at files layers name)
+-- a path variable with the folders of a name in front
+abbrev pub with_folders : List ℕ → List ℕ → List (List ℕ) → Tree → List Variable → List Variable
+with_folders variable name layers files env = with_front variable (folders_at files layers name) env
 
-  abbrev pub launch_front : List ℕ → List ℕ → List Variable
-  launch_front bin lib = with_front (codes "LD_LIBRARY_PATH") lib (with_front (codes "PATH") bin env)
+-- both variables of libraries with these folders in front
+abbrev pub with_libraries : List ℕ → List Variable → List Variable
+with_libraries lib env = with_front (codes "LIBRARY_PATH") lib (with_front (codes "LD_LIBRARY_PATH") lib env)
 
-  abbrev pub build_front : List ℕ → List ℕ → List ℕ → List ℕ → List Variable
-  build_front bin lib include pkgconfig =
-      with_front (codes "PKG_CONFIG_PATH") pkgconfig (with_front (codes "CPATH") include (with_front (codes "LIBRARY_PATH") lib (launch_front bin lib)))
+-- a later step over the same files, where an earlier one gave this
+pub found_then : {A : Type 0} (F : Tree → A) (P : Tree → A → Type 0) (before after : Option Tree) (x : A) → after ≡ before
+    → IfSome before (λ files. x ≡ F files) → IfSome after (λ files. P files x) → IfSome before (λ files. P files (F files))
+found_then F P None after x same first second = tt
+found_then F P (Some files) after x same first second =
+    let Q : Option Tree → Type 0 = λ o. IfSome o (λ f. P f x) in subst (P files) first (subst Q same second)
 
-  found_as : (name text : List ℕ) (files : Tree) (o : Option Tree) → o ≡ Some files → Finds o name text → text ≡ folders_at files layers name
-  found_as name text files o e h = let P : Option Tree → Type 0 = λ x. Finds x name text in subst P e h
-
-  pub launch_found : (o o1 : Option Tree) (bin lib : List ℕ) (new : List Variable) → o1 ≡ o → Finds o (codes "bin") bin → Finds o1 (codes "lib") lib → new ≡ launch_front bin lib
-      → IfSome o (λ files. new ≡ with_launch_paths files layers env)
-  launch_found None o1 bin lib new e b l h = tt
-  launch_found (Some files) o1 bin lib new e b l h = h ∙ (λ k. launch_front (b k) (found_as (codes "lib") lib files o1 e l k))
-
-  pub build_found : (o o1 o2 o3 : Option Tree) (bin lib include pkgconfig : List ℕ) (new : List Variable) → o1 ≡ o → o2 ≡ o → o3 ≡ o
-      → Finds o (codes "bin") bin → Finds o1 (codes "lib") lib → Finds o2 (codes "include") include → Finds o3 (codes "pkgconfig") pkgconfig → new ≡ build_front bin lib include pkgconfig
-      → IfSome o (λ files. new ≡ with_build_paths files layers env)
-  build_found None o1 o2 o3 bin lib include pkgconfig new e1 e2 e3 b l i p h = tt
-  build_found (Some files) o1 o2 o3 bin lib include pkgconfig new e1 e2 e3 b l i p h =
-      h ∙ (λ k. build_front (b k) (found_as (codes "lib") lib files o1 e1 l k) (found_as (codes "include") include files o2 e2 i k) (found_as (codes "pkgconfig") pkgconfig files o3 e3 p k))
+pub libraries_found : (layers : List (List ℕ)) (o : Option Tree) (lib : List ℕ) (env new : List Variable)
+    → IfSome o (λ files. lib ≡ folders_at files layers (codes "lib")) → new ≡ with_libraries lib env
+    → IfSome o (λ files. new ≡ with_libraries (folders_at files layers (codes "lib")) env)
+libraries_found layers None lib env new found h = tt
+libraries_found layers (Some files) lib env new found h = h ∙ ap (λ l. with_libraries l env) found

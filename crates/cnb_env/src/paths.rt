@@ -120,6 +120,28 @@ fn put_front(alloc: Global, env: &mut Env, name: &str, folders: &Text) -> Result
     Ok(())
 }
 
+// Puts the folders of a name in the layers in front of a path variable.
+fn put_folders<W: World>(
+    alloc: Global,
+    world: &mut W,
+    env: &mut Env,
+    layers: &[Path],
+    name: &str,
+    variable: &str,
+) -> Result<(), ReadFault>
+    requires part { IsTrue (is_part name.now) }
+    requires short { All IsShort layers.now }
+    ensures found { IfSome (W.tree world.old) (λ files. OnOk result (env.new ≡
+        with_front variable.now (folders_at files layers.now name.now) env.old)) }
+    ensures fails { IfErr result (FailsOne (IsOfLayers layers.now)) }
+    ensures frame { ReadFrame read_cause result (seen W.World world.old) (seen W.World world.new) }
+    ensures misused { W.misused world.new ≡ W.misused world.old }
+{
+    let folders = folders(alloc, world, layers, name)?;
+    put_front(alloc, env, variable, &folders)?;
+    Ok(())
+}
+
 // Puts the path folders of a launch in front of their variables.
 fn put_launch_paths<W: World>(
     alloc: Global,
@@ -134,11 +156,8 @@ fn put_launch_paths<W: World>(
     ensures frame { ReadFrame read_cause result (seen W.World world.old) (seen W.World world.new) }
     ensures misused { W.misused world.new ≡ W.misused world.old }
 {
-    let bin = folders(alloc, world, layers, "bin")?;
-    let lib = folders(alloc, world, layers, "lib")?;
-    put_front(alloc, env, "PATH", &bin)?;
-    put_front(alloc, env, "LD_LIBRARY_PATH", &lib)?;
-    Ok(())
+    put_folders(alloc, world, env, layers, "bin", "PATH")?;
+    put_folders(alloc, world, env, layers, "lib", "LD_LIBRARY_PATH")
 }
 
 // Puts the path folders of a build in front of their variables.
@@ -155,16 +174,12 @@ fn put_build_paths<W: World>(
     ensures frame { ReadFrame read_cause result (seen W.World world.old) (seen W.World world.new) }
     ensures misused { W.misused world.new ≡ W.misused world.old }
 {
-    let bin = folders(alloc, world, layers, "bin")?;
+    put_folders(alloc, world, env, layers, "bin", "PATH")?;
     let lib = folders(alloc, world, layers, "lib")?;
-    let include = folders(alloc, world, layers, "include")?;
-    let pkgconfig = folders(alloc, world, layers, "pkgconfig")?;
-    put_front(alloc, env, "PATH", &bin)?;
     put_front(alloc, env, "LD_LIBRARY_PATH", &lib)?;
     put_front(alloc, env, "LIBRARY_PATH", &lib)?;
-    put_front(alloc, env, "CPATH", &include)?;
-    put_front(alloc, env, "PKG_CONFIG_PATH", &pkgconfig)?;
-    Ok(())
+    put_folders(alloc, world, env, layers, "include", "CPATH")?;
+    put_folders(alloc, world, env, layers, "pkgconfig", "PKG_CONFIG_PATH")
 }
 
 /// Puts the path folders of one buildpack's layers in front of their variables.
