@@ -1,5 +1,6 @@
 -- What the calls of the layers below say, as steps of an export.
 use Rattle.std.proofs.Common.{◌≡◌, refl, sym, subst, arith, ℕ, List, Option, Result, Ok, Err}
+use Rattle.std.specs.Prelude.{IfErr}
 use Rattle.cnb_world.specs.Calls.{LastFailed, Rose}
 use Rattle.cnb_world.specs.declared.world.FileFault.{FileFault}
 use Rattle.cnb_toml.specs.Reading.{Answers}
@@ -13,6 +14,7 @@ use Rattle.doc_files.proofs.Blame.{blamed_last}
 use Rattle.steps.specs.Causes.{CountsFiles, FilesBy, IsAnswer, IsGivenCause, IsReadCause}
 use Rattle.steps.specs.Each.{for_each}
 use Rattle.steps.specs.Outside.{Seen}
+use Rattle.steps.specs.Steps.{gives}
 use Rattle.steps.proofs.StepLemmas.{cause_told}
 use Rattle.tree_store.specs.declared.fault.StoreFault.TheVariants as stored
 use Rattle.cnb_export.specs.declared.fault.ExportFault.{ExportFault}
@@ -77,3 +79,8 @@ all_same step xs ys value result old new same h = subst (λ zs. for_each step zs
 -- two spellings of what a step begins with
 pub same_for : {B A : Type 0} (step : B → Seen → Result A ExportFault → Seen → Type 0) (x y : B) (old : Seen) (result : Result A ExportFault) (new : Seen) → x ≡ y → step x old result new → step y old result new
 same_for step x y old result new same h = subst (λ b. step b old result new) same h
+
+-- an answer that is known, or the fault in its place
+pub given_answer : {A : Type 0} (want result : Result A ExportFault) (old : Seen) → IsAnswer cause_of result want → IfErr result (λ fault. IsGivenCause (cause_of fault)) → gives cause_of want old result old
+unfolding gives
+given_answer want result old answer cause = (refl, answer, cause)

@@ -1,6 +1,8 @@
 -- The export of an image, in the order of work (platform.md, "exporter").
-use Rattle.std.specs.Prelude.{Bool, List, map, Result, Ok}
+use Rattle.std.specs.Prelude.{ℕ, Bool, List, map, Result, Ok}
 use Rattle.image_docs.specs.declared.analyzed.Analyzed.{Analyzed}
+use Rattle.image_docs.specs.declared.layer_row.LayerRow.{LayerRow}
+use Rattle.image_docs.specs.declared.run_image.RunDoc.{RunDoc}
 use Rattle.run_docs.specs.declared.group.GroupRow.{GroupRow}
 use Rattle.shelf_set.specs.Caches.{WorldAndCaches, in_caches, in_world}
 use Rattle.shelf_set.specs.Caching.{stores_rows}
@@ -30,6 +32,15 @@ gains frame group analyzed = do
   gathered ← exports_group frame previous group
   digests ← puts_trees frame gathered.processes
   image ← gives cause_of (Ok (image_of analyzed.run run group gathered digests))
+  rows ← gives cause_of (Ok (map exported_row gathered.layers))
+  yields (record { image = image; rows = rows; cached = gathered.cached; trees = gathered.trees })
+
+-- the same from where the run image and the layers of the previous image are read
+unfoldable pub gains_over : ExportFrame → List GroupRow → List ℕ → RunDoc → List LayerRow → Seen → Result Gained ExportFault → Seen → Type 0
+gains_over frame group name run previous = do
+  gathered ← exports_group frame previous group
+  digests ← puts_trees frame gathered.processes
+  image ← gives cause_of (Ok (image_of name run group gathered digests))
   rows ← gives cause_of (Ok (map exported_row gathered.layers))
   yields (record { image = image; rows = rows; cached = gathered.cached; trees = gathered.trees })
 

@@ -58,8 +58,7 @@ fn read_launch<W: World>(
 {
     let path = folder.below(alloc, "launch.toml")?;
     let launch = read_launch_toml(alloc, world, &path)?;
-    let one = one_default(alloc, id, launch)?;
-    Ok(one)
+    one_default(alloc, id, launch)
 }
 
 fn read_store<W: World>(
@@ -73,8 +72,7 @@ fn read_store<W: World>(
     ensures children { CountsChildren cause_of result (W.child_faults world.old) (W.child_faults world.new) }
 {
     let path = folder.below(alloc, "store.toml")?;
-    let store = read_store_toml(alloc, world, &path)?;
-    Ok(store)
+    read_store_toml(alloc, world, &path)
 }
 
 fn joined<T: Drop>(items: List<T>, more: List<T>) -> Result<List<T>, Memory>
@@ -199,7 +197,7 @@ fn export_layers<W: World>(
     ensures children { CountsChildren cause_of result (W.child_faults world.old) (W.child_faults world.new) }
 {
     let names = read_layer_names(alloc, world, folder)?;
-    let all = export_each(
+    export_each(
         alloc,
         world,
         store,
@@ -208,8 +206,7 @@ fn export_layers<W: World>(
         folder,
         names.as_slice(),
         gathered,
-    )?;
-    Ok(all)
+    )
 }
 
 fn export_buildpack<W: World>(
@@ -231,8 +228,7 @@ fn export_buildpack<W: World>(
     let id = &row.key.id;
     let folder = layers_folder(alloc, &frame.layers, id)?;
     let documents = export_documents(alloc, world, &folder, id, gathered)?;
-    let all = export_layers(alloc, world, &frame.store, previous, id, &folder, documents)?;
-    Ok(all)
+    export_layers(alloc, world, &frame.store, previous, id, &folder, documents)
 }
 
 /// Reads what each buildpack of a group left, in order, and puts the trees of the image's layers into the store.

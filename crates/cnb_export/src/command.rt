@@ -1,19 +1,23 @@
 // The command `export`.
-ghost use Rattle.std.specs.Prelude.{◌≡◌, ◌≤◌, OnOk, length, map};
+ghost use Rattle.std.specs.Prelude.{◌≡◌, ◌≤◌, IsTrue, OnOk, length, map};
 ghost use Rattle.cnb_words.specs.Export as words;
+ghost use Rattle.image_docs.specs.Image.{is_image_doc};
 ghost use Rattle.image_files.specs.Images.{ImageStands};
-ghost use Rattle.shelf_set.specs.Caches.{caches_of, world_and_caches};
+ghost use Rattle.run_docs.specs.Group.{is_group_doc};
+ghost use Rattle.shelf_set.specs.Caches.{Caches, caches_of, world_and_caches};
 ghost use Rattle.shelf_set.specs.Dropping.{AreStanding};
 ghost use Rattle.shelf_set.specs.ShelfState.{state_of};
 ghost use Rattle.steps.specs.Causes.{CountsChildren, CountsFiles};
 ghost use Rattle.steps.specs.Outside.{seen};
-ghost use Rattle.cnb_export.specs.Command.{exports_command, saves_image};
+ghost use Rattle.cnb_export.specs.Command.{exports_command, exports_given, finishes_export, saves_image};
+ghost use Rattle.cnb_export.specs.Frame as frames;
 ghost use Rattle.cnb_export.specs.Given.{refusal_cause};
 ghost use Rattle.cnb_export.specs.Refusals.{cause_of};
 
+use crate::exported::Exported;
 use crate::exporting::export;
 use crate::fault::ExportFault;
-use crate::given::read_given;
+use crate::given::{ExportGiven, read_given};
 use crate::refusal::ExportRefusal;
 use crate::report::exported_text;
 use cnb_toml::ImageName;
@@ -40,6 +44,67 @@ pub fn save_image<W: World>(
     Ok(())
 }
 
+// Makes the text to be printed, and then writes the image's document.
+fn finish_export<W: World>(
+    alloc: Global,
+    options: &ExportWords,
+    world: &mut W,
+    exported: &Exported,
+) -> Result<Text, ExportRefusal>
+    requires limits { words.KeepsLimits options.now }
+    requires readable { IsTrue (is_image_doc exported.now.image) }
+    ensures steps { (caches : Caches) → finishes_export options.now exported.now
+        (world_and_caches (seen W.World world.old) caches) result (world_and_caches (seen W.World world.new) caches) }
+    ensures files { CountsFiles refusal_cause result (W.file_faults world.old) (W.file_faults world.new) }
+    ensures children { CountsChildren refusal_cause result (W.child_faults world.old) (W.child_faults world.new) }
+{
+    let text = exported_text(alloc, &options.image, exported)?;
+    save_image(
+        alloc,
+        world,
+        &options.store,
+        &options.image,
+        &exported.image,
+    )?;
+    Ok(text)
+}
+
+// Exports what was read, and finishes the export.
+fn export_given<W: World>(
+    alloc: Global,
+    options: &ExportWords,
+    world: &mut W,
+    shelves: &mut Shelves,
+    places: &mut List<u32>,
+    given: &ExportGiven,
+) -> Result<Text, ExportRefusal>
+    requires limits { words.KeepsLimits options.now }
+    requires frame { frames.KeepsLimits given.now.frame }
+    requires group { IsTrue (is_group_doc given.now.group) }
+    requires standing { AreStanding places.old
+        (map (λ s. state_of (held s) (rows s) (faults s)) shelves.old.items) }
+    ensures steps { exports_given options.now given.now
+        (world_and_caches (seen W.World world.old)
+        (caches_of (map (λ s. state_of (held s) (rows s) (faults s)) shelves.old.items) places.old))
+        result
+        (world_and_caches (seen W.World world.new)
+        (caches_of (map (λ s. state_of (held s) (rows s) (faults s)) shelves.new.items) places.new)) }
+    ensures again { AreStanding places.new (map (λ s. state_of (held s) (rows s) (faults s)) shelves.new.items) }
+    ensures files { CountsFiles refusal_cause result (W.file_faults world.old) (W.file_faults world.new) }
+    ensures children { CountsChildren refusal_cause result (W.child_faults world.old) (W.child_faults world.new) }
+{
+    let exported = export(
+        alloc,
+        world,
+        shelves,
+        places,
+        &given.frame,
+        &given.group,
+        &given.analyzed,
+    )?;
+    finish_export(alloc, options, world, &exported)
+}
+
 /// Exports the image of the chosen group, and gives the text to be printed (platform.md, "exporter"). The image's
 /// document is written last. `places` has the numbers of the caches that stand, which are the first of the list.
 pub fn export_command<W: World>(
@@ -64,22 +129,5 @@ pub fn export_command<W: World>(
     ensures children { CountsChildren refusal_cause result (W.child_faults world.old) (W.child_faults world.new) }
 {
     let given = read_given(alloc, world, options)?;
-    let exported = export(
-        alloc,
-        world,
-        shelves,
-        places,
-        &given.frame,
-        &given.group,
-        &given.analyzed,
-    )?;
-    let text = exported_text(alloc, &options.image, &exported)?;
-    save_image(
-        alloc,
-        world,
-        &options.store,
-        &options.image,
-        &exported.image,
-    )?;
-    Ok(text)
+    export_given(alloc, options, world, shelves, places, &given)
 }

@@ -2,6 +2,7 @@
 ghost use Rattle.std.specs.Prelude.{◌≡◌, IfOk, IsTrue, map};
 ghost use Rattle.image_docs.specs.CacheRows.{is_cache_doc};
 ghost use Rattle.image_docs.specs.Image.{is_image_doc};
+ghost use Rattle.image_docs.specs.RunImage.{is_run_doc};
 ghost use Rattle.run_docs.specs.Group.{is_group_doc};
 ghost use Rattle.shelf_set.specs.Caches.{caches_of, world_and_caches};
 ghost use Rattle.shelf_set.specs.Caching.{digest_of_row, digest_of_tree};
@@ -9,7 +10,7 @@ ghost use Rattle.shelf_set.specs.Dropping.{AreStanding};
 ghost use Rattle.shelf_set.specs.ShelfState.{state_of};
 ghost use Rattle.steps.specs.Causes.{CountsChildren, CountsFiles};
 ghost use Rattle.steps.specs.Outside.{seen};
-ghost use Rattle.cnb_export.specs.Exports.{exported_row, exports, gains};
+ghost use Rattle.cnb_export.specs.Exports.{exported_row, exports, gains, gains_over};
 ghost use Rattle.cnb_export.specs.Frame.{KeepsLimits};
 ghost use Rattle.cnb_export.specs.OneImage.{IsOneImage};
 ghost use Rattle.cnb_export.specs.Refusals.{cause_of};
@@ -20,8 +21,9 @@ use crate::fault::ExportFault;
 use crate::image::make_image;
 use crate::images::{read_previous, read_run_image};
 use crate::trees::put_trees;
+use cnb_toml::ImageName;
 use cnb_world::{List, Memory, Shelf, World};
-use image_docs::{Analyzed, CacheDoc, ImageDoc};
+use image_docs::{Analyzed, CacheDoc, ImageDoc, LayerRow, RunDoc};
 use run_docs::GroupDoc;
 use shelf_set::{Shelves, store_all};
 use std::alloc::Global;
@@ -50,6 +52,38 @@ fn exported_rows(alloc: Global, layers: &[ImageLayer]) -> Result<List<ExportedRo
     Ok(rows)
 }
 
+// What is gained over a run image and the layers of the previous image.
+fn gain_over<W: World>(
+    alloc: Global,
+    world: &mut W,
+    frame: &ExportFrame,
+    group: &GroupDoc,
+    name: &ImageName,
+    run: &RunDoc,
+    previous: &[LayerRow],
+) -> Result<Gained, ExportFault>
+    requires limits { KeepsLimits frame.now }
+    requires run { IsTrue (is_run_doc run.now) }
+    ensures step { gains_over frame.now group.now name.now run.now previous.now (seen W.World world.old) result
+        (seen W.World world.new) }
+    ensures readable { IsTrue (is_group_doc group.now) → IfOk result (λ gained. IsTrue (is_image_doc gained.image)) }
+    ensures cacheable { IsTrue (is_group_doc group.now) → IfOk result (λ gained. IsTrue (is_cache_doc gained.cached)) }
+    ensures matched { IfOk result (λ gained. map digest_of_row gained.cached ≡ map digest_of_tree gained.trees) }
+    ensures files { CountsFiles cause_of result (W.file_faults world.old) (W.file_faults world.new) }
+    ensures children { CountsChildren cause_of result (W.child_faults world.old) (W.child_faults world.new) }
+{
+    let gathered = export_group(alloc, world, frame, previous, group.as_slice())?;
+    let digests = put_trees(alloc, world, frame, gathered.processes.as_slice())?;
+    let image = make_image(alloc, name, run, group, &gathered, &digests)?;
+    let rows = exported_rows(alloc, gathered.layers.as_slice())?;
+    Ok(Gained {
+        image,
+        rows,
+        cached: gathered.cached,
+        trees: gathered.trees,
+    })
+}
+
 fn gain<W: World>(
     alloc: Global,
     world: &mut W,
@@ -67,16 +101,15 @@ fn gain<W: World>(
 {
     let run = read_run_image(alloc, world, &frame.store, &analyzed.run)?;
     let previous = read_previous(alloc, world, &frame.store, &analyzed.previous)?;
-    let gathered = export_group(alloc, world, frame, previous.as_slice(), group.as_slice())?;
-    let digests = put_trees(alloc, world, frame, gathered.processes.as_slice())?;
-    let image = make_image(alloc, &analyzed.run, &run, group, &gathered, &digests)?;
-    let rows = exported_rows(alloc, gathered.layers.as_slice())?;
-    Ok(Gained {
-        image,
-        rows,
-        cached: gathered.cached,
-        trees: gathered.trees,
-    })
+    gain_over(
+        alloc,
+        world,
+        frame,
+        group,
+        &analyzed.run,
+        &run,
+        previous.as_slice(),
+    )
 }
 
 /// Exports an image: what the buildpacks of a group left, the application and the launcher. Trees go into the store and

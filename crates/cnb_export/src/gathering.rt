@@ -135,6 +135,5 @@ pub(crate) fn export_layer<W: World>(
     ensures children { CountsChildren cause_of result (W.child_faults world.old) (W.child_faults world.new) }
 {
     let found = find_layer(alloc, world, store, folder, layer)?;
-    let all = export_found(alloc, world, store, previous, id, layer, gathered, found)?;
-    Ok(all)
+    export_found(alloc, world, store, previous, id, layer, gathered, found)
 }

@@ -62,8 +62,7 @@ fn find_group<W: World>(alloc: Global, world: &mut W, work: &Path) -> Result<Gro
 {
     let path = work.below(alloc, "group.toml")?;
     let found = read_document(alloc, world, &path)?;
-    let group = group_at(alloc, &path, found)?;
-    Ok(group)
+    group_at(alloc, &path, found)
 }
 
 // What was analyzed.
@@ -80,8 +79,7 @@ fn find_analyzed<W: World>(
 {
     let path = work.below(alloc, "analyzed.toml")?;
     let found = read_document(alloc, world, &path)?;
-    let analyzed = analyzed_at(alloc, &path, found)?;
-    Ok(analyzed)
+    analyzed_at(alloc, &path, found)
 }
 
 // Whether the Buildpack API of each buildpack is served.

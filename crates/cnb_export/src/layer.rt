@@ -68,8 +68,7 @@ fn read_layer_document<W: World>(
     ensures children { CountsChildren cause_of result (W.child_faults world.old) (W.child_faults world.new) }
 {
     let found = regular_file(alloc, world, path)?;
-    let doc = layer_value(alloc, path, found)?;
-    Ok(doc)
+    layer_value(alloc, path, found)
 }
 
 fn regular_file<W: World>(
@@ -120,8 +119,7 @@ fn look_for_contents<W: World>(
     ensures children { CountsChildren cause_of result (W.child_faults world.old) (W.child_faults world.new) }
 {
     let kind = kind_at(alloc, world, path)?;
-    let there = there_by(alloc, path, kind)?;
-    Ok(there)
+    there_by(alloc, path, kind)
 }
 
 fn put_tree<W: World>(
@@ -356,6 +354,5 @@ pub(crate) fn find_layer<W: World>(
 {
     let document = layer_document(alloc, folder, layer)?;
     let doc = read_layer_document(alloc, world, &document)?;
-    let found = find_contents(alloc, world, store, folder, layer, doc)?;
-    Ok(found)
+    find_contents(alloc, world, store, folder, layer, doc)
 }

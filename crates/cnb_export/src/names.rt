@@ -64,8 +64,7 @@ fn read_names<W: World>(
     ensures children { CountsChildren cause_of result (W.child_faults world.old) (W.child_faults world.new) }
 {
     let kind = kind_at(alloc, world, folder)?;
-    let names = list_unless(alloc, world, is_absent(kind), folder)?;
-    Ok(names)
+    list_unless(alloc, world, is_absent(kind), folder)
 }
 
 /// The names of the layers that have a document in the folder, ascending (buildpack.md, "Layer Types").

@@ -71,8 +71,7 @@ pub(crate) fn read_launch_toml<W: World>(
     ensures children { CountsChildren cause_of result (W.child_faults world.old) (W.child_faults world.new) }
 {
     let found = read_document(alloc, world, path)?;
-    let launch = value_at(alloc, path, read_launch(alloc, bytes_of(&found)))?;
-    Ok(launch)
+    value_at(alloc, path, read_launch(alloc, bytes_of(&found)))
 }
 
 fn store_value(
@@ -105,6 +104,5 @@ pub(crate) fn read_store_toml<W: World>(
     ensures children { CountsChildren cause_of result (W.child_faults world.old) (W.child_faults world.new) }
 {
     let found = read_document(alloc, world, path)?;
-    let store = store_value(alloc, path, found)?;
-    Ok(store)
+    store_value(alloc, path, found)
 }

@@ -18,13 +18,7 @@ returns-in_err-documents-clause-step g c =
     let exit = err_from_is_err_and c.from_residual-in_err-documents.result c.from_residual-in_err-documents.ensures.1 in
     rw (exit.1, exit.2) (went _ _ _ _ _ _ _ (given _ _ _ _ (ap Ok (sym c.in_ok-folder.ensures.path))) (ended _ _ _ _ _ c.in_err-documents.ensures.step))
 
-pub returns-in_err-all-clause-step : goal.returns-in_err-all-clause-step
-unfolding exports_buildpack
-returns-in_err-all-clause-step g c =
-    let exit = err_from_is_err_and c.from_residual-in_err-all.result c.from_residual-in_err-all.ensures.1 in
-    rw (exit.1, exit.2) (went _ _ _ _ _ _ _ (given _ _ _ _ (ap Ok (sym c.in_ok-folder.ensures.path))) (went _ _ _ _ _ _ _ c.in_ok-documents.ensures.step (c.in_err-all.ensures.step)))
-
 pub returns-clause-step : goal.returns-clause-step
 unfolding exports_buildpack
 returns-clause-step g c =
-    went _ _ _ _ _ _ _ (given _ _ _ _ (ap Ok (sym c.in_ok-folder.ensures.path))) (went _ _ _ _ _ _ _ c.in_ok-documents.ensures.step (c.in_ok-all.ensures.step))
+    went _ _ _ _ _ _ _ (given _ _ _ _ (ap Ok (sym c.in_ok-folder.ensures.path))) (went _ _ _ _ _ _ _ c.in_ok-documents.ensures.step c.export_layers.ensures.step)

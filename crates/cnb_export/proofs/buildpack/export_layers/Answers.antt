@@ -10,13 +10,7 @@ returns-in_err-names-clause-step g c =
     let exit = err_from_is_err_and c.from_residual.result c.from_residual.ensures.1 in
     rw (exit.1, exit.2) (ended _ _ _ _ _ c.in_err-names.ensures.step)
 
-pub returns-in_err-all-clause-step : goal.returns-in_err-all-clause-step
-unfolding exports_layers
-returns-in_err-all-clause-step g c =
-    let exit = err_from_is_err_and c.from_residual-in_err-all.result c.from_residual-in_err-all.ensures.1 in
-    rw (exit.1, exit.2) (went _ _ _ _ _ _ _ c.in_ok-names.ensures.step (all_same _ _ _ _ _ _ _ c.as_slice.ensures c.in_err-all.ensures.step))
-
 pub returns-clause-step : goal.returns-clause-step
 unfolding exports_layers
 returns-clause-step g c =
-    went _ _ _ _ _ _ _ c.in_ok-names.ensures.step (all_same _ _ _ _ _ _ _ c.as_slice.ensures c.in_ok-all.ensures.step)
+    went _ _ _ _ _ _ _ c.in_ok-names.ensures.step (all_same _ _ _ _ _ _ _ c.as_slice.ensures c.export_each.ensures.step)

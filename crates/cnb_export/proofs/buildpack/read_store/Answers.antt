@@ -12,13 +12,7 @@ returns-in_err-path-clause-step g c =
     let exit = err_from_is_err_and c.from_residual.result c.from_residual.ensures.1 in
     rw (exit.1, exit.2) (ended _ _ _ _ _ (no_memory _ _ _ (Store stored.Memory) refl))
 
-pub returns-in_err-store-clause-step : goal.returns-in_err-store-clause-step
-unfolding reads_store
-returns-in_err-store-clause-step g c =
-    let exit = err_from_is_err_and c.from_residual-in_err-store.result c.from_residual-in_err-store.ensures.1 in
-    rw (exit.1, exit.2) (went _ _ _ _ _ _ _ (given _ _ _ _ (ap Ok (sym c.in_ok-path.ensures.0))) (c.in_err-store.ensures.step))
-
 pub returns-clause-step : goal.returns-clause-step
 unfolding reads_store
 returns-clause-step g c =
-    went _ _ _ _ _ _ _ (given _ _ _ _ (ap Ok (sym c.in_ok-path.ensures.0))) (c.in_ok-store.ensures.step)
+    went _ _ _ _ _ _ _ (given _ _ _ _ (ap Ok (sym c.in_ok-path.ensures.0))) c.read_store_toml.ensures.step

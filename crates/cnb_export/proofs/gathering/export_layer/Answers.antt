@@ -9,13 +9,7 @@ returns-in_err-found-clause-step g c =
     let exit = err_from_is_err_and c.from_residual.result c.from_residual.ensures.1 in
     rw (exit.1, exit.2) (ended _ _ _ _ _ c.in_err-found.ensures.step)
 
-pub returns-in_err-all-clause-step : goal.returns-in_err-all-clause-step
-unfolding exports_layer
-returns-in_err-all-clause-step g c =
-    let exit = err_from_is_err_and c.from_residual-in_err-all.result c.from_residual-in_err-all.ensures.1 in
-    rw (exit.1, exit.2) (went _ _ _ _ _ _ _ c.in_ok-found.ensures.step (c.in_err-all.ensures.step))
-
 pub returns-clause-step : goal.returns-clause-step
 unfolding exports_layer
 returns-clause-step g c =
-    went _ _ _ _ _ _ _ c.in_ok-found.ensures.step (c.in_ok-all.ensures.step)
+    went _ _ _ _ _ _ _ c.in_ok-found.ensures.step c.export_found.ensures.step

@@ -1,9 +1,10 @@
 use Rattle.std.proofs.Common.{ap, refl, sym, Ok}
 use Rattle.std.proofs.lemmas.Result.{err_from_is_err_and}
-use Rattle.steps.proofs.StepLemmas.{ended, given, given_fault, no_memory, went}
+use Rattle.steps.proofs.StepLemmas.{ended, given, no_memory, went}
 use Rattle.tree_store.specs.declared.fault.StoreFault.TheVariants as stored
 use Rattle.cnb_export.specs.declared.fault.ExportFault.TheVariants.{Store}
 use Rattle.cnb_export.specs.Given.{reads_needed}
+use Rattle.cnb_export.proofs.ReadSteps.{given_answer}
 use Rattle.cnb_export.proofs.given.find_group.Goals as goal
 
 pub returns-in_err-path-clause-step : goal.returns-in_err-path-clause-step
@@ -18,13 +19,7 @@ returns-in_err-found-clause-step g c =
     let exit = err_from_is_err_and c.from_residual-in_err-found.result c.from_residual-in_err-found.ensures.1 in
     rw (exit.1, exit.2) (went _ _ _ _ _ _ _ (given _ _ _ _ (ap Ok (sym c.in_ok-path.ensures.0))) (ended _ _ _ _ _ c.in_err-found.ensures.step))
 
-pub returns-in_err-group-clause-step : goal.returns-in_err-group-clause-step
-unfolding reads_needed
-returns-in_err-group-clause-step g c =
-    let exit = err_from_is_err_and c.from_residual-in_err-group.result c.from_residual-in_err-group.ensures.1 in
-    rw (exit.1, exit.2) (went _ _ _ _ _ _ _ (given _ _ _ _ (ap Ok (sym c.in_ok-path.ensures.0))) (went _ _ _ _ _ _ _ c.in_ok-found.ensures.step ((given_fault _ _ _ c.in_err-group.field-0.0 c.in_err-group.ensures.answer c.in_err-group.ensures.cause))))
-
 pub returns-clause-step : goal.returns-clause-step
 unfolding reads_needed
 returns-clause-step g c =
-    went _ _ _ _ _ _ _ (given _ _ _ _ (ap Ok (sym c.in_ok-path.ensures.0))) (went _ _ _ _ _ _ _ c.in_ok-found.ensures.step ((given _ _ _ _ c.in_ok-group.ensures.answer)))
+    went _ _ _ _ _ _ _ (given _ _ _ _ (ap Ok (sym c.in_ok-path.ensures.0))) (went _ _ _ _ _ _ _ c.in_ok-found.ensures.step (given_answer _ _ _ c.group_at.ensures.answer c.group_at.ensures.cause))

@@ -18,13 +18,7 @@ returns-in_err-doc-clause-step g c =
     let exit = err_from_is_err_and c.from_residual-in_err-doc.result c.from_residual-in_err-doc.ensures.1 in
     rw (exit.1, exit.2) (went _ _ _ _ _ _ _ (given _ _ _ _ (ap Ok (sym c.in_ok-document.ensures))) (ended _ _ _ _ _ c.in_err-doc.ensures.step))
 
-pub returns-in_err-found-clause-step : goal.returns-in_err-found-clause-step
-unfolding finds_layer
-returns-in_err-found-clause-step g c =
-    let exit = err_from_is_err_and c.from_residual-in_err-found.result c.from_residual-in_err-found.ensures.1 in
-    rw (exit.1, exit.2) (went _ _ _ _ _ _ _ (given _ _ _ _ (ap Ok (sym c.in_ok-document.ensures))) (went _ _ _ _ _ _ _ c.in_ok-doc.ensures.step (c.in_err-found.ensures.step)))
-
 pub returns-clause-step : goal.returns-clause-step
 unfolding finds_layer
 returns-clause-step g c =
-    went _ _ _ _ _ _ _ (given _ _ _ _ (ap Ok (sym c.in_ok-document.ensures))) (went _ _ _ _ _ _ _ c.in_ok-doc.ensures.step (c.in_ok-found.ensures.step))
+    went _ _ _ _ _ _ _ (given _ _ _ _ (ap Ok (sym c.in_ok-document.ensures))) (went _ _ _ _ _ _ _ c.in_ok-doc.ensures.step c.find_contents.ensures.step)

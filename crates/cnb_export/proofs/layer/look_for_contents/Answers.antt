@@ -1,6 +1,7 @@
 use Rattle.std.proofs.lemmas.Result.{err_from_is_err_and}
-use Rattle.steps.proofs.StepLemmas.{ended, given, given_fault, went}
+use Rattle.steps.proofs.StepLemmas.{ended, went}
 use Rattle.cnb_export.specs.Layer.{looks_for_contents}
+use Rattle.cnb_export.proofs.ReadSteps.{given_answer}
 use Rattle.cnb_export.proofs.layer.look_for_contents.Goals as goal
 
 pub returns-in_err-kind-clause-step : goal.returns-in_err-kind-clause-step
@@ -9,13 +10,7 @@ returns-in_err-kind-clause-step g c =
     let exit = err_from_is_err_and c.from_residual.result c.from_residual.ensures.1 in
     rw (exit.1, exit.2) (ended _ _ _ _ _ c.in_err-kind.ensures.step)
 
-pub returns-in_err-there-clause-step : goal.returns-in_err-there-clause-step
-unfolding looks_for_contents
-returns-in_err-there-clause-step g c =
-    let exit = err_from_is_err_and c.from_residual-in_err-there.result c.from_residual-in_err-there.ensures.1 in
-    rw (exit.1, exit.2) (went _ _ _ _ _ _ _ c.in_ok-kind.ensures.step ((given_fault _ _ _ c.in_err-there.field-0.0 c.in_err-there.ensures.answer c.in_err-there.ensures.cause)))
-
 pub returns-clause-step : goal.returns-clause-step
 unfolding looks_for_contents
 returns-clause-step g c =
-    went _ _ _ _ _ _ _ c.in_ok-kind.ensures.step ((given _ _ _ _ c.in_ok-there.ensures.answer))
+    went _ _ _ _ _ _ _ c.in_ok-kind.ensures.step (given_answer _ _ _ c.there_by.ensures.answer c.there_by.ensures.cause)

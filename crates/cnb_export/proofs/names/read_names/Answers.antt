@@ -1,4 +1,4 @@
-use Rattle.std.proofs.Common.{subst, Ok, Err}
+use Rattle.std.proofs.Common.{subst}
 use Rattle.steps.specs.Outside.{seen}
 use Rattle.std.proofs.lemmas.Result.{err_from_is_err_and}
 use Rattle.steps.proofs.StepLemmas.{ended, went}
@@ -11,13 +11,7 @@ returns-in_err-kind-clause-step g c =
     let exit = err_from_is_err_and c.from_residual.result c.from_residual.ensures.1 in
     rw (exit.1, exit.2) (ended _ _ _ _ _ c.in_err-kind.ensures.step)
 
-pub returns-in_err-names-clause-step : goal.returns-in_err-names-clause-step
-unfolding reads_names
-returns-in_err-names-clause-step g c =
-    let exit = err_from_is_err_and c.from_residual-in_err-names.result c.from_residual-in_err-names.ensures.1 in
-    rw (exit.1, exit.2) (went _ _ _ _ _ _ _ c.in_ok-kind.ensures.step (subst (λ absent. lists_unless absent c.args.folder.now (seen g.W.World c.kind_at.new.world) (Err c.in_err-names.field-0.0) (seen g.W.World c.list_unless.new.world)) c.is_absent.ensures c.in_err-names.ensures.step))
-
 pub returns-clause-step : goal.returns-clause-step
 unfolding reads_names
 returns-clause-step g c =
-    went _ _ _ _ _ _ _ c.in_ok-kind.ensures.step (subst (λ absent. lists_unless absent c.args.folder.now (seen g.W.World c.kind_at.new.world) (Ok c.in_ok-names.names) (seen g.W.World c.list_unless.new.world)) c.is_absent.ensures c.in_ok-names.ensures.step)
+    went _ _ _ _ _ _ _ c.in_ok-kind.ensures.step (subst (λ absent. lists_unless absent c.args.folder.now (seen g.W.World c.kind_at.new.world) c.list_unless.result (seen g.W.World c.list_unless.new.world)) c.is_absent.ensures c.list_unless.ensures.step)
