@@ -73,8 +73,9 @@ fn put_whole<W: World>(
 
 /// Puts the tree of a folder into the store, as `put` does. The folder is walked once: while it is read its bytes are
 /// hashed and written, in pieces of at most 65,536 bytes, to the file `new` beside the trees' files, which then gets
-/// the name of the digest. Where that is refused, that file is removed again. Nothing of the tree is kept but two pieces and the names of the folders round the place that
-/// is read. Where the folder and that file lie in one another, the tree is read whole and then written.
+/// the name of the digest. Where that is refused, that file is removed again. Nothing of the tree is kept but two pieces
+/// and the names of the folders round the place that is read. Where the folder and that file lie in one another, the
+/// tree is read whole and then written.
 pub fn put_folder<W: World>(
     alloc: Global,
     world: &mut W,
