@@ -6,6 +6,7 @@ mod fault;
 mod flags;
 mod images;
 mod reading;
+mod shared;
 mod shelves;
 mod stores;
 mod trees;

@@ -1,9 +1,9 @@
 // Calls of tree_store: folders that are read, trees that are laid, and the store at `/s`.
 use crate::fault::Fault;
 use crate::reading::{path_of, text_or_none};
+use crate::shared::Shared;
 use crate::words::{damage_words, digest_words, path_words, tree_words, yes_or_no};
-use crate::worlds::{tree_of, world_of};
-use cnb_world::MemWorld;
+use crate::worlds::tree_of;
 use row_files::Row;
 use std::alloc::Global;
 use tree_canon::{Digest, Tree, encode};
@@ -51,13 +51,26 @@ fn told_tree(alloc: Global, answer: Result<Tree, StoreFault>) -> Result<String, 
     }
 }
 
+// A tree that is too long to be read, by its digest.
+fn told_spelling(alloc: Global, answer: Result<Tree, StoreFault>) -> Result<String, Fault> {
+    match answer {
+        Ok(tree) => digest_words(
+            alloc,
+            "digest",
+            &Digest::of(encode(alloc, &tree)?.as_slice()),
+        ),
+        Err(fault) => fault_words(alloc, &fault),
+    }
+}
+
 // A call on the tree of a row in the store.
-fn stored(alloc: Global, world: &mut MemWorld, tree: &Tree, call: &str) -> Result<String, Fault> {
+fn stored(alloc: Global, world: &mut Shared, tree: &Tree, call: &str) -> Result<String, Fault> {
     let store = path_of(alloc, "/s")?;
     let digest = Digest::of(encode(alloc, tree)?.as_slice());
     match call {
         "has" => told_truth(alloc, has(alloc, world, &store, &digest)),
         "get" => told_tree(alloc, get(alloc, world, &store, &digest)),
+        "get_digest" => told_spelling(alloc, get(alloc, world, &store, &digest)),
         "put" => told_digest(alloc, put(alloc, world, &store, tree)),
         "check_tree" => told_done(alloc, check_tree(alloc, world, &store, &digest)),
         _ => Err(Fault::wrong(alloc, "no such call:", call)),
@@ -67,7 +80,7 @@ fn stored(alloc: Global, world: &mut MemWorld, tree: &Tree, call: &str) -> Resul
 // A call on a path: trees are laid at it under `/`.
 fn at_path(
     alloc: Global,
-    world: &mut MemWorld,
+    world: &mut Shared,
     tree: &Tree,
     call: &str,
     path: &str,
@@ -93,7 +106,7 @@ fn at_path(
 // Lays the tree of a row from the store, at `/` or at another place under a root.
 fn laid_below(
     alloc: Global,
-    world: &mut MemWorld,
+    world: &mut Shared,
     tree: &Tree,
     words: &str,
 ) -> Result<String, Fault> {
@@ -108,7 +121,7 @@ fn laid_below(
     told_done(alloc, answer)
 }
 
-fn called(alloc: Global, world: &mut MemWorld, tree: &Tree, line: &str) -> Result<String, Fault> {
+fn called(alloc: Global, world: &mut Shared, tree: &Tree, line: &str) -> Result<String, Fault> {
     match line.split_once(' ') {
         Some(("lay_below", words)) => laid_below(alloc, world, tree, words),
         Some((call, path)) => at_path(alloc, world, tree, call, path),
@@ -119,7 +132,7 @@ fn called(alloc: Global, world: &mut MemWorld, tree: &Tree, line: &str) -> Resul
 /// What calls answer, one after another in one world.
 pub(crate) fn called_in_turn(alloc: Global, row: &Row) -> Result<String, Fault> {
     let tree = tree_of(alloc, text_or_none(row, "tree"))?;
-    let mut world = world_of(alloc, row)?;
+    let mut world = Shared::of(alloc, row)?;
     let mut words = String::new(alloc);
     for line in row.text(alloc, "calls")?.lines() {
         let answer = called(alloc, &mut world, &tree, line)?;
