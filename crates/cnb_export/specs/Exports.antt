@@ -7,9 +7,11 @@ use Rattle.run_docs.specs.declared.group.GroupRow.{GroupRow}
 use Rattle.shelf_set.specs.Caches.{WorldAndCaches, in_caches, in_world}
 use Rattle.shelf_set.specs.Caching.{stores_rows}
 use Rattle.steps.specs.Steps.{◌>>=◌, gives, yields}
+use Rattle.cnb_export.specs.declared.exported.Digests.{Digests}
 use Rattle.cnb_export.specs.declared.exported.Exported.{Exported}
 use Rattle.cnb_export.specs.declared.exported.ExportedRow.{ExportedRow}
 use Rattle.cnb_export.specs.declared.exported.ExportFrame.{ExportFrame}
+use Rattle.cnb_export.specs.declared.exported.Gathered.{Gathered}
 use Rattle.cnb_export.specs.declared.exported.ImageLayer.{ImageLayer}
 use Rattle.cnb_export.specs.declared.exporting.Gained.{Gained}
 use Rattle.cnb_export.specs.declared.fault.ExportFault.{ExportFault}
@@ -23,6 +25,15 @@ use Rattle.steps.specs.Outside.{Seen}
 -- a layer of the image, as it is told
 abbrev pub exported_row : ImageLayer → ExportedRow
 exported_row layer = record { id = layer.row.id; layer = layer.row.layer; reused = layer.reused }
+
+-- the image of what was gathered, its layers, and what goes into caches
+abbrev pub gained_of : List ℕ → RunDoc → List GroupRow → Gathered → Digests → Gained
+gained_of name run group gathered digests = record {
+  image = image_of name run group gathered digests;
+  rows = map exported_row gathered.layers;
+  cached = gathered.cached;
+  trees = gathered.trees;
+}
 
 -- The images are read, then what each buildpack left and the trees above the layers, and these make the image.
 unfoldable pub gains : ExportFrame → List GroupRow → Analyzed → Seen → Result Gained ExportFault → Seen → Type 0

@@ -1,7 +1,10 @@
 // The export of an image.
-ghost use Rattle.std.specs.Prelude.{◌≡◌, IfOk, IsTrue, map};
+ghost use Rattle.std.specs.Prelude.{◌≡◌, IfOk, IsTrue, OnOk, map};
+ghost use Rattle.std.specs.List.{list_all};
+ghost use Rattle.cnb_world.specs.Path.{is_short_path};
 ghost use Rattle.image_docs.specs.CacheRows.{is_cache_doc};
 ghost use Rattle.image_docs.specs.Image.{is_image_doc};
+ghost use Rattle.image_docs.specs.Row.{is_row};
 ghost use Rattle.image_docs.specs.RunImage.{is_run_doc};
 ghost use Rattle.run_docs.specs.Group.{is_group_doc};
 ghost use Rattle.shelf_set.specs.Caches.{caches_of, world_and_caches};
@@ -10,13 +13,15 @@ ghost use Rattle.shelf_set.specs.Dropping.{AreStanding};
 ghost use Rattle.shelf_set.specs.ShelfState.{state_of};
 ghost use Rattle.steps.specs.Causes.{CountsChildren, CountsFiles};
 ghost use Rattle.steps.specs.Outside.{seen};
-ghost use Rattle.cnb_export.specs.Exports.{exported_row, exports, gains, gains_over};
+ghost use Rattle.cnb_export.specs.Exports.{exported_row, exports, gained_of, gains, gains_over};
 ghost use Rattle.cnb_export.specs.Frame.{KeepsLimits};
 ghost use Rattle.cnb_export.specs.OneImage.{IsOneImage};
+ghost use Rattle.cnb_export.specs.Processes as processes;
 ghost use Rattle.cnb_export.specs.Refusals.{cause_of};
+ghost use Rattle.cnb_export.specs.Rows.{layer_row};
 
 use crate::buildpack::export_group;
-use crate::exported::{ExportFrame, Exported, ExportedRow, ImageLayer};
+use crate::exported::{Digests, ExportFrame, Exported, ExportedRow, Gathered, ImageLayer};
 use crate::fault::ExportFault;
 use crate::image::make_image;
 use crate::images::{read_previous, read_run_image};
@@ -52,6 +57,30 @@ fn exported_rows(alloc: Global, layers: &[ImageLayer]) -> Result<List<ExportedRo
     Ok(rows)
 }
 
+// The image of what was gathered, its layers, and what goes into caches.
+fn assemble(
+    alloc: Global,
+    name: &ImageName,
+    run: &RunDoc,
+    group: &GroupDoc,
+    gathered: Gathered,
+    digests: &Digests,
+) -> Result<Gained, Memory>
+    ensures gained { IfOk result (λ gained. gained ≡ gained_of name.now run.now group.now gathered digests.now) }
+    ensures placed { OnOk result (IsTrue (list_all is_row (map layer_row gathered.layers))) }
+    ensures started { OnOk result (IsTrue (is_short_path
+        (processes.entrypoint_of (processes.default_of gathered.processes)))) }
+{
+    let image = make_image(alloc, name, run, group, &gathered, digests)?;
+    let rows = exported_rows(alloc, gathered.layers.as_slice())?;
+    Ok(Gained {
+        image,
+        rows,
+        cached: gathered.cached,
+        trees: gathered.trees,
+    })
+}
+
 // What is gained over a run image and the layers of the previous image.
 fn gain_over<W: World>(
     alloc: Global,
@@ -74,14 +103,8 @@ fn gain_over<W: World>(
 {
     let gathered = export_group(alloc, world, frame, previous, group.as_slice())?;
     let digests = put_trees(alloc, world, frame, gathered.processes.as_slice())?;
-    let image = make_image(alloc, name, run, group, &gathered, &digests)?;
-    let rows = exported_rows(alloc, gathered.layers.as_slice())?;
-    Ok(Gained {
-        image,
-        rows,
-        cached: gathered.cached,
-        trees: gathered.trees,
-    })
+    let gained = assemble(alloc, name, run, group, gathered, &digests)?;
+    Ok(gained)
 }
 
 fn gain<W: World>(

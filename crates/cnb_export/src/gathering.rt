@@ -1,8 +1,9 @@
 // What a group left, gathered.
-ghost use Rattle.std.specs.Prelude.{◌≡◌, ◌≤◌, IfOk, IfSome, length};
+ghost use Rattle.std.specs.Prelude.{◌≡◌, ◌≤◌, IfOk, IfSome, OnOk, length, map};
+ghost use Rattle.shelf_set.specs.Caching.{digest_of_row, digest_of_tree};
 ghost use Rattle.steps.specs.Causes.{CountsChildren, CountsFiles};
 ghost use Rattle.steps.specs.Outside.{seen};
-ghost use Rattle.cnb_export.specs.Gathering.{AreMatched, exports_found, exports_layer, exports_some, nothing_gathered, with_kept, with_layer};
+ghost use Rattle.cnb_export.specs.Gathering.{AreMatched, exports_found, exports_layer, exports_some, nothing_gathered, with_image, with_kept, with_layer, with_row, with_tree};
 ghost use Rattle.cnb_export.specs.Layer.{IsMatched};
 ghost use Rattle.cnb_export.specs.Refusals.{cause_of};
 ghost use Rattle.cnb_export.specs.Settling.{IsKeptRight};
@@ -16,6 +17,7 @@ use cnb_toml::{BpId, LayerName};
 use cnb_world::{List, Memory, Path, World};
 use image_docs::LayerRow;
 use std::alloc::Global;
+use tree_canon::Tree;
 
 /// Nothing yet.
 pub(crate) fn nothing_gathered(alloc: Global) -> Gathered
@@ -32,6 +34,44 @@ pub(crate) fn nothing_gathered(alloc: Global) -> Gathered
     }
 }
 
+// Adds a layer that goes into the image.
+fn add_to_image(
+    alloc: Global,
+    layers: &mut List<ImageLayer>,
+    row: &LayerRow,
+    reused: Option<bool>,
+) -> Result<(), Memory>
+    ensures { OnOk result (layers.new ≡ with_image layers.old row.now reused) }
+{
+    match reused {
+        Some(reused) => layers.push(ImageLayer {
+            row: copy_layer(alloc, row)?,
+            reused,
+        }),
+        None => Ok(()),
+    }
+}
+
+// Adds a layer that goes into caches, with its tree.
+fn add_to_caches(
+    cached: &mut List<LayerRow>,
+    trees: &mut List<Tree>,
+    row: LayerRow,
+    tree: Option<Tree>,
+) -> Result<(), Memory>
+    requires matched { map digest_of_row cached.old ≡ map digest_of_tree trees.old }
+    requires right { IfSome tree (λ tree. row.digest ≡ digest_of_tree tree) }
+    ensures rows { OnOk result (cached.new ≡ with_row cached.old row tree) }
+    ensures trees { OnOk result (trees.new ≡ with_tree trees.old tree) }
+    ensures matched { OnOk result (map digest_of_row cached.new ≡ map digest_of_tree trees.new) }
+{
+    if let Some(tree) = tree {
+        cached.push(row)?;
+        trees.push(tree)?;
+    }
+    Ok(())
+}
+
 fn with_layer(alloc: Global, mut gathered: Gathered, kept: Kept) -> Result<Gathered, Memory>
     requires matched { AreMatched gathered }
     requires right { IsKeptRight kept }
@@ -39,16 +79,8 @@ fn with_layer(alloc: Global, mut gathered: Gathered, kept: Kept) -> Result<Gathe
     ensures matched { IfOk result AreMatched }
 {
     let Kept { row, reused, tree } = kept;
-    if let Some(reused) = reused {
-        gathered.layers.push(ImageLayer {
-            row: copy_layer(alloc, &row)?,
-            reused,
-        })?;
-    }
-    if let Some(tree) = tree {
-        gathered.cached.push(row)?;
-        gathered.trees.push(tree)?;
-    }
+    add_to_image(alloc, &mut gathered.layers, &row, reused)?;
+    add_to_caches(&mut gathered.cached, &mut gathered.trees, row, tree)?;
     Ok(gathered)
 }
 
