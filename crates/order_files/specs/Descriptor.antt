@@ -23,6 +23,11 @@ with_folder_names path id_folder version descriptor =
     else if not (bytes_eq descriptor.key.version version) then Err (Document path (Wrong (codes "buildpack.version")))
     else Ok descriptor
 
+-- a check that passed gives this descriptor
+abbrev pub giving : Descriptor → Result (Unit {0}) ReadFault → Result Descriptor ReadFault
+giving descriptor (Ok done) = Ok descriptor
+giving descriptor (Err fault) = Err fault
+
 -- the descriptor that a document is, where it is there
 abbrev pub described : List ℕ → List ℕ → List ℕ → Option (List ℕ) → Result (Option Descriptor) ReadFault
 described path id_folder version None = Ok None

@@ -1,5 +1,5 @@
 // The descriptor of a version of a buildpack.
-ghost use Rattle.std.specs.Prelude.{◌≤◌, ℕ, IfErr, IfOk, IfSome, length};
+ghost use Rattle.std.specs.Prelude.{◌≤◌, ℕ, IfErr, IfOk, IfSome, OnOk, length};
 ghost use Rattle.std.specs.Option.{option_map};
 ghost use Rattle.cnb_world.specs.Calls.{MayMisuse};
 ghost use Rattle.steps.specs.Causes.{CountsFiles, IsAnswer};
@@ -7,7 +7,8 @@ ghost use Rattle.steps.specs.Outside.{seen};
 ghost use Rattle.steps.specs.Reading.{ReadFrame};
 ghost use Rattle.doc_files.specs.Faults.{read_cause};
 ghost use Rattle.doc_files.specs.Reading.{BlamesOnly};
-ghost use Rattle.order_files.specs.Descriptor.{described, descriptor_at, descriptor_path, is_fit_descriptor, with_folder_names};
+ghost use Rattle.order_files.specs.Descriptor.{described, descriptor_at, descriptor_path, giving, is_fit_descriptor};
+ghost use Rattle.order_files.specs.Descriptor.{with_folder_names};
 ghost use Rattle.order_files.specs.Places.{BelongsTo, IsPlaced};
 
 use bp_docs::{Descriptor, read_buildpack};
@@ -16,17 +17,18 @@ use cnb_world::{Bytes, Path, Text, World};
 use doc_files::{ReadFault, read_at, read_document};
 use std::alloc::Global;
 
-// A descriptor whose folders have its names.
-fn with_folder_names(
+// Refuses a descriptor whose folders don't have its names.
+fn check_folder_names(
     alloc: Global,
     path: &Path,
     id_folder: &Text,
     version: &Text,
-    descriptor: Descriptor,
-) -> Result<Descriptor, ReadFault>
-    ensures reads { IsAnswer read_cause result (with_folder_names path.now id_folder.now version.now descriptor) }
+    descriptor: &Descriptor,
+) -> Result<(), ReadFault>
+    ensures reads { IsAnswer read_cause (giving descriptor.now result)
+        (with_folder_names path.now id_folder.now version.now descriptor.now) }
     ensures blames { IfErr result (BlamesOnly path.now) }
-    ensures placed { IfOk result (BelongsTo id_folder.now version.now) }
+    ensures placed { OnOk result (BelongsTo id_folder.now version.now descriptor.now) }
     ensures files { (n : ℕ) → CountsFiles read_cause result n n }
 {
     let own_folder = descriptor.key.id.folder(alloc)?;
@@ -38,7 +40,7 @@ fn with_folder_names(
         let key = Text::of(alloc, "buildpack.version")?;
         return Err(ReadFault::Document(path.copy(alloc)?, DocFault::Wrong(key)));
     }
-    Ok(descriptor)
+    Ok(())
 }
 
 // The descriptor that a document is.
@@ -56,8 +58,8 @@ fn described(
 {
     match found {
         Some(bytes) => {
-            let read = read_at(alloc, path, read_buildpack(alloc, bytes.as_slice()))?;
-            let descriptor = with_folder_names(alloc, path, id_folder, version, read)?;
+            let descriptor = read_at(alloc, path, read_buildpack(alloc, bytes.as_slice()))?;
+            check_folder_names(alloc, path, id_folder, version, &descriptor)?;
             Ok(Some(descriptor))
         }
         None => Ok(None),
