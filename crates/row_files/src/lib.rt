@@ -5,9 +5,13 @@
 #![tactic(auto)]
 
 mod fault;
+mod fields;
+mod form;
 mod row;
 mod running;
 
 pub use fault::RowFault;
+pub use fields::{Fields, text_of};
+pub use form::{Form, Shape, read_file};
 pub use row::Row;
 pub use running::run;

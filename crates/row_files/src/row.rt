@@ -1,27 +1,64 @@
-// What a file of rows holds.
+// What a row of a file holds.
 use crate::fault::RowFault;
-use serde::Deserialize;
-use std::alloc::Global;
+use crate::fields::{Fields, text_of};
+use crate::form::{Form, Shape};
+use std::alloc::{AllocError, Global};
 use std::collections::BTreeMap;
 
-#[derive(Drop, Deserialize)]
-#[serde(deny_unknown_fields)]
-pub(crate) struct RowFile {
-    pub(crate) row: Vec<Row>,
-}
+/// The form of a file of rows.
+pub(crate) const FILE: Form = Form {
+    needed: &[("row", Shape::List(&Shape::Form(&ROW)))],
+    optional: &[],
+};
+
+const ROW: Form = Form {
+    needed: &[
+        ("name", Shape::Text),
+        ("call", Shape::Text),
+        ("want", Shape::Text),
+    ],
+    optional: &[("given", Shape::ByName(&Shape::Text))],
+};
 
 /// What a call is given, by names, and the text that is wanted of it.
-#[derive(Drop, Deserialize)]
-#[serde(deny_unknown_fields)]
+#[derive(Drop)]
 pub struct Row {
     pub name: String,
     pub call: String,
-    #[serde(default)]
     pub given: BTreeMap<String, String>,
     pub want: String,
 }
 
 impl Row {
+    pub(crate) fn of(alloc: Global, fields: Fields) -> Result<Row, AllocError> {
+        let mut row = Row {
+            name: String::new(alloc),
+            call: String::new(alloc),
+            given: BTreeMap::new(alloc),
+            want: String::new(alloc),
+        };
+        match row.fill(alloc, fields) {
+            Ok(()) => Ok(row),
+            Err(error) => Err(error),
+        }
+    }
+
+    fn fill(&mut self, alloc: Global, fields: Fields) -> Result<(), AllocError> {
+        self.name.push_str(fields.text_or_empty("name"))?;
+        self.call.push_str(fields.text_or_empty("call"))?;
+        self.want.push_str(fields.text_or_empty("want"))?;
+        for (name, value) in &fields.members(alloc, "given")? {
+            self.give(alloc, name, text_of(value))?;
+        }
+        Ok(())
+    }
+
+    fn give(&mut self, alloc: Global, name: &str, text: &str) -> Result<(), AllocError> {
+        let name = String::from_str(alloc, name)?;
+        self.given.insert(name, String::from_str(alloc, text)?)?;
+        Ok(())
+    }
+
     /// What is given under a name.
     pub fn text(&self, alloc: Global, name: &str) -> Result<&str, RowFault> {
         match self.given.get(name) {
@@ -32,15 +69,9 @@ impl Row {
 
     /// The number that is given under a name.
     pub fn number(&self, alloc: Global, name: &str) -> Result<u64, RowFault> {
-        let text = self.text(alloc, name)?;
-        text.parse()
-            .map_err(|_| RowFault::wrong(alloc, "no number is given as", name))
-    }
-}
-
-pub(crate) fn parse(alloc: Global, name: &str, text: &str) -> Result<RowFile, RowFault> {
-    match toml::from_str(alloc, text) {
-        Ok(file) => Ok(file),
-        Err(error) => Err(RowFault::Wrong(format!(in alloc; "{name}: {error}")?)),
+        match self.text(alloc, name)?.parse() {
+            Ok(number) => Ok(number),
+            Err(_) => Err(RowFault::wrong(alloc, "no number is given as", name)),
+        }
     }
 }
