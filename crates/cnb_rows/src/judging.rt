@@ -1,7 +1,7 @@
 // The runs of a row.
 use crate::run::run;
 use cnb_world::{Sink, World};
-use scenarios::{Came, Chain, Comparison, Fault, Outage, Standing, Want, path_of};
+use scenarios::{Came, Chain, Comparison, Fault, Fields, Outage, Standing, path_of};
 use std::alloc::Global;
 use std::thread::Threads;
 
@@ -9,7 +9,7 @@ use std::thread::Threads;
 pub(crate) fn judge<R: Threads + Sync>(
     rt: &R,
     chain: &Chain,
-    want: &Want,
+    want: Fields,
     every_call: bool,
 ) -> Result<String, Fault> {
     let mut comparison = Comparison::new(chain, want)?;

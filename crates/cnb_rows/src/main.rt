@@ -10,7 +10,7 @@ mod run;
 use cnb_host::{HostWorld, words};
 use cnb_world::Path;
 use judging::judge;
-use scenarios::{Fault, Scenario, Scenarios, path_of};
+use scenarios::{Fault, Fields, Scenarios, path_of};
 use std::alloc::Global;
 use std::env;
 use std::process::ExitCode;
@@ -32,13 +32,13 @@ fn differences<R: Threads + Sync>(
     rt: &R,
     alloc: Global,
     scenarios: &Scenarios,
-    row: &Scenario,
+    row: Fields,
 ) -> Result<String, Fault> {
     let chain = scenarios.chain(alloc, row)?;
-    let Some(want) = &row.want else {
-        return Err(Fault::wrong(alloc, "nothing is wanted of", &row.name));
-    };
-    judge(rt, &chain, want, row.every_call)
+    match row.fields("want") {
+        Some(want) => judge(rt, &chain, want, row.is_set("every-call")),
+        None => Err(Fault::wrong(alloc, "nothing is wanted of", row.text_or_empty("name"))),
+    }
 }
 
 // Prints the line of a row, and tells whether the row is as wanted.
@@ -46,9 +46,9 @@ fn tell<R: Threads + Sync + Print>(
     rt: &R,
     alloc: Global,
     scenarios: &Scenarios,
-    row: &Scenario,
+    row: Fields,
 ) -> Result<bool, Fault> {
-    let name = &row.name;
+    let name = row.text_or_empty("name");
     match differences(rt, alloc, scenarios, row) {
         Ok(found) if found.is_empty() => {
             println!(rt; "ok {name}")?;
@@ -70,8 +70,8 @@ fn main(rt: HostRuntime) -> Result<ExitCode, Fault> {
     let mut world = HostWorld::new(rt.clone()?);
     let scenarios = Scenarios::read(rt.alloc(), &mut world, &folder)?;
     let mut differ = 0u8;
-    for row in &scenarios.rows {
-        if !tell(&rt, rt.alloc(), &scenarios, row)? {
+    for row in &scenarios.rows(rt.alloc())? {
+        if !tell(&rt, rt.alloc(), &scenarios, *row)? {
             differ = 1;
         }
     }

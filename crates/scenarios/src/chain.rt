@@ -1,13 +1,14 @@
 // What a row is given, with all that it stands on.
 use crate::fault::Fault;
 use crate::items::{play, push_files, push_stored, push_text, push_trees};
-use crate::scenario::{Failing, Scenario, ShelfRow};
 use crate::short::{
     composite_text, descriptor_path, descriptor_text, order_text, reply, reply_with,
 };
 use crate::trees::Trees;
 use cnb_world::{Env, List, Placed, Play, Reply, Text};
+use row_files::{Fields, text_of};
 use std::alloc::Global;
+use toml::Value;
 
 /// A row, its base, the base of that, and so on. What stands nearer to the row replaces or comes before what is
 /// farther.
@@ -15,64 +16,68 @@ use std::alloc::Global;
 pub struct Chain<'a> {
     pub alloc: Global,
     pub trees: &'a Trees,
-    pub scenarios: Vec<&'a Scenario>,
+    pub scenarios: Vec<Fields<'a>>,
 }
 
-impl Chain<'_> {
-    /// The words of the nearest that has some.
-    pub fn words(&self) -> Result<Vec<String>, Fault> {
-        let mut words = Vec::new(self.alloc);
-        for word in self.text_of_words().split_whitespace() {
-            words.push(String::from_str(self.alloc, word)?)?;
-        }
-        Ok(words)
-    }
-
-    fn text_of_words(&self) -> &str {
+impl<'a> Chain<'a> {
+    // The nearest that has a key.
+    fn nearest(&self, key: &str) -> Option<Fields<'a>> {
         for scenario in &self.scenarios {
-            if let Some(words) = &scenario.words {
-                return words;
-            }
-        }
-        ""
-    }
-
-    /// The calls that fail, of the nearest that has some.
-    pub(crate) fn failing(&self) -> Option<&Failing> {
-        for scenario in &self.scenarios {
-            if let Some(failing) = &scenario.failing {
-                return Some(failing);
+            if scenario.has(key) {
+                return Some(*scenario);
             }
         }
         None
     }
 
-    /// The caches of the nearest that has some.
-    pub fn shelves(&self) -> &[ShelfRow] {
-        for scenario in &self.scenarios {
-            if let Some(shelves) = &scenario.shelves {
-                return shelves;
+    /// The words of the nearest that has some.
+    pub fn words(&self) -> Result<Vec<String>, Fault> {
+        let mut words = Vec::new(self.alloc);
+        if let Some(scenario) = self.nearest("words") {
+            for word in scenario.text_or_empty("words").split_whitespace() {
+                words.push(String::from_str(self.alloc, word)?)?;
             }
         }
-        &[]
+        Ok(words)
+    }
+
+    /// The calls of one kind that fail, of the nearest that says of any which fail.
+    pub(crate) fn failing(&self, kind: &str) -> Result<Vec<u64>, Fault> {
+        let failing = match self.nearest("failing") {
+            Some(scenario) => scenario.fields("failing"),
+            None => None,
+        };
+        match failing {
+            Some(failing) => Ok(failing.numbers(self.alloc, kind)?),
+            None => Ok(Vec::new(self.alloc)),
+        }
+    }
+
+    /// The caches of the nearest that has some.
+    pub fn shelves(&self) -> &'a [Value] {
+        match self.nearest("shelves") {
+            Some(scenario) => scenario.list("shelves"),
+            None => &[],
+        }
     }
 
     /// The number of spawners of the nearest that has one, else 1.
-    pub fn spawner_count(&self) -> u8 {
-        for scenario in &self.scenarios {
-            if let Some(count) = scenario.spawners {
-                return count;
-            }
+    pub fn spawner_count(&self) -> i64 {
+        match self.nearest("spawners") {
+            Some(scenario) => scenario.number("spawners").unwrap_or(1),
+            None => 1,
         }
-        1
     }
 
     /// The variables of all, the nearest last.
     pub fn environment(&self) -> Result<Env, Fault> {
         let mut env = Env::new(self.alloc);
         for scenario in self.scenarios.iter().rev() {
-            for (name, value) in &scenario.env {
-                env.set(Text::of(self.alloc, name)?, Text::of(self.alloc, value)?)?;
+            for (name, value) in &scenario.members(self.alloc, "env")? {
+                env.set(
+                    Text::of(self.alloc, name)?,
+                    Text::of(self.alloc, text_of(value))?,
+                )?;
             }
         }
         Ok(env)
@@ -82,20 +87,29 @@ impl Chain<'_> {
     pub(crate) fn items(&self) -> Result<List<Placed>, Fault> {
         let mut items = List::new(self.alloc);
         for scenario in self.scenarios.iter().rev() {
-            push_documents(self.alloc, &mut items, scenario)?;
-            push_stored(self.alloc, &mut items, self.trees, &scenario.stored)?;
-            push_trees(self.alloc, &mut items, self.trees, &scenario.lays)?;
-            push_files(self.alloc, &mut items, &scenario.files)?;
+            self.push_items(&mut items, *scenario)?;
         }
         Ok(items)
+    }
+
+    fn push_items(&self, items: &mut List<Placed>, scenario: Fields) -> Result<(), Fault> {
+        push_documents(self.alloc, items, scenario)?;
+        push_stored(
+            self.alloc,
+            items,
+            self.trees,
+            scenario.text_or_empty("stored"),
+        )?;
+        push_trees(self.alloc, items, self.trees, scenario)?;
+        push_files(self.alloc, items, scenario.list("files"))
     }
 
     /// What the children of programs do, the nearest first.
     pub(crate) fn plays(&self) -> Result<List<Play>, Fault> {
         let mut plays = List::new(self.alloc);
         for scenario in &self.scenarios {
-            for row in &scenario.plays {
-                plays.push(play(self.alloc, self.trees, row)?)?;
+            for value in scenario.list("plays") {
+                plays.push(play(self.alloc, self.trees, Fields { value })?)?;
             }
         }
         Ok(plays)
@@ -105,29 +119,47 @@ impl Chain<'_> {
     pub(crate) fn replies(&self) -> Result<List<Reply>, Fault> {
         let mut replies = List::new(self.alloc);
         for scenario in &self.scenarios {
-            for (name, plan) in &scenario.plans {
-                replies.push(reply_with(self.alloc, name, "0", plan)?)?;
-            }
-            for (name, text) in &scenario.replies {
-                replies.push(reply(self.alloc, name, text)?)?;
-            }
+            push_replies(self.alloc, &mut replies, *scenario)?;
         }
         Ok(replies)
     }
 }
 
-// The order and the descriptors that a scenario writes short.
-fn push_documents(alloc: Global, items: &mut List<Placed>, row: &Scenario) -> Result<(), Fault> {
-    if let Some(order) = &row.order {
-        push_text(alloc, items, "/order.toml", order_text(alloc, order)?)?;
+fn push_replies(alloc: Global, replies: &mut List<Reply>, row: Fields) -> Result<(), Fault> {
+    for (name, plan) in &row.members(alloc, "plans")? {
+        replies.push(reply_with(alloc, name, "0", text_of(plan))?)?;
     }
-    for name in row.buildpacks.split_whitespace() {
-        let path = descriptor_path(alloc, name)?;
-        push_text(alloc, items, &path, descriptor_text(alloc, name)?)?;
-    }
-    for (name, order) in &row.composites {
-        let path = descriptor_path(alloc, name)?;
-        push_text(alloc, items, &path, composite_text(alloc, name, order)?)?;
+    for (name, text) in &row.members(alloc, "replies")? {
+        replies.push(reply(alloc, name, text_of(text))?)?;
     }
     Ok(())
+}
+
+// The order and the descriptors that a scenario writes short.
+fn push_documents(alloc: Global, items: &mut List<Placed>, row: Fields) -> Result<(), Fault> {
+    if let Some(order) = row.text("order") {
+        push_text(alloc, items, "/order.toml", order_text(alloc, order)?)?;
+    }
+    for name in row.text_or_empty("buildpacks").split_whitespace() {
+        push_descriptor(alloc, items, name, descriptor_text(alloc, name)?)?;
+    }
+    for (name, order) in &row.members(alloc, "composites")? {
+        push_descriptor(
+            alloc,
+            items,
+            name,
+            composite_text(alloc, name, text_of(order))?,
+        )?;
+    }
+    Ok(())
+}
+
+fn push_descriptor(
+    alloc: Global,
+    items: &mut List<Placed>,
+    name: &str,
+    text: String,
+) -> Result<(), Fault> {
+    let path = descriptor_path(alloc, name)?;
+    push_text(alloc, items, &path, text)
 }

@@ -4,29 +4,40 @@ use crate::comparison::Comparison;
 use crate::fault::Fault;
 use crate::shelves::{Holding, in_order};
 use crate::standing::reads_as;
-use crate::want::WantedShelf;
+use row_files::Fields;
+use toml::Value;
 
 impl Comparison<'_> {
     /// Compares the caches that stand, which come before those that were dropped. Where the row says nothing of them,
     /// those that it was given are to be as before.
     pub(crate) fn compare_caches(&mut self, came: &Came) -> Result<(), Fault> {
-        let want = self.want;
-        let given = self.chain.shelves();
-        match &want.shelves {
-            Some(shelves) => {
-                self.compare_count(shelves.len(), came)?;
-                for (wanted, holding) in shelves.iter().zip(&came.caches) {
-                    self.compare_trees(&wanted.holds, holding)?;
-                    self.compare_rows(wanted, holding)?;
-                }
-            }
-            None => {
-                self.compare_count(given.len(), came)?;
-                for (row, holding) in given.iter().zip(&came.caches) {
-                    self.compare_trees(&row.holds, holding)?;
-                    self.compare("a cache's rows", &row.rows, rows_of(holding))?;
-                }
-            }
+        if self.want.has("shelves") {
+            self.compare_wanted(self.want.list("shelves"), came)
+        } else {
+            self.compare_given(self.chain.shelves(), came)
+        }
+    }
+
+    fn compare_wanted(&mut self, shelves: &[Value], came: &Came) -> Result<(), Fault> {
+        self.compare_count(shelves.len(), came)?;
+        for (value, holding) in shelves.iter().zip(&came.caches) {
+            let wanted = Fields { value };
+            self.compare_trees(wanted.text_or_empty("holds"), holding)?;
+            self.compare_rows(wanted, holding)?;
+        }
+        Ok(())
+    }
+
+    fn compare_given(&mut self, shelves: &[Value], came: &Came) -> Result<(), Fault> {
+        self.compare_count(shelves.len(), came)?;
+        for (value, holding) in shelves.iter().zip(&came.caches) {
+            let given = Fields { value };
+            self.compare_trees(given.text_or_empty("holds"), holding)?;
+            self.compare(
+                "a cache's rows",
+                given.text_or_empty("rows"),
+                rows_of(holding),
+            )?;
         }
         Ok(())
     }
@@ -50,13 +61,9 @@ impl Comparison<'_> {
         Ok(self.compare("a cache's trees", &wanted, names)?)
     }
 
-    fn compare_rows(
-        &mut self,
-        wanted: &WantedShelf,
-        holding: &Option<Holding>,
-    ) -> Result<(), Fault> {
+    fn compare_rows(&mut self, wanted: Fields, holding: &Option<Holding>) -> Result<(), Fault> {
         let rows = rows_of(holding);
-        if !reads_as(self.alloc, rows, &wanted.rows) {
+        if !reads_as(self.alloc, rows, wanted.value.get("rows")) {
             self.tell("a cache's rows", "another document", rows)?;
         }
         Ok(())

@@ -4,6 +4,7 @@ use crate::fault::Fault;
 use crate::standing::{Standing, is_in, reads_as};
 use crate::trees::Tree;
 use cnb_world::{List, MemWorld};
+use row_files::{Fields, text_of};
 use std::alloc::Global;
 
 impl Comparison<'_> {
@@ -23,9 +24,9 @@ impl Comparison<'_> {
 
     fn compare_documents(&mut self, after: &Standing) -> Result<(), Fault> {
         let want = self.want;
-        for (path, table) in &want.documents {
+        for (path, table) in &want.members(self.alloc, "documents")? {
             let text = after.text(self.alloc, path)?;
-            if !reads_as(self.alloc, &text, table) {
+            if !reads_as(self.alloc, &text, Some(*table)) {
                 self.tell(path, "another document", &text)?;
             }
         }
@@ -34,12 +35,12 @@ impl Comparison<'_> {
 
     fn compare_files(&mut self, after: &Standing) -> Result<(), Fault> {
         let want = self.want;
-        for (path, wanted) in &want.files {
+        for (path, wanted) in &want.members(self.alloc, "files")? {
             let text = after.text(self.alloc, path)?;
-            self.compare(path, wanted, &text)?;
+            self.compare(path, text_of(wanted), &text)?;
         }
-        for (path, wanted) in &want.kinds {
-            self.compare(path, wanted, after.kind(path))?;
+        for (path, wanted) in &want.members(self.alloc, "kinds")? {
+            self.compare(path, text_of(wanted), after.kind(path))?;
         }
         Ok(())
     }
@@ -47,7 +48,8 @@ impl Comparison<'_> {
     // The trees that are to stand at paths, whole and with nothing besides.
     fn compare_laid(&mut self, after: &Standing) -> Result<(), Fault> {
         let (want, trees) = (self.want, self.chain.trees);
-        for (place, name) in &want.laid {
+        for (place, name) in &want.members(self.alloc, "laid")? {
+            let name = text_of(name);
             let tree = trees.named(self.alloc, name)?;
             if !is_laid(self.alloc, tree, place, after)? {
                 self.tell(place, name, "another tree")?;
@@ -58,7 +60,7 @@ impl Comparison<'_> {
 
     fn compare_stored(&mut self, after: &Standing) -> Result<(), Fault> {
         let (want, trees) = (self.want, self.chain.trees);
-        for name in want.stored.split_whitespace() {
+        for name in want.text_or_empty("stored").split_whitespace() {
             let tree = trees.named(self.alloc, name)?;
             let path = tree.stored_path(self.alloc)?;
             if after.file(&path) != Some(tree.spelling.as_slice()) {
@@ -71,24 +73,36 @@ impl Comparison<'_> {
     // Whether the row says what stands at a path.
     fn is_named(&self, path: &str) -> Result<bool, Fault> {
         let want = self.want;
-        if want.documents.contains_key(path)
-            || want.files.contains_key(path)
-            || want.kinds.contains_key(path)
+        if is_member(want, "documents", path)
+            || is_member(want, "files", path)
+            || is_member(want, "kinds", path)
         {
             return Ok(true);
         }
-        for (place, _) in &want.laid {
+        for (place, _) in &self.want.members(self.alloc, "laid")? {
             if is_in(place, path) {
                 return Ok(true);
             }
         }
-        for name in want.stored.split_whitespace() {
+        self.is_stored(path)
+    }
+
+    // Whether the row says that a tree is stored at a path.
+    fn is_stored(&self, path: &str) -> Result<bool, Fault> {
+        for name in self.want.text_or_empty("stored").split_whitespace() {
             let tree = self.chain.trees.named(self.alloc, name)?;
             if tree.stored_path(self.alloc)?.as_str() == path {
                 return Ok(true);
             }
         }
         Ok(false)
+    }
+}
+
+fn is_member(want: Fields, key: &str, path: &str) -> bool {
+    match want.fields(key) {
+        Some(members) => members.has(path),
+        None => false,
     }
 }
 

@@ -4,23 +4,23 @@ use crate::chain::Chain;
 use crate::fault::Fault;
 use crate::short::id_and_version;
 use crate::standing::Standing;
-use crate::want::Want;
 use cnb_world::{Env, List};
+use row_files::{Fields, text_of};
 use std::alloc::{AllocError, Global};
-use std::collections::BTreeMap;
+use toml::Value;
 
 /// What differs from what a row wants, in one line; the text is empty where nothing does.
 #[derive(Drop)]
 pub struct Comparison<'a> {
     pub alloc: Global,
     pub chain: &'a Chain<'a>,
-    pub want: &'a Want,
+    pub want: Fields<'a>,
     pub before: Standing,
     pub text: String,
 }
 
 impl<'a> Comparison<'a> {
-    pub fn new(chain: &'a Chain<'a>, want: &'a Want) -> Result<Comparison<'a>, Fault> {
+    pub fn new(chain: &'a Chain<'a>, want: Fields<'a>) -> Result<Comparison<'a>, Fault> {
         let alloc = chain.alloc;
         let before = Standing::of(alloc, &mut chain.world(List::new(alloc))?)?;
         Ok(Comparison {
@@ -63,7 +63,7 @@ impl<'a> Comparison<'a> {
 
     // The status and the text.
     fn compare_end(&mut self, came: &Came) -> Result<(), Fault> {
-        let wanted = format!(in self.alloc; "{}", self.want.status)?;
+        let wanted = format!(in self.alloc; "{}", self.wanted_status())?;
         let status = format!(in self.alloc; "{}", came.status)?;
         self.compare("status", &wanted, &status)?;
         let wanted = self.wanted_text()?;
@@ -71,11 +71,16 @@ impl<'a> Comparison<'a> {
         Ok(())
     }
 
+    /// The status that is wanted.
+    pub(crate) fn wanted_status(&self) -> i64 {
+        self.want.number("status").unwrap_or(0)
+    }
+
     /// The text that is wanted.
     pub(crate) fn wanted_text(&self) -> Result<String, Fault> {
         let mut text = String::new(self.alloc);
-        for line in &self.want.prints {
-            writeln!(text, "{line}")?;
+        for line in self.want.list("prints") {
+            writeln!(text, "{}", text_of(line))?;
         }
         Ok(text)
     }
@@ -84,16 +89,25 @@ impl<'a> Comparison<'a> {
         let wanted = self.wanted_asked()?;
         let asked = self.asked_text(&came.asked(self.alloc)?)?;
         self.compare("asked", &wanted, &asked)?;
-        let wanted = lines_text(self.alloc, &self.want.ran)?;
+        let wanted = self.wanted_ran()?;
         let ran = lines_text(self.alloc, &came.ran(self.alloc)?)?;
         self.compare("ran", &wanted, &ran)?;
         Ok(())
     }
 
+    /// The command lines that are to run, with a bar behind each.
+    pub(crate) fn wanted_ran(&self) -> Result<String, Fault> {
+        let mut text = String::new(self.alloc);
+        for line in self.want.list("ran") {
+            write!(text, "{}|", text_of(line))?;
+        }
+        Ok(text)
+    }
+
     /// The buildpacks that are to be asked.
     pub(crate) fn wanted_asked(&self) -> Result<String, Fault> {
         let mut names = Vec::new(self.alloc);
-        for name in self.want.asked.split_whitespace() {
+        for name in self.want.text_or_empty("asked").split_whitespace() {
             let (id, version) = id_and_version(name);
             names.push(format!(in self.alloc; "{id}@{version}")?)?;
         }
@@ -118,13 +132,13 @@ impl<'a> Comparison<'a> {
 
     fn compare_environments(&mut self, came: &Came) -> Result<(), Fault> {
         let want = self.want;
-        for (name, variables) in &want.environments {
-            let wanted = variables_text(self.alloc, variables)?;
+        for (name, value) in &want.members(self.alloc, "environments")? {
+            let wanted = variables_text(self.alloc, value)?;
             let environment = environment_text(self.alloc, came.environment_of(name))?;
             self.compare(name, &wanted, &environment)?;
         }
-        for (program, variables) in &want.run_environments {
-            let wanted = variables_text(self.alloc, variables)?;
+        for (program, value) in &want.members(self.alloc, "run-environments")? {
+            let wanted = variables_text(self.alloc, value)?;
             let environment = run_environment_text(self.alloc, came, program)?;
             self.compare(program, &wanted, &environment)?;
         }
@@ -141,13 +155,12 @@ pub(crate) fn lines_text(alloc: Global, lines: &[String]) -> Result<String, Allo
     Ok(text)
 }
 
-fn variables_text(
-    alloc: Global,
-    variables: &BTreeMap<String, String>,
-) -> Result<String, AllocError> {
+fn variables_text(alloc: Global, variables: &Value) -> Result<String, AllocError> {
     let mut text = String::new(alloc);
-    for (name, value) in variables {
-        write!(text, " {name}={value}")?;
+    if let Value::Table(variables) = variables {
+        for (name, value) in variables {
+            write!(text, " {name}={}", text_of(value))?;
+        }
     }
     Ok(text)
 }

@@ -4,6 +4,7 @@ use crate::compared_caches::is_of_dropped;
 use crate::comparison::{Comparison, lines_text};
 use crate::fault::Fault;
 use crate::standing::{Standing, is_in};
+use row_files::text_of;
 
 impl Comparison<'_> {
     /// Compares a run in which a call on files or a child failed: it ends with one of these lines, and what it did is a
@@ -23,7 +24,7 @@ impl Comparison<'_> {
         if !wanted.starts_with(asked.as_str()) {
             self.tell("asked with a failed call", &wanted, &asked)?;
         }
-        let wanted = lines_text(self.alloc, &self.want.ran)?;
+        let wanted = self.wanted_ran()?;
         let ran = lines_text(self.alloc, &came.ran(self.alloc)?)?;
         if !wanted.starts_with(ran.as_str()) {
             self.tell("ran with a failed call", &wanted, &ran)?;
@@ -49,7 +50,9 @@ impl Comparison<'_> {
     /// stands is a part of what the row wants.
     pub fn judge_dropped(&mut self, came: &mut Came, whole: &Standing) -> Result<(), Fault> {
         let printed = came.printed(self.alloc)?;
-        if came.status != self.want.status || !self.are_wanted_but_dropped(&printed) {
+        if i64::from(came.status) != self.wanted_status()
+            || !self.are_wanted_but_dropped(&printed)
+        {
             self.tell(
                 "with a failed cache",
                 "its lines and a dropped cache",
@@ -65,9 +68,9 @@ impl Comparison<'_> {
         for line in printed.lines() {
             let is_wanted = self
                 .want
-                .prints
+                .list("prints")
                 .iter()
-                .any(|wanted| wanted.as_str() == line);
+                .any(|wanted| text_of(wanted) == line);
             if is_of_dropped(line) {
                 dropped = dropped.saturating_add(1);
             } else if !is_wanted {
@@ -114,7 +117,11 @@ impl Comparison<'_> {
                 return is_part_of_one_in(after, path, whole, folder);
             }
         }
-        let is_laid = self.want.partly.iter().any(|folder| is_in(folder, path));
+        let is_laid = self
+            .want
+            .list("partly")
+            .iter()
+            .any(|folder| is_in(text_of(folder), path));
         is_laid && (after.kind(path) == "absent" || is_part_of(after, path, whole, path))
     }
 }

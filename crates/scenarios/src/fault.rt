@@ -1,5 +1,6 @@
 // Why a row gives no answer.
 use cnb_world::{FileFault, Memory, Path};
+use row_files::RowFault;
 use std::alloc::{AllocError, Global};
 use std::io;
 use thiserror::Error;
@@ -33,6 +34,16 @@ impl From<Memory> for Fault {
     }
 }
 
+impl From<RowFault> for Fault {
+    fn from(fault: RowFault) -> Self {
+        match fault {
+            RowFault::Memory(error) => Fault::Memory(error),
+            RowFault::Wrong(text) => Fault::Wrong(text),
+            RowFault::Files(error) => Fault::Output(error),
+        }
+    }
+}
+
 impl From<FileFault> for Fault {
     fn from(fault: FileFault) -> Self {
         match fault {
@@ -44,5 +55,8 @@ impl From<FileFault> for Fault {
 
 /// The path that a text is.
 pub fn path_of(alloc: Global, text: &str) -> Result<Path, Fault> {
-    Path::parse(alloc, text).map_err(|_| Fault::wrong(alloc, "no path:", text))
+    match Path::parse(alloc, text) {
+        Ok(path) => Ok(path),
+        Err(_) => Err(Fault::wrong(alloc, "no path:", text)),
+    }
 }

@@ -1,10 +1,10 @@
 // What stands at paths, and what the children of programs do.
 use crate::fault::{Fault, path_of};
-use crate::scenario::{FileRow, PlayRow};
 use crate::trees::Trees;
-use cnb_world::{Bytes, End, Item, List, Path, Placed, Play, Text};
+use cnb_world::{Bytes, End, Item, List, Placed, Play, Text};
+use row_files::{Fields, text_of};
 use std::alloc::{AllocError, Global};
-use std::collections::BTreeMap;
+use toml::Value;
 
 /// Adds a file with this text.
 pub(crate) fn push_text(
@@ -23,8 +23,11 @@ pub(crate) fn push_bytes(
     path: &str,
     bytes: Bytes,
 ) -> Result<(), Fault> {
+    push_item(alloc, items, path, Item::File { exec: false, bytes })
+}
+
+fn push_item(alloc: Global, items: &mut List<Placed>, path: &str, item: Item) -> Result<(), Fault> {
     let path = path_of(alloc, path)?;
-    let item = Item::File { exec: false, bytes };
     Ok(items.push(Placed { path, item })?)
 }
 
@@ -32,12 +35,16 @@ pub(crate) fn push_bytes(
 pub(crate) fn push_files(
     alloc: Global,
     items: &mut List<Placed>,
-    rows: &[FileRow],
+    rows: &[Value],
 ) -> Result<(), Fault> {
-    for row in rows {
-        let path = path_of(alloc, &row.path)?;
-        let item = item_of(alloc, row)?;
-        items.push(Placed { path, item })?;
+    for value in rows {
+        let row = Fields { value };
+        push_item(
+            alloc,
+            items,
+            row.text_or_empty("path"),
+            item_of(alloc, row)?,
+        )?;
     }
     Ok(())
 }
@@ -47,15 +54,13 @@ pub(crate) fn push_below(
     alloc: Global,
     items: &mut List<Placed>,
     place: &str,
-    rows: &[FileRow],
+    rows: &[Value],
 ) -> Result<(), Fault> {
-    let path = path_of(alloc, place)?;
-    let item = Item::Folder;
-    items.push(Placed { path, item })?;
-    for row in rows {
-        let path = path_of(alloc, below(alloc, place, &row.path)?.as_str())?;
-        let item = item_of(alloc, row)?;
-        items.push(Placed { path, item })?;
+    push_item(alloc, items, place, Item::Folder)?;
+    for value in rows {
+        let row = Fields { value };
+        let path = below(alloc, place, row.text_or_empty("path"))?;
+        push_item(alloc, items, &path, item_of(alloc, row)?)?;
     }
     Ok(())
 }
@@ -65,15 +70,17 @@ fn below(alloc: Global, place: &str, path: &str) -> Result<String, AllocError> {
     format!(in alloc; "{place}{path}")
 }
 
-/// Adds the trees that are named, each at its path.
+/// Adds the trees that a row lays, each at its path.
 pub(crate) fn push_trees(
     alloc: Global,
     items: &mut List<Placed>,
     trees: &Trees,
-    lays: &BTreeMap<String, String>,
+    row: Fields,
 ) -> Result<(), Fault> {
-    for (place, name) in lays {
-        trees.named(alloc, name)?.push_at(alloc, items, place)?;
+    for (place, name) in &row.members(alloc, "lays")? {
+        trees
+            .named(alloc, text_of(name))?
+            .push_at(alloc, items, place)?;
     }
     Ok(())
 }
@@ -88,59 +95,71 @@ pub(crate) fn push_stored(
     for name in names.split_whitespace() {
         let tree = trees.named(alloc, name)?;
         let path = tree.stored_path(alloc)?;
-        let bytes = Bytes::of(alloc, &tree.spelling)?;
-        push_bytes(alloc, items, &path, bytes)?;
+        push_bytes(alloc, items, &path, Bytes::of(alloc, &tree.spelling)?)?;
     }
     Ok(())
 }
 
-fn item_of(alloc: Global, row: &FileRow) -> Result<Item, Fault> {
-    if row.folder {
+fn item_of(alloc: Global, row: Fields) -> Result<Item, Fault> {
+    if row.is_set("folder") {
         return Ok(Item::Folder);
     }
-    if row.odd {
+    if row.is_set("odd") {
         return Ok(Item::Odd);
     }
-    if let Some(target) = &row.link {
+    if let Some(target) = row.text("link") {
         let target = Text::of(alloc, target)?;
         return Ok(Item::Link { target });
     }
-    let exec = row.exec;
+    let exec = row.is_set("exec");
     let bytes = contents(alloc, row)?;
     Ok(Item::File { exec, bytes })
 }
 
-fn contents(alloc: Global, row: &FileRow) -> Result<Bytes, Fault> {
-    if let Some(bytes) = &row.bytes {
-        return Ok(Bytes::of(alloc, bytes)?);
+fn contents(alloc: Global, row: Fields) -> Result<Bytes, Fault> {
+    let mut bytes = Vec::new(alloc);
+    if row.has("bytes") {
+        for number in &row.numbers(alloc, "bytes")? {
+            bytes.push(u8::try_from(*number).unwrap_or(0))?;
+        }
+    } else {
+        for _ in 0..row.number("times").unwrap_or(1) {
+            bytes.extend_from_slice(row.text_or_empty("text").as_bytes())?;
+        }
     }
-    let mut bytes = Bytes::from_vec(Vec::new(alloc));
-    for _ in 0..row.times.unwrap_or(1) {
-        bytes.append(row.text.as_bytes())?;
-    }
-    Ok(bytes)
+    Ok(Bytes::from_vec(bytes))
 }
 
 /// What a child of a program does.
-pub(crate) fn play(alloc: Global, trees: &Trees, row: &PlayRow) -> Result<Play, Fault> {
-    let mut leaves = List::new(alloc);
-    push_trees(alloc, &mut leaves, trees, &row.lays)?;
-    push_files(alloc, &mut leaves, &row.leaves)?;
-    Ok(Play {
-        program: Text::of(alloc, &row.program)?,
+pub(crate) fn play(alloc: Global, trees: &Trees, row: Fields) -> Result<Play, Fault> {
+    let mut play = Play {
+        program: Text::of(alloc, row.text_or_empty("program"))?,
         end: End {
-            code: row.code,
-            side: Bytes::of(alloc, row.side.as_bytes())?,
+            code: code(row),
+            side: Bytes::from_vec(Vec::new(alloc)),
         },
-        removes: paths(alloc, &row.removes)?,
-        leaves,
-    })
+        removes: List::new(alloc),
+        leaves: List::new(alloc),
+    };
+    match play_changes(alloc, trees, row, &mut play) {
+        Ok(()) => Ok(play),
+        Err(fault) => Err(fault),
+    }
 }
 
-fn paths(alloc: Global, texts: &[String]) -> Result<List<Path>, Fault> {
-    let mut paths = List::new(alloc);
-    for text in texts {
-        paths.push(path_of(alloc, text)?)?;
+fn code(row: Fields) -> Option<i32> {
+    match row.number("code") {
+        Some(code) => i32::try_from(code).ok(),
+        None => None,
     }
-    Ok(paths)
+}
+
+// Adds what a child writes, removes, lays and leaves.
+fn play_changes(alloc: Global, trees: &Trees, row: Fields, play: &mut Play) -> Result<(), Fault> {
+    play.end.side.append(row.text_or_empty("side").as_bytes())?;
+    for path in row.list("removes") {
+        play.removes.push(path_of(alloc, text_of(path))?)?;
+    }
+    push_trees(alloc, &mut play.leaves, trees, row)?;
+    push_files(alloc, &mut play.leaves, row.list("leaves"))
 }

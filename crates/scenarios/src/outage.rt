@@ -1,7 +1,6 @@
 // A call that fails besides those that the row names.
 use crate::fault::Fault;
 use cnb_world::List;
-use std::alloc::Global;
 
 /// A call that fails besides those that the row names, by its number from 0; of a cache by the cache's number before
 /// it.
@@ -49,12 +48,8 @@ impl Outage {
 }
 
 /// These numbers, and one more.
-pub(crate) fn numbers(
-    alloc: Global,
-    numbers: &[u64],
-    more: Option<u64>,
-) -> Result<List<u64>, Fault> {
-    let mut all = List::from_vec(Vec::from_slice(alloc, numbers)?);
+pub(crate) fn with(numbers: Vec<u64>, more: Option<u64>) -> Result<List<u64>, Fault> {
+    let mut all = List::from_vec(numbers);
     if let Some(number) = more {
         all.push(number)?;
     }

@@ -1,44 +1,49 @@
 // Caches in memory.
 use crate::chain::Chain;
 use crate::fault::Fault;
-use crate::outage::{Outage, numbers};
-use crate::scenario::ShelfRow;
+use crate::outage::{Outage, with};
 use crate::trees::{Tree, Trees};
 use cnb_world::{Bytes, Held, List, MemShelf, Shelf};
+use row_files::Fields;
 use std::alloc::{AllocError, Global};
 
 impl Chain<'_> {
     /// The caches before the run, of which one more call may fail.
     pub fn mem_shelves(&self, outage: Outage) -> Result<Vec<MemShelf>, Fault> {
         let mut shelves = Vec::new(self.alloc);
-        for (place, row) in self.shelves().iter().enumerate() {
+        for (place, value) in self.shelves().iter().enumerate() {
             let more = outage.of_shelf(place);
-            shelves.push(shelf(self.alloc, self.trees, row, more)?)?;
+            shelves.push(shelf(self.alloc, self.trees, Fields { value }, more)?)?;
         }
         Ok(shelves)
     }
 }
 
-fn shelf(
-    alloc: Global,
-    trees: &Trees,
-    row: &ShelfRow,
-    more: Option<u64>,
-) -> Result<MemShelf, Fault> {
-    let mut held = List::new(alloc);
-    for word in row.holds.split_whitespace() {
-        let tree = trees.named(alloc, word.trim_end_matches('?'))?;
-        let bytes = if word.ends_with('?') {
-            Bytes::of(alloc, b"")?
-        } else {
-            Bytes::of(alloc, &tree.spelling)?
-        };
-        let digest = tree.digest;
-        held.push(Held { digest, bytes })?;
-    }
-    let rows = Bytes::of(alloc, row.rows.as_bytes())?;
-    let failing = numbers(alloc, &row.failing, more)?;
+fn shelf(alloc: Global, trees: &Trees, row: Fields, more: Option<u64>) -> Result<MemShelf, Fault> {
+    let held = held_by(alloc, trees, row.text_or_empty("holds"))?;
+    let rows = Bytes::of(alloc, row.text_or_empty("rows").as_bytes())?;
+    let failing = with(row.numbers(alloc, "failing")?, more)?;
     Ok(MemShelf::new(alloc, rows, held, failing)?)
+}
+
+fn held_by(alloc: Global, trees: &Trees, names: &str) -> Result<List<Held>, Fault> {
+    let mut held = List::new(alloc);
+    for word in names.split_whitespace() {
+        held.push(held_as(alloc, trees, word)?)?;
+    }
+    Ok(held)
+}
+
+fn held_as(alloc: Global, trees: &Trees, word: &str) -> Result<Held, Fault> {
+    let tree = trees.named(alloc, word.trim_end_matches('?'))?;
+    let digest = tree.digest;
+    let bytes: &[u8] = if word.ends_with('?') {
+        &[]
+    } else {
+        &tree.spelling
+    };
+    let bytes = Bytes::of(alloc, bytes)?;
+    Ok(Held { digest, bytes })
 }
 
 /// What a cache holds: the names of the trees, and its rows document.

@@ -3,7 +3,7 @@ use crate::fault::{Fault, path_of};
 use cnb_world::{Kind, MemWorld, Path, World};
 use std::alloc::{AllocError, Global};
 use std::collections::BTreeMap;
-use toml::Table;
+use toml::{Table, Value};
 
 /// What stands at a path: the word for its kind, and the bytes of a file or of a link's target.
 #[derive(Drop, PartialEq, Eq)]
@@ -160,10 +160,17 @@ fn bytes_at(
     Ok(bytes)
 }
 
-/// Whether a document reads as a table.
-pub(crate) fn reads_as(alloc: Global, text: &str, table: &Table) -> bool {
+/// Whether a document reads as a table, where none is given as an empty one.
+pub(crate) fn reads_as(alloc: Global, text: &str, wanted: Option<&Value>) -> bool {
     match toml::table_from_str(alloc, text) {
-        Ok(found) => found == *table,
+        Ok(found) => is_table(&found, wanted),
         Err(_) => false,
+    }
+}
+
+fn is_table(found: &Table, wanted: Option<&Value>) -> bool {
+    match wanted {
+        Some(wanted) => wanted.as_table() == Some(found),
+        None => found.is_empty(),
     }
 }

@@ -1,37 +1,34 @@
 // The trees that rows name.
 use crate::fault::{Fault, path_of};
 use crate::items::push_below;
-use crate::scenario::{FileRow, TreeRow};
 use crate::spelling::spelling;
 use cnb_world::{List, MemWorld, Placed};
+use row_files::Fields;
 use sha2::{Digest, Sha256};
 use std::alloc::{AllocError, Global};
+use toml::Value;
 
 /// A tree with its spelling and its digest.
 #[derive(Drop)]
 pub struct Tree {
     pub name: String,
-    pub files: Vec<FileRow>,
+    pub row: Value,
     pub spelling: Vec<u8>,
     pub digest: [u8; 32],
     pub digits: String,
 }
 
 impl Tree {
-    fn of(alloc: Global, row: TreeRow) -> Result<Tree, Fault> {
-        let TreeRow { name, files } = row;
-        let mut items = List::new(alloc);
-        push_below(alloc, &mut items, "/t", &files)?;
-        let mut world = MemWorld::new(alloc, items, List::new(alloc), List::new(alloc))?;
-        let spelling = spelling(alloc, &mut world, &path_of(alloc, "/t")?)?;
+    fn of(alloc: Global, value: &Value) -> Result<Tree, Fault> {
+        let row = Fields { value };
+        let spelling = spelling_of(alloc, row)?;
         let digest = Sha256::digest(&spelling);
-        let digits = hex::encode(alloc, &digest)?;
         Ok(Tree {
-            name,
-            files,
+            name: String::from_str(alloc, row.text_or_empty("name"))?,
+            row: value.clone()?,
             spelling,
             digest,
-            digits,
+            digits: hex::encode(alloc, &digest)?,
         })
     }
 
@@ -42,7 +39,8 @@ impl Tree {
         items: &mut List<Placed>,
         place: &str,
     ) -> Result<(), Fault> {
-        push_below(alloc, items, place, &self.files)
+        let row = Fields { value: &self.row };
+        push_below(alloc, items, place, row.list("files"))
     }
 
     // The word in place of which texts have the digits.
@@ -60,6 +58,13 @@ impl Tree {
     }
 }
 
+fn spelling_of(alloc: Global, row: Fields) -> Result<Vec<u8>, Fault> {
+    let mut items = List::new(alloc);
+    push_below(alloc, &mut items, "/t", row.list("files"))?;
+    let mut world = MemWorld::new(alloc, items, List::new(alloc), List::new(alloc))?;
+    spelling(alloc, &mut world, &path_of(alloc, "/t")?)
+}
+
 /// The trees that rows name.
 #[derive(Drop)]
 pub struct Trees {
@@ -67,9 +72,9 @@ pub struct Trees {
 }
 
 impl Trees {
-    pub(crate) fn of(alloc: Global, rows: Vec<TreeRow>) -> Result<Trees, Fault> {
+    pub(crate) fn of(alloc: Global, file: Value) -> Result<Trees, Fault> {
         let mut all = Vec::new(alloc);
-        for row in rows {
+        for row in (Fields { value: &file }).list("tree") {
             all.push(Tree::of(alloc, row)?)?;
         }
         Ok(Trees { all })
