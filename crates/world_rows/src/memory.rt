@@ -28,27 +28,38 @@ fn by_sure_children(
     row: &Row,
     replies: List<Reply>,
 ) -> Result<String, LineFault> {
-    let alloc = rt.alloc();
-    let mut stage = stage(rt, row, SureSpawner::new(alloc, replies)?)?;
-    let told = stage.play(row.text(alloc, "script")?)?;
-    Ok(with_asked(alloc, told, stage.spawner.runs())?)
+    let spawner = SureSpawner::new(rt.alloc(), replies)?;
+    let mut stage = stage(rt, row, spawner)?;
+    told_by_sure_children(row, &mut stage)
+}
+
+fn told_by_sure_children(
+    row: &Row,
+    stage: &mut Stage<MemWorld, SureSpawner, MemShelf>,
+) -> Result<String, LineFault> {
+    let alloc = stage.rt.alloc();
+    let mut told = stage.play(row.text(alloc, "script")?)?;
+    push_asked(&mut told, stage.spawner.runs())?;
+    Ok(told)
 }
 
 // Plays it where a child without a reply can't be run, nor one that the row names as failing.
 fn by_children(rt: &HostRuntime, row: &Row, replies: List<Reply>) -> Result<String, LineFault> {
-    let alloc = rt.alloc();
-    let failing = numbers(alloc, row, "failing_detect")?;
-    let mut stage = stage(rt, row, MemSpawner::new(alloc, replies, failing)?)?;
-    let told = stage.play(row.text(alloc, "script")?)?;
-    told_with_children(told, &stage)
+    let failing = numbers(rt.alloc(), row, "failing_detect")?;
+    let spawner = MemSpawner::new(rt.alloc(), replies, failing)?;
+    let mut stage = stage(rt, row, spawner)?;
+    told_by_children(row, &mut stage)
 }
 
-fn told_with_children(
-    told: String,
-    stage: &Stage<MemWorld, MemSpawner, MemShelf>,
+fn told_by_children(
+    row: &Row,
+    stage: &mut Stage<MemWorld, MemSpawner, MemShelf>,
 ) -> Result<String, LineFault> {
-    let told = with_runs(told, &stage.world)?;
-    Ok(with_asked(stage.rt.alloc(), told, stage.spawner.runs())?)
+    let alloc = stage.rt.alloc();
+    let mut told = stage.play(row.text(alloc, "script")?)?;
+    push_runs(&mut told, &stage.world)?;
+    push_asked(&mut told, stage.spawner.runs())?;
+    Ok(told)
 }
 
 fn stage<S: Spawner + Drop>(
@@ -57,14 +68,12 @@ fn stage<S: Spawner + Drop>(
     spawner: S,
 ) -> Result<Stage<MemWorld, S, MemShelf>, LineFault> {
     let alloc = rt.alloc();
-    let failing = numbers(alloc, row, "failing")?;
-    let world = MemWorld::new(alloc, placed(alloc, row)?, plays(alloc, row)?, failing)?;
-    let rows = Bytes::of(alloc, given(row, "cache_rows").as_bytes())?;
-    let failing = numbers(alloc, row, "failing_cache")?;
-    let cache = MemShelf::new(alloc, rows, held(alloc, given(row, "held"))?, failing)?;
+    let folder = String::from_str(alloc, FOLDER)?;
+    let world = world(alloc, row)?;
+    let cache = cache(alloc, row)?;
     Ok(Stage {
         rt: *rt,
-        folder: String::from_str(alloc, FOLDER)?,
+        folder,
         env: Env::new(alloc),
         world,
         spawner,
@@ -72,14 +81,27 @@ fn stage<S: Spawner + Drop>(
     })
 }
 
+fn world(alloc: Global, row: &Row) -> Result<MemWorld, LineFault> {
+    let failing = numbers(alloc, row, "failing")?;
+    let (items, plays) = (placed(alloc, row)?, plays(alloc, row)?);
+    Ok(MemWorld::new(alloc, items, plays, failing)?)
+}
+
+fn cache(alloc: Global, row: &Row) -> Result<MemShelf, LineFault> {
+    let failing = numbers(alloc, row, "failing_cache")?;
+    let rows = Bytes::of(alloc, given(row, "cache_rows").as_bytes())?;
+    let held = held(alloc, given(row, "held"))?;
+    Ok(MemShelf::new(alloc, rows, held, failing)?)
+}
+
 // Adds the children that ran, with their arguments.
-fn with_runs(mut told: String, world: &MemWorld) -> Result<String, LineFault> {
+fn push_runs(told: &mut String, world: &MemWorld) -> Result<(), LineFault> {
     for run in world.runs()? {
         told.push_str("ran ")?;
         told.push_str(run.job.program.as_str())?;
-        push_args(&mut told, run.job.args.as_slice())?;
+        push_args(told, run.job.args.as_slice())?;
     }
-    Ok(told)
+    Ok(())
 }
 
 fn push_args(told: &mut String, args: &[Text]) -> Result<(), AllocError> {
@@ -91,10 +113,10 @@ fn push_args(told: &mut String, args: &[Text]) -> Result<(), AllocError> {
 }
 
 // Adds the detect children that ended.
-fn with_asked(alloc: Global, mut told: String, runs: &[DetectRun]) -> Result<String, AllocError> {
+fn push_asked(told: &mut String, runs: &[DetectRun]) -> Result<(), AllocError> {
     for run in runs {
         let (id, program) = (run.job.id.as_str(), run.job.program.as_str());
-        told.push_str(format!(in alloc; "asked {id} by {program}\n")?.as_str())?;
+        writeln!(told, "asked {id} by {program}")?;
     }
-    Ok(told)
+    Ok(())
 }

@@ -43,19 +43,25 @@ pub(crate) fn written(rt: &HostRuntime, row: &Row) -> Result<String, LineFault> 
     let alloc = rt.alloc();
     let pieces = row.text(alloc, "pieces")?;
     match row.text(alloc, "output")? {
-        "memory" => {
-            let mut sink = MemSink::new(alloc, numbers(alloc, row, "failing")?)?;
-            let mut told = taken(alloc, &mut sink, pieces)?;
-            let took = shown(alloc, sink.as_slice())?;
-            told.push_str(format!(in alloc; "took {took}\n")?.as_str())?;
-            Ok(told)
-        }
+        "memory" => in_memory(alloc, row, pieces),
         "standard output" => Ok(taken(alloc, &mut StdoutSink::new(*rt), pieces)?),
         room => {
             let room = room.parse().ok();
             Ok(taken(alloc, &mut StdoutSink::new(Narrow { room }), pieces)?)
         }
     }
+}
+
+fn in_memory(alloc: Global, row: &Row, pieces: &str) -> Result<String, LineFault> {
+    let mut sink = MemSink::new(alloc, numbers(alloc, row, "failing")?)?;
+    taken_in_memory(alloc, &mut sink, pieces)
+}
+
+fn taken_in_memory(alloc: Global, sink: &mut MemSink, pieces: &str) -> Result<String, LineFault> {
+    let mut told = taken(alloc, sink, pieces)?;
+    let took = shown(alloc, sink.as_slice())?;
+    writeln!(told, "took {took}")?;
+    Ok(told)
 }
 
 fn taken<S: Sink>(alloc: Global, sink: &mut S, pieces: &str) -> Result<String, RowFault> {

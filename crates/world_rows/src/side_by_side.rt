@@ -25,8 +25,10 @@ pub(crate) fn side_by_side<R: Threads + Sync>(
 ) -> Result<String, LineFault> {
     let mut stage = system_stage(rt, row, system_cache(rt)?)?;
     let told = told(threads, row, &mut stage);
-    fs::remove_dir_all(rt, stage.folder.as_str())?;
-    told
+    match fs::remove_dir_all(rt, stage.folder.as_str()) {
+        Ok(()) => told,
+        Err(fault) => Err(fault.into()),
+    }
 }
 
 // Plays the script, then asks the children, and tells what came of both.

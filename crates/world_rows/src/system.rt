@@ -24,11 +24,17 @@ pub(crate) fn on_faulty_system(rt: &HostRuntime, row: &Row) -> Result<String, Ro
 }
 
 fn play<C: Shelf>(rt: &HostRuntime, row: &Row, cache: C) -> Result<String, RowFault> {
-    let script = row.text(rt.alloc(), "script")?;
     let mut stage = system_stage(rt, row, cache)?;
-    let told = stage.play(script);
-    fs::remove_dir_all(rt, stage.folder.as_str())?;
-    told
+    let told = play_on(row, &mut stage);
+    match fs::remove_dir_all(rt, stage.folder.as_str()) {
+        Ok(()) => told,
+        Err(fault) => Err(fault.into()),
+    }
+}
+
+fn play_on<C: Shelf>(row: &Row, stage: &mut SystemStage<C>) -> Result<String, RowFault> {
+    let script = row.text(stage.rt.alloc(), "script")?;
+    stage.play(script)
 }
 
 /// A stage on the system with this cache, in a folder that is made for it.
@@ -37,9 +43,7 @@ pub(crate) fn system_stage<C: Shelf>(
     row: &Row,
     cache: C,
 ) -> Result<SystemStage<C>, RowFault> {
-    let folder = folder_of(rt)?;
-    fs::create_dir(rt, folder.as_str())?;
-    make_pipes(rt, folder.as_str(), given(row, "pipes"))?;
+    let folder = made_folder(rt, row)?;
     Ok(Stage {
         rt: *rt,
         folder,
@@ -53,6 +57,13 @@ pub(crate) fn system_stage<C: Shelf>(
 /// The cache of a stage on the system.
 pub(crate) fn system_cache(rt: &HostRuntime) -> Result<FolderShelf<HostRuntime>, RowFault> {
     Ok(FolderShelf::new(*rt, cache_place(rt)?))
+}
+
+fn made_folder(rt: &HostRuntime, row: &Row) -> Result<String, RowFault> {
+    let folder = folder_of(rt)?;
+    fs::create_dir(rt, folder.as_str())?;
+    make_pipes(rt, folder.as_str(), given(row, "pipes"))?;
+    Ok(folder)
 }
 
 fn folder_of(rt: &HostRuntime) -> Result<String, RowFault> {

@@ -22,13 +22,18 @@ pub(crate) fn cut(text: &str) -> (&str, &str) {
 
 /// The path that a text is.
 pub(crate) fn path_of(alloc: Global, text: &str) -> Result<Path, RowFault> {
-    Path::parse(alloc, text).map_err(|_| RowFault::wrong(alloc, "no path:", text))
+    match Path::parse(alloc, text) {
+        Ok(path) => Ok(path),
+        Err(_) => Err(RowFault::wrong(alloc, "no path:", text)),
+    }
 }
 
 /// The number that a text is.
 pub(crate) fn number_of(alloc: Global, text: &str) -> Result<u64, RowFault> {
-    text.parse()
-        .map_err(|_| RowFault::wrong(alloc, "no number:", text))
+    match text.parse() {
+        Ok(number) => Ok(number),
+        Err(_) => Err(RowFault::wrong(alloc, "no number:", text)),
+    }
 }
 
 /// The numbers that are given under a name, with blanks between them.

@@ -7,34 +7,40 @@ use cnb_world::{Bytes, End, Held, Item, List, Placed, Play, Probed, Reply, Text}
 use row_files::Row;
 use std::alloc::Global;
 
-// A file with this text.
-fn file(alloc: Global, path: &str, text: &str) -> Result<Placed, LineFault> {
-    let bytes = Bytes::of(alloc, text.as_bytes())?;
+fn push_item(
+    alloc: Global,
+    items: &mut List<Placed>,
+    path: &str,
+    item: Item,
+) -> Result<(), LineFault> {
     let path = path_of(alloc, path)?;
-    Ok(Placed {
-        path,
-        item: Item::File { exec: false, bytes },
-    })
+    Ok(items.push(Placed { path, item })?)
 }
 
-fn item(alloc: Global, path: &str, item: Item) -> Result<Placed, LineFault> {
-    let path = path_of(alloc, path)?;
-    Ok(Placed { path, item })
+// Adds a file with this text.
+fn push_file(
+    alloc: Global,
+    items: &mut List<Placed>,
+    path: &str,
+    text: &str,
+) -> Result<(), LineFault> {
+    let bytes = Bytes::of(alloc, text.as_bytes())?;
+    push_item(alloc, items, path, Item::File { exec: false, bytes })
 }
 
 /// The script's folder, the pipes, and a file for each line `PATH TEXT` of what is placed.
 pub(crate) fn placed(alloc: Global, row: &Row) -> Result<List<Placed>, LineFault> {
-    let mut items = Vec::new(alloc);
-    items.push(item(alloc, FOLDER, Item::Folder)?)?;
+    let mut items = List::new(alloc);
+    push_item(alloc, &mut items, FOLDER, Item::Folder)?;
     for pipe in given(row, "pipes").split_whitespace() {
         let path = pipe.replace(alloc, "~", FOLDER)?;
-        items.push(item(alloc, path.as_str(), Item::Odd)?)?;
+        push_item(alloc, &mut items, path.as_str(), Item::Odd)?;
     }
     for line in given(row, "placed").lines() {
         let (path, text) = cut(line);
-        items.push(file(alloc, path, text)?)?;
+        push_file(alloc, &mut items, path, text)?;
     }
-    Ok(List::from_vec(items))
+    Ok(items)
 }
 
 /// A play for each line `PROGRAM CODE SIDE CHANGES`.
@@ -49,28 +55,39 @@ pub(crate) fn plays(alloc: Global, row: &Row) -> Result<List<Play>, LineFault> {
 fn play(alloc: Global, line: &str) -> Result<Play, LineFault> {
     let (program, rest) = cut(line);
     let (code, rest) = cut(rest);
-    let (side, changes) = cut(rest);
-    let side = written_out(alloc, side)?;
-    let mut removes = Vec::new(alloc);
-    let mut leaves = Vec::new(alloc);
-    for change in changes.split_whitespace() {
-        if let Some(path) = change.strip_prefix('-') {
-            removes.push(path_of(alloc, path)?)?;
-        } else if let Some((path, text)) = change.split_once('=') {
-            leaves.push(file(alloc, path, text)?)?;
-        } else {
-            leaves.push(item(alloc, change, Item::Folder)?)?;
-        }
-    }
-    Ok(Play {
+    let mut play = Play {
         program: Text::of(alloc, program)?,
         end: End {
             code: code.parse().ok(),
-            side: Bytes::of(alloc, side.as_str().as_bytes())?,
+            side: Bytes::from_vec(Vec::new(alloc)),
         },
-        removes: List::from_vec(removes),
-        leaves: List::from_vec(leaves),
-    })
+        removes: List::new(alloc),
+        leaves: List::new(alloc),
+    };
+    match add_effects(alloc, &mut play, rest) {
+        Ok(()) => Ok(play),
+        Err(fault) => Err(fault),
+    }
+}
+
+// Adds what a child writes, and what it changes.
+fn add_effects(alloc: Global, play: &mut Play, text: &str) -> Result<(), LineFault> {
+    let (side, changes) = cut(text);
+    play.end.side.append(written_out(alloc, side)?.as_bytes())?;
+    for change in changes.split_whitespace() {
+        add_change(alloc, play, change)?;
+    }
+    Ok(())
+}
+
+fn add_change(alloc: Global, play: &mut Play, change: &str) -> Result<(), LineFault> {
+    if let Some(path) = change.strip_prefix('-') {
+        return Ok(play.removes.push(path_of(alloc, path)?)?);
+    }
+    match change.split_once('=') {
+        Some((path, text)) => push_file(alloc, &mut play.leaves, path, text),
+        None => push_item(alloc, &mut play.leaves, change, Item::Folder),
+    }
 }
 
 /// A reply at version 1.0.0 for each line `ID CODE PLAN`.
