@@ -1,7 +1,7 @@
 // Documents that are read and written: what is written of what was read, once that was read and written again.
 use crate::given::{given_bytes, told};
 use cnb_toml::DocFault;
-use cnb_world::Bytes;
+use cnb_world::{Bytes, Memory};
 use image_docs::{
     read_analyzed, read_cache, read_image, read_launch_doc, read_run, write_analyzed, write_cache,
     write_image, write_launch_doc, write_run,
@@ -13,52 +13,56 @@ use run_docs::{
 };
 use std::alloc::Global;
 
+fn as_answer(written: Result<Bytes, Memory>) -> Result<Bytes, DocFault> {
+    Ok(written?)
+}
+
 fn group(alloc: Global, bytes: &[u8]) -> Result<Bytes, DocFault> {
-    Ok(write_group(alloc, &read_group(alloc, bytes)?)?)
+    as_answer(write_group(alloc, &read_group(alloc, bytes)?))
 }
 
 fn plan(alloc: Global, bytes: &[u8]) -> Result<Bytes, DocFault> {
-    Ok(write_plan(alloc, &read_plan(alloc, bytes)?)?)
+    as_answer(write_plan(alloc, &read_plan(alloc, bytes)?))
 }
 
 fn layer(alloc: Global, bytes: &[u8]) -> Result<Bytes, DocFault> {
-    Ok(write_layer(alloc, &read_layer(alloc, bytes)?)?)
+    as_answer(write_layer(alloc, &read_layer(alloc, bytes)?))
 }
 
 fn store(alloc: Global, bytes: &[u8]) -> Result<Bytes, DocFault> {
-    Ok(write_store(alloc, &read_store(alloc, bytes)?)?)
+    as_answer(write_store(alloc, &read_store(alloc, bytes)?))
 }
 
 fn buildpack_plan(alloc: Global, bytes: &[u8]) -> Result<Bytes, DocFault> {
-    Ok(write_bp_plan(alloc, &read_bp_plan(alloc, bytes)?)?)
+    as_answer(write_bp_plan(alloc, &read_bp_plan(alloc, bytes)?))
 }
 
 fn launch(alloc: Global, bytes: &[u8]) -> Result<Bytes, DocFault> {
-    Ok(write_launch(alloc, &read_launch(alloc, bytes)?)?)
+    as_answer(write_launch(alloc, &read_launch(alloc, bytes)?))
 }
 
 fn build(alloc: Global, bytes: &[u8]) -> Result<Bytes, DocFault> {
-    Ok(write_build(alloc, &read_build(alloc, bytes)?)?)
+    as_answer(write_build(alloc, &read_build(alloc, bytes)?))
 }
 
 fn run_image(alloc: Global, bytes: &[u8]) -> Result<Bytes, DocFault> {
-    Ok(write_run(alloc, &read_run(alloc, bytes)?)?)
+    as_answer(write_run(alloc, &read_run(alloc, bytes)?))
 }
 
 fn analyzed(alloc: Global, bytes: &[u8]) -> Result<Bytes, DocFault> {
-    Ok(write_analyzed(alloc, &read_analyzed(alloc, bytes)?)?)
+    as_answer(write_analyzed(alloc, &read_analyzed(alloc, bytes)?))
 }
 
 fn launch_document(alloc: Global, bytes: &[u8]) -> Result<Bytes, DocFault> {
-    Ok(write_launch_doc(alloc, &read_launch_doc(alloc, bytes)?)?)
+    as_answer(write_launch_doc(alloc, &read_launch_doc(alloc, bytes)?))
 }
 
 fn cache(alloc: Global, bytes: &[u8]) -> Result<Bytes, DocFault> {
-    Ok(write_cache(alloc, &read_cache(alloc, bytes)?)?)
+    as_answer(write_cache(alloc, &read_cache(alloc, bytes)?))
 }
 
 fn image(alloc: Global, bytes: &[u8]) -> Result<Bytes, DocFault> {
-    Ok(write_image(alloc, &read_image(alloc, bytes)?)?)
+    as_answer(write_image(alloc, &read_image(alloc, bytes)?))
 }
 
 // What is written of a document of an image.
@@ -98,7 +102,10 @@ fn written(alloc: Global, call: &str, bytes: &[u8]) -> Result<Bytes, DocFault> {
 fn again(alloc: Global, call: &str, bytes: &[u8]) -> Result<String, DocFault> {
     let once = written(alloc, call, bytes)?;
     let twice = written(alloc, call, once.as_slice())?;
-    String::from_utf8_lossy(alloc, twice.as_slice()).map_err(|_| DocFault::Memory)
+    match String::from_utf8_lossy(alloc, twice.as_slice()) {
+        Ok(text) => Ok(text),
+        Err(_) => Err(DocFault::Memory),
+    }
 }
 
 /// The text of the document that a row names.

@@ -9,7 +9,10 @@ use std::alloc::{AllocError, Global};
 
 fn path_of(alloc: Global, row: &Row, name: &str) -> Result<Path, RowFault> {
     let text = row.text(alloc, name)?;
-    Path::parse(alloc, text).map_err(|_| RowFault::wrong(alloc, "no path:", text))
+    match Path::parse(alloc, text) {
+        Ok(path) => Ok(path),
+        Err(_) => Err(RowFault::wrong(alloc, "no path:", text)),
+    }
 }
 
 fn item_of(alloc: Global, row: &Row, kind: &str) -> Result<Item, RowFault> {

@@ -7,12 +7,22 @@ use toml::Table;
 
 /// The text of a table as a document.
 pub(crate) fn text_of(alloc: Global, table: &Table) -> Result<String, AllocError> {
-    toml::table_to_string(alloc, table).map_err(|_| AllocError)
+    match toml::table_to_string(alloc, table) {
+        Ok(text) => Ok(text),
+        Err(_) => Err(AllocError),
+    }
+}
+
+fn document_of(alloc: Global, table: &Table) -> Result<String, DocFault> {
+    match text_of(alloc, table) {
+        Ok(text) => Ok(text),
+        Err(AllocError) => Err(DocFault::Memory),
+    }
 }
 
 fn document_text(alloc: Global, bytes: &[u8]) -> Result<String, DocFault> {
     let doc = Doc::read(alloc, bytes)?;
-    text_of(alloc, doc.table()).map_err(|_| DocFault::Memory)
+    document_of(alloc, doc.table())
 }
 
 /// What a document is read as, written again.
@@ -25,7 +35,7 @@ fn metadata_text(alloc: Global, bytes: &[u8], path: &str) -> Result<String, DocF
     let doc = Doc::read(alloc, bytes)?;
     let meta = Meta::from_table(alloc, doc.table(), path)?;
     let copy = meta.copy(alloc)?;
-    text_of(alloc, &copy.to_table(alloc)?).map_err(|_| DocFault::Memory)
+    document_of(alloc, &copy.to_table(alloc)?)
 }
 
 /// What a document's table is kept as, as metadata at `path`, copied and written again.

@@ -5,14 +5,20 @@ use cnb_words::{
     LaunchWords, RebaseWords, RestoreWords, ShowWords, UnpackWords,
 };
 use cnb_world::{List, Path, Text};
-use std::alloc::{AllocError, Global};
+use std::alloc::AllocError;
 
 // Adds an option, as ` order=/o`.
 fn add(text: &mut String, name: &str, value: &str) -> Result<(), AllocError> {
-    text.push_str(" ")?;
-    text.push_str(name)?;
-    text.push_str("=")?;
-    text.push_str(value)
+    write!(text, " {name}={value}")
+}
+
+// Adds a command with its options.
+fn add_all(text: &mut String, command: &str, options: &[(&str, &str)]) -> Result<(), AllocError> {
+    text.push_str(command)?;
+    for (name, value) in options {
+        add(text, name, value)?;
+    }
+    Ok(())
 }
 
 /// Adds an option that may stand several times.
@@ -23,114 +29,120 @@ pub(crate) fn add_paths(text: &mut String, name: &str, paths: &[Path]) -> Result
     Ok(())
 }
 
-fn add_previous(text: &mut String, previous: &Option<ImageName>) -> Result<(), AllocError> {
+fn name_or_none(previous: &Option<ImageName>) -> &str {
     match previous {
-        Some(name) => add(text, "previous", name.as_str()),
-        None => add(text, "previous", ""),
+        Some(name) => name.as_str(),
+        None => "",
     }
 }
 
-pub(crate) fn detect(
-    alloc: Global,
-    text: &mut String,
-    options: &DetectWords,
-) -> Result<(), AllocError> {
-    let workers = format!(in alloc; "{}", options.workers)?;
-    text.push_str("detect")?;
-    add(text, "order", options.order.as_str())?;
-    add(text, "buildpacks", options.buildpacks.as_str())?;
-    add(text, "app", options.app.as_str())?;
-    add(text, "platform", options.platform.as_str())?;
-    add(text, "work", options.work.as_str())?;
-    add(text, "workers", workers.as_str())
+pub(crate) fn detect(text: &mut String, options: &DetectWords) -> Result<(), AllocError> {
+    let shown = [
+        ("order", options.order.as_str()),
+        ("buildpacks", options.buildpacks.as_str()),
+        ("app", options.app.as_str()),
+        ("platform", options.platform.as_str()),
+        ("work", options.work.as_str()),
+    ];
+    add_all(text, "detect", &shown)?;
+    write!(text, " workers={}", options.workers)
 }
 
 pub(crate) fn analyze(text: &mut String, options: &AnalyzeWords) -> Result<(), AllocError> {
-    text.push_str("analyze")?;
-    add(text, "store", options.store.as_str())?;
-    add(text, "run", options.run.as_str())?;
-    add(text, "work", options.work.as_str())?;
-    add_previous(text, &options.previous)
+    let shown = [
+        ("store", options.store.as_str()),
+        ("run", options.run.as_str()),
+        ("work", options.work.as_str()),
+        ("previous", name_or_none(&options.previous)),
+    ];
+    add_all(text, "analyze", &shown)
 }
 
 pub(crate) fn restore(text: &mut String, options: &RestoreWords) -> Result<(), AllocError> {
-    text.push_str("restore")?;
-    add(text, "store", options.store.as_str())?;
-    add(text, "work", options.work.as_str())?;
-    add(text, "layers", options.layers.as_str())
+    let shown = [
+        ("store", options.store.as_str()),
+        ("work", options.work.as_str()),
+        ("layers", options.layers.as_str()),
+    ];
+    add_all(text, "restore", &shown)
 }
 
 pub(crate) fn build(text: &mut String, options: &BuildWords) -> Result<(), AllocError> {
-    text.push_str("build")?;
-    add(text, "buildpacks", options.buildpacks.as_str())?;
-    add(text, "app", options.app.as_str())?;
-    add(text, "platform", options.platform.as_str())?;
-    add(text, "work", options.work.as_str())?;
-    add(text, "layers", options.layers.as_str())
+    let shown = [
+        ("buildpacks", options.buildpacks.as_str()),
+        ("app", options.app.as_str()),
+        ("platform", options.platform.as_str()),
+        ("work", options.work.as_str()),
+        ("layers", options.layers.as_str()),
+    ];
+    add_all(text, "build", &shown)
 }
 
 pub(crate) fn export(text: &mut String, options: &ExportWords) -> Result<(), AllocError> {
-    text.push_str("export")?;
-    add(text, "store", options.store.as_str())?;
-    add(text, "work", options.work.as_str())?;
-    add(text, "layers", options.layers.as_str())?;
-    add(text, "app", options.app.as_str())?;
-    add(text, "launcher", options.launcher.as_str())?;
-    add(text, "image", options.image.as_str())
+    let shown = [
+        ("store", options.store.as_str()),
+        ("work", options.work.as_str()),
+        ("layers", options.layers.as_str()),
+        ("app", options.app.as_str()),
+        ("launcher", options.launcher.as_str()),
+        ("image", options.image.as_str()),
+    ];
+    add_all(text, "export", &shown)
 }
 
-pub(crate) fn create(
-    alloc: Global,
-    text: &mut String,
-    options: &CreateWords,
-) -> Result<(), AllocError> {
+pub(crate) fn create(text: &mut String, options: &CreateWords) -> Result<(), AllocError> {
+    let shown = [
+        ("layers", options.layers.as_str()),
+        ("store", options.store.as_str()),
+        ("run", options.run.as_str()),
+        ("launcher", options.launcher.as_str()),
+        ("image", options.image.as_str()),
+        ("previous", name_or_none(&options.previous)),
+    ];
     text.push_str("create ")?;
-    detect(alloc, text, &options.detect)?;
-    add(text, "layers", options.layers.as_str())?;
-    add(text, "store", options.store.as_str())?;
-    add(text, "run", options.run.as_str())?;
-    add(text, "launcher", options.launcher.as_str())?;
-    add(text, "image", options.image.as_str())?;
-    add_previous(text, &options.previous)
+    detect(text, &options.detect)?;
+    add_all(text, "", &shown)
 }
 
 pub(crate) fn rebase(text: &mut String, options: &RebaseWords) -> Result<(), AllocError> {
-    text.push_str("rebase")?;
-    add(text, "store", options.store.as_str())?;
-    add(text, "image", options.image.as_str())?;
-    add(text, "run", options.run.as_str())
+    let shown = [
+        ("store", options.store.as_str()),
+        ("image", options.image.as_str()),
+        ("run", options.run.as_str()),
+    ];
+    add_all(text, "rebase", &shown)
 }
 
 pub(crate) fn base(text: &mut String, options: &BaseWords) -> Result<(), AllocError> {
-    text.push_str("base")?;
-    add(text, "store", options.store.as_str())?;
-    add(text, "run", options.run.as_str())?;
-    add(text, "os", options.os.as_str())?;
-    add(text, "arch", options.arch.as_str())?;
+    let shown = [
+        ("store", options.store.as_str()),
+        ("run", options.run.as_str()),
+        ("os", options.os.as_str()),
+        ("arch", options.arch.as_str()),
+    ];
+    add_all(text, "base", &shown)?;
     add_paths(text, "tree", options.trees.as_slice())
 }
 
 pub(crate) fn unpack(text: &mut String, options: &UnpackWords) -> Result<(), AllocError> {
-    text.push_str("unpack")?;
-    add(text, "store", options.store.as_str())?;
-    add(text, "image", options.image.as_str())?;
-    add(text, "root", options.root.as_str())
+    let shown = [
+        ("store", options.store.as_str()),
+        ("image", options.image.as_str()),
+        ("root", options.root.as_str()),
+    ];
+    add_all(text, "unpack", &shown)
 }
 
 pub(crate) fn show(text: &mut String, options: &ShowWords) -> Result<(), AllocError> {
-    text.push_str("show")?;
-    add(text, "store", options.store.as_str())?;
-    add(text, "image", options.image.as_str())
+    let shown = [
+        ("store", options.store.as_str()),
+        ("image", options.image.as_str()),
+    ];
+    add_all(text, "show", &shown)
 }
 
-pub(crate) fn drill(
-    alloc: Global,
-    text: &mut String,
-    options: &DrillWords,
-) -> Result<(), AllocError> {
-    let number = format!(in alloc; "{}", options.number)?;
-    text.push_str("drill")?;
-    add(text, "number", number.as_str())
+pub(crate) fn drill(text: &mut String, options: &DrillWords) -> Result<(), AllocError> {
+    write!(text, "drill number={}", options.number)
 }
 
 fn add_texts(text: &mut String, words: &List<Text>) -> Result<(), AllocError> {
@@ -141,8 +153,7 @@ fn add_texts(text: &mut String, words: &List<Text>) -> Result<(), AllocError> {
 }
 
 pub(crate) fn launch(text: &mut String, options: &LaunchWords) -> Result<(), AllocError> {
-    text.push_str("launch")?;
-    add(text, "root", options.root.as_str())?;
+    add_all(text, "launch", &[("root", options.root.as_str())])?;
     match &options.call {
         Call::Entry { kind, args } => {
             add(text, "process", kind.as_str())?;

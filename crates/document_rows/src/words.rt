@@ -14,26 +14,26 @@ fn words_in(alloc: Global, line: &str) -> Result<Vec<String>, RowFault> {
     Ok(words)
 }
 
-fn add_command(alloc: Global, text: &mut String, asked: &Asked) -> Result<(), AllocError> {
+fn add_command(text: &mut String, asked: &Asked) -> Result<(), AllocError> {
     match asked {
-        Asked::Detect(options) => options::detect(alloc, text, options),
+        Asked::Detect(options) => options::detect(text, options),
         Asked::Analyze(options) => options::analyze(text, options),
         Asked::Restore(options) => options::restore(text, options),
         Asked::Build(options) => options::build(text, options),
         Asked::Export(options) => options::export(text, options),
-        Asked::Create(options) => options::create(alloc, text, options),
+        Asked::Create(options) => options::create(text, options),
         Asked::Rebase(options) => options::rebase(text, options),
         Asked::Base(options) => options::base(text, options),
         Asked::Unpack(options) => options::unpack(text, options),
         Asked::Show(options) => options::show(text, options),
-        Asked::Drill(options) => options::drill(alloc, text, options),
+        Asked::Drill(options) => options::drill(text, options),
         Asked::Launch(options) => options::launch(text, options),
     }
 }
 
 fn asked_text(alloc: Global, asked: &Asked) -> Result<String, AllocError> {
     let mut text = String::new(alloc);
-    add_command(alloc, &mut text, asked)?;
+    add_command(&mut text, asked)?;
     options::add_paths(&mut text, "cache", asked.caches())?;
     Ok(text)
 }
