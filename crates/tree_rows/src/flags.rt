@@ -21,9 +21,12 @@ fn flags_of(alloc: Global, text: &str) -> Result<Option<Flags>, Fault> {
 }
 
 fn is_listed(row: &Row, word: &str) -> bool {
-    text_or_none(row, "also")
-        .split_whitespace()
-        .any(|listed| listed == word)
+    for listed in text_or_none(row, "also").split_whitespace() {
+        if listed == word {
+            return true;
+        }
+    }
+    false
 }
 
 /// What is restored of a layer that the previous image and the caches have with these flags.

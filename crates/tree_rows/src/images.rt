@@ -55,7 +55,10 @@ fn told_done(alloc: Global, answer: Result<(), ImageFault>) -> Result<String, Fa
 }
 
 fn name_of(alloc: Global, text: &str) -> Result<ImageName, Fault> {
-    ImageName::parse(alloc, text).map_err(|_| Fault::wrong(alloc, "no image's name:", text))
+    match ImageName::parse(alloc, text) {
+        Ok(name) => Ok(name),
+        Err(_) => Err(Fault::wrong(alloc, "no image's name:", text)),
+    }
 }
 
 // Saves the image of a name under another one.

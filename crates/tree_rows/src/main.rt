@@ -52,9 +52,10 @@ fn answer_in(alloc: Global, row: &Row) -> Result<String, Fault> {
 // The answer of a row, without the end of its last line.
 fn answer(rt: &HostRuntime, row: &Row) -> Result<String, RowFault> {
     let alloc = rt.alloc();
-    let words = answer_in(alloc, row).map_err(row_fault)?;
-    let words = words.as_str();
-    Ok(String::from_str(alloc, words.strip_suffix("\n").unwrap_or(words))?)
+    match answer_in(alloc, row) {
+        Ok(words) => Ok(String::from_str(alloc, words.strip_suffix("\n").unwrap_or(&words))?),
+        Err(fault) => Err(row_fault(fault)),
+    }
 }
 
 fn main(rt: HostRuntime) -> Result<ExitCode, RowFault> {

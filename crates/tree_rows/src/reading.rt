@@ -16,8 +16,10 @@ pub(crate) fn text_or_none<'a>(row: &'a Row, name: &str) -> &'a str {
 
 /// The number that a word is.
 pub(crate) fn number_of(alloc: Global, word: &str) -> Result<u64, Fault> {
-    word.parse()
-        .map_err(|_| Fault::wrong(alloc, "no number:", word))
+    match word.parse() {
+        Ok(number) => Ok(number),
+        Err(_) => Err(Fault::wrong(alloc, "no number:", word)),
+    }
 }
 
 /// The numbers of the calls that fail.

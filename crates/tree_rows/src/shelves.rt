@@ -12,7 +12,7 @@ use image_docs::{CacheDoc, LayerRow, write_cache};
 use layer_flags::Flags;
 use row_files::Row;
 use shelf_set::{Found, Shelves, find, gather, store_all};
-use std::alloc::Global;
+use std::alloc::{AllocError, Global};
 use std::cell::Cell;
 use std::rc::Rc;
 use tree_canon::{Digest, Tree, decode, encode};
@@ -52,21 +52,37 @@ fn held_of(alloc: Global, row: &Row, names: &str) -> Result<Held, Fault> {
     })
 }
 
+// What a cache in memory is made of.
+#[derive(Drop)]
+struct Parts {
+    rows: Bytes,
+    held: List<Held>,
+    fails: List<u64>,
+}
+
 fn shelf_of(alloc: Global, row: &Row, line: &str) -> Result<MemShelf, Fault> {
-    let mut rows = Bytes::of(alloc, b"")?;
-    let mut held = List::new(alloc);
-    let mut fails = List::new(alloc);
+    let mut parts = Parts {
+        rows: Bytes::from_vec(Vec::new(alloc)),
+        held: List::new(alloc),
+        fails: List::new(alloc),
+    };
+    add_parts(alloc, row, line, &mut parts)?;
+    let Parts { rows, held, fails } = parts;
+    Ok(MemShelf::new(alloc, rows, held, fails)?)
+}
+
+fn add_parts(alloc: Global, row: &Row, line: &str, parts: &mut Parts) -> Result<(), Fault> {
     for word in line.split_whitespace() {
         let (kind, name) = word.split_once('=').unwrap_or((word, ""));
         match kind {
             "shelf" => {}
-            "rows" => rows = Bytes::of(alloc, row.text(alloc, name)?.as_bytes())?,
-            "holds" => held.push(held_of(alloc, row, name)?)?,
-            "fails" => fails.push(number_of(alloc, name)?)?,
+            "rows" => parts.rows = Bytes::of(alloc, row.text(alloc, name)?.as_bytes())?,
+            "holds" => parts.held.push(held_of(alloc, row, name)?)?,
+            "fails" => parts.fails.push(number_of(alloc, name)?)?,
             _ => return Err(Fault::wrong(alloc, "no shelf:", line)),
         }
     }
-    Ok(MemShelf::new(alloc, rows, held, fails)?)
+    Ok(())
 }
 
 fn no_marks(alloc: Global) -> Result<Rc<Marks>, Fault> {
@@ -97,7 +113,10 @@ fn gather_words(alloc: Global, caches: &mut Caches) -> Result<String, Fault> {
 
 fn tree_under(alloc: Global, row: &Row, name: &str) -> Result<Tree, Fault> {
     let bytes = bytes_under(alloc, row, name)?;
-    decode(alloc, bytes.as_slice()).map_err(|_| Fault::wrong(alloc, "no tree:", name))
+    match decode(alloc, bytes.as_slice()) {
+        Ok(tree) => Ok(tree),
+        Err(_) => Err(Fault::wrong(alloc, "no tree:", name)),
+    }
 }
 
 fn digest_of(alloc: Global, tree: &Tree) -> Result<Digest, Fault>
@@ -178,13 +197,12 @@ fn called(alloc: Global, row: &Row, caches: &mut Caches, line: &str) -> Result<S
     }
 }
 
-fn marks_words(alloc: Global, all: &[Rc<Marks>]) -> Result<String, Fault> {
-    let mut words = String::new(alloc);
+fn push_marks(words: &mut String, all: &[Rc<Marks>]) -> Result<(), AllocError> {
     for marks in all {
         let (calls, ends) = (marks.calls.get(), marks.ends.get());
-        words.push_str(format!(in alloc; "called {calls}, ended {ends}\n")?.as_str())?;
+        writeln!(words, "called {calls}, ended {ends}")?;
     }
-    Ok(words)
+    Ok(())
 }
 
 // The caches of a row, in order, whose marks are added.
@@ -206,29 +224,43 @@ fn call_words(alloc: Global, row: &Row, caches: &mut Caches, line: &str) -> Resu
     Ok(format!(in alloc; "{line}: {answer}\nstand {places:?}\n")?)
 }
 
-fn all_words(alloc: Global, row: &Row, caches: &mut Caches) -> Result<String, Fault> {
+// Adds what each call answers, and how often each cache was called and ended then.
+fn all_words(
+    alloc: Global,
+    row: &Row,
+    caches: &mut Caches,
+    marks: &[Rc<Marks>],
+) -> Result<String, Fault> {
     let mut words = String::new(alloc);
     for line in row.text(alloc, "calls")?.lines() {
         words.push_str(call_words(alloc, row, caches, line)?.as_str())?;
     }
+    push_marks(&mut words, marks)?;
     Ok(words)
 }
 
-/// What calls answer, one after another over the caches of a row, which of these stand then, and how often each was
-/// called and ended.
-pub(crate) fn called_in_turn(alloc: Global, row: &Row) -> Result<String, Fault> {
-    let mut all = Vec::new(alloc);
+fn words_over(
+    alloc: Global,
+    row: &Row,
+    watched: Vec<Watched>,
+    marks: &[Rc<Marks>],
+) -> Result<String, Fault> {
     let mut shelves: Shelves = Vec::new(alloc);
     let mut places = List::new(alloc);
-    for (number, shelf) in (0..u32::MAX).zip(watched_of(alloc, row, &mut all)?) {
+    for (number, shelf) in (0..u32::MAX).zip(watched) {
         shelves.push(Box::new(alloc, shelf)?)?;
         places.push(number)?;
     }
     if places.as_slice().len() > shelves.len() {
         return Err(Fault::wrong(alloc, "more numbers than", "shelves"));
     }
-    let mut caches = Caches { shelves, places };
-    let mut words = all_words(alloc, row, &mut caches)?;
-    words.push_str(marks_words(alloc, &all)?.as_str())?;
-    Ok(words)
+    all_words(alloc, row, &mut Caches { shelves, places }, marks)
+}
+
+/// What calls answer, one after another over the caches of a row, which of these stand then, and how often each was
+/// called and ended.
+pub(crate) fn called_in_turn(alloc: Global, row: &Row) -> Result<String, Fault> {
+    let mut marks = Vec::new(alloc);
+    let watched = watched_of(alloc, row, &mut marks)?;
+    words_over(alloc, row, watched, &marks)
 }

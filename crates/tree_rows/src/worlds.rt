@@ -42,6 +42,8 @@ pub(crate) fn tree_of(alloc: Global, lines: &str) -> Result<Tree, Fault> {
     push_items(alloc, &mut items, "/", "folder t")?;
     push_items(alloc, &mut items, "/t/", lines)?;
     let mut world = world_with(alloc, items, "")?;
-    let folder = path_of(alloc, "/t")?;
-    read_tree(alloc, &mut world, &folder).map_err(|_| Fault::wrong(alloc, "no tree:", lines))
+    match read_tree(alloc, &mut world, &path_of(alloc, "/t")?) {
+        Ok(tree) => Ok(tree),
+        Err(_) => Err(Fault::wrong(alloc, "no tree:", lines)),
+    }
 }
