@@ -17,14 +17,7 @@ use Rattle.detect_core.specs.declared.chosen.Verdict.TheVariants.{Pass, Fail, Er
 use Rattle.detect_core.specs.declared.judging.Judged.{Judged}
 use Rattle.detect_core.specs.Answer.{is_pass, alive_row}
 use Rattle.detect_core.specs.Judging.{IsJudged}
-
-abbrev pub is_long : List Member → Bool
-is_long group = nat_lt 256 (length group)
-
--- at most 4,096 groups, none of more than 256 members
-pub record AreWithin (groups : List (List Member)) : Type 0 where
-  pub few : length groups ≤ 4096
-  pub short : list_any is_long groups ≡ false
+use Rattle.detect_core.specs.Searching.{AreWithin, is_long}
 
 filter_step : {X : Type 0} (b : Bool) (x : X) (kept xs : List X) → length kept ≤ length xs → length (if b then x ∷ kept else kept) ≤ length (x ∷ xs)
 filter_step true x kept xs h = omega arith

@@ -17,8 +17,8 @@ use Rattle.detect_core.specs.Ending.{EndsGroup}
 use Rattle.detect_core.specs.Job.{detect_job}
 use Rattle.detect_core.specs.Judging.{IsJudged}
 use Rattle.detect_core.specs.Kept.{keys_of, kept_says}
-use Rattle.detect_core.specs.Searching.{IsSearch, end_of_fault}
-use Rattle.detect_core.proofs.LimitLemmas.{AreWithin, within_group, within_place, judged_rows}
+use Rattle.detect_core.specs.Searching.{AreWithin, IsSearch, end_of_fault}
+use Rattle.detect_core.proofs.LimitLemmas.{within_group, within_place, judged_rows}
 use Rattle.detect_core.proofs.SearchLemmas.{IsAt, IsUnderWay, IsStopped, GroupLeads, under_way_start, stopped_between, stopped_in, stopped_behind, asked_group, group_leads, no_group}
 
 pub err_result : (P : Result Chosen DetectEnd → Type 0) (r : Result Chosen DetectEnd) (end : DetectEnd) → IsErrAnd r (λ e. e ≡ end) → P (Err end) → P r

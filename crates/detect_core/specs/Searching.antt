@@ -1,5 +1,5 @@
 -- What the search over the listed groups says of its answer.
-use Rattle.std.specs.Prelude.{◌≡◌, List, map, Result}
+use Rattle.std.specs.Prelude.{ℕ, ◌≡◌, ◌≤◌, Bool, false, List, length, map, nat_lt, Result}
 use Rattle.std.specs.List.{list_any}
 use Rattle.cnb_world.specs.Runs.{Ran}
 use Rattle.order_expand.specs.declared.member.Member.{Member}
@@ -15,6 +15,14 @@ use Rattle.detect_core.specs.Answer.{is_error, build_plan, says}
 use Rattle.detect_core.specs.Detection.{first_ending, reached, members_of}
 use Rattle.detect_core.specs.Job.{detect_job}
 use Rattle.detect_core.specs.Search.{DetectsAs, OnDetected}
+
+abbrev pub is_long : List Member → Bool
+is_long group = nat_lt 256 (length group)
+
+-- at most 4,096 groups, none of more than 256 members
+pub record AreWithin (groups : List (List Member)) : Type 0 where
+  pub few : length groups ≤ 4096
+  pub short : list_any is_long groups ≡ false
 
 -- a child without an answer gives `Child`
 abbrev pub end_of_fault : PoolFault → DetectEnd

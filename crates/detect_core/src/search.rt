@@ -1,5 +1,5 @@
 // The detection over spawners.
-ghost use Rattle.std.specs.Prelude.{◌<◌, List as Seq, IfOk, IsOk, IsTrue, length};
+ghost use Rattle.std.specs.Prelude.{◌≡◌, ◌<◌, [], List as Seq, IfOk, IsOk, IsTrue, length};
 ghost use Rattle.cnb_world.specs.Runs.{Ran};
 ghost use Rattle.order_expand.specs.Check.{checked};
 ghost use Rattle.order_expand.specs.Groups.{listed_groups};
@@ -8,7 +8,7 @@ ghost use Rattle.run_docs.specs.Plan.{is_plan_doc};
 ghost use Rattle.detect_core.specs.Answer.{says, build_plan};
 ghost use Rattle.detect_core.specs.Detection.{first_trial, asked_keys, has_erred};
 ghost use Rattle.detect_core.specs.Search.{DetectsAs, RunsAsked, end_cause, is_short};
-ghost use Rattle.detect_core.specs.Searching.{IsSearch};
+ghost use Rattle.detect_core.specs.Searching.{AreWithin, IsSearch};
 ghost use Rattle.steps.specs.Asking.{AskedBy, CountsSpawners};
 ghost use Rattle.steps.specs.Outside.{faults_of, spawners_seen};
 
@@ -59,7 +59,7 @@ pub fn detect<S: Spawner + Send, R: Threads + Sync>(
     search(rt, alloc, order, catalog, spawners, workers, frame)
 }
 
-/// Goes through the listed groups until one ends the search.
+/// Searches the listed groups.
 fn search<S: Spawner + Send, R: Threads + Sync>(
     rt: &R,
     alloc: Global,
@@ -81,21 +81,37 @@ fn search<S: Spawner + Send, R: Threads + Sync>(
 {
     let mut walk = Walk::new(alloc, order, catalog)?;
     let mut kept = Kept::new(alloc);
+    search_groups(rt, alloc, spawners, workers, frame, &mut walk, &mut kept)
+}
+
+/// Goes through the groups that are left of a walk, until one ends the search. Nobody was asked before.
+fn search_groups<S: Spawner + Send, R: Threads + Sync>(
+    rt: &R,
+    alloc: Global,
+    spawners: &mut Vec<S>,
+    workers: usize,
+    frame: &DetectFrame,
+    walk: &mut Walk<'_>,
+    kept: &mut Kept,
+) -> Result<Chosen, DetectEnd>
+    requires spawners { 0 < length spawners.old.items }
+    requires workers { 0 < workers }
+    requires short { IsTrue (is_short frame.now) }
+    requires within { AreWithin walk.old }
+    requires kept { kept.old ≡ [] }
+    ensures search { IsSearch frame.now walk.old
+        (spawners_seen S.Spawner spawners.old.items) (spawners_seen S.Spawner spawners.new.items) result }
+    ensures faults { CountsSpawners end_cause result
+        (faults_of (spawners_seen S.Spawner spawners.old.items))
+        (faults_of (spawners_seen S.Spawner spawners.new.items)) }
+{
     let mut erred = false;
     let mut place = 0u32;
     while let Some(group) = walk.next()? {
-        ask_group(
-            rt,
-            alloc,
-            spawners,
-            workers,
-            frame,
-            group.as_slice(),
-            &mut kept,
-        )?;
-        let judged = judge(alloc, group.as_slice(), &kept)?;
+        ask_group(rt, alloc, spawners, workers, frame, group.as_slice(), kept)?;
+        let judged = judge(alloc, group.as_slice(), kept)?;
         erred |= judged.erred;
-        if let Some(chosen) = end_of(alloc, &judged, place, &kept)? {
+        if let Some(chosen) = end_of(alloc, &judged, place, kept)? {
             return Ok(chosen);
         }
         place += 1;
