@@ -6,7 +6,7 @@
 use crate::fault::HostFault;
 use cnb_world::{Memory, Path};
 use std::alloc::Global;
-use std::fs::{File, OpenFile, OpenOptions, TryLockError};
+use std::fs::{File, Metadata, OpenFile, OpenOptions, TryLockError};
 use std::io::ErrorKind;
 use std::os::unix::fs::MetadataExt;
 use std::rt::{Clock, Files};
@@ -46,9 +46,10 @@ struct Guarded<R: Files> {
 enum Lock<R: Files> {
     // Nothing was written below the folder so far.
     Free,
-    Held(R::File),
-    // The file system has no locks, or the folder may not be read.
-    Unavailable,
+    // The open folder, and what the system says of it.
+    Held(R::File, Metadata),
+    // The file system has no locks, the folder may not be read, or another of the guarded folders is the same one.
+    None,
 }
 
 impl<R: Files> FolderLocks<R> {
@@ -76,20 +77,51 @@ where
     /// Takes the lock of each guarded folder that the path is in, and keeps it. Where another process holds one, this
     /// waits for five minutes and says so on standard error.
     pub fn hold(&mut self, rt: &R, path: &str) -> Result<(), HostFault> {
-        for guarded in &mut self.folders {
-            if guarded.lock.is_free() && is_within(guarded.folder.as_str(), path) {
-                guarded.lock = lock_of(rt, guarded.folder.as_str())?;
+        for at in 0..self.folders.len() {
+            if self.folders[at].is_needed(path) {
+                let lock = self.lock_of(rt, self.folders[at].folder.as_str())?;
+                self.folders[at].lock = lock;
             }
         }
         Ok(())
     }
+
+    // Waits for the lock of a folder. Where no folder is there, the write itself will fail.
+    fn lock_of(&self, rt: &R, folder: &str) -> Result<Lock<R>, HostFault> {
+        for turn in 0..TURNS {
+            match fs::metadata(rt, folder) {
+                Ok(found) if !found.is_dir() => return Ok(Lock::Free),
+                Ok(found) if self.is_held(&found) => return Ok(Lock::None),
+                Ok(_) => {}
+                Err(_) => return Ok(Lock::Free),
+            }
+            if let Some(lock) = try_lock(rt, folder)? {
+                return Ok(lock);
+            }
+            if turn == 0 {
+                // Where standard error takes nothing, there is nobody to be informed.
+                let _ = eprintln!(rt; "waiting for another process that writes below {folder}");
+            }
+            thread::sleep(rt, Duration::from_millis(TURN));
+        }
+        Err(HostFault::Failed)
+    }
+
+    // Whether the lock of this very folder is held already, by whatever path it was reached.
+    fn is_held(&self, found: &Metadata) -> bool {
+        self.folders.iter().any(|guarded| match &guarded.lock {
+            Lock::Held(_, held) => is_same(held, found),
+            Lock::Free | Lock::None => false,
+        })
+    }
 }
 
-impl<R: Files> Lock<R> {
-    fn is_free(&self) -> bool {
-        match self {
-            Lock::Free => true,
-            Lock::Held(_) | Lock::Unavailable => false,
+impl<R: Files> Guarded<R> {
+    // Whether the path is in the folder, whose lock was not asked for so far.
+    fn is_needed(&self, path: &str) -> bool {
+        match &self.lock {
+            Lock::Free => is_within(self.folder.as_str(), path),
+            Lock::Held(..) | Lock::None => false,
         }
     }
 }
@@ -101,51 +133,37 @@ fn is_within(folder: &str, path: &str) -> bool {
     }
 }
 
-fn lock_of<R: Files + Clock + Eprint>(rt: &R, folder: &str) -> Result<Lock<R>, HostFault>
-where
-    R::File: LockFolder,
-{
-    for turn in 0..TURNS {
-        if let Some(lock) = try_lock(rt, folder)? {
-            return Ok(lock);
-        }
-        if turn == 0 {
-            // Where standard error takes nothing, there is nobody to be informed.
-            let _ = eprintln!(rt; "waiting for another process that writes below {folder}");
-        }
-        thread::sleep(rt, Duration::from_millis(TURN));
-    }
-    Err(HostFault::Failed)
-}
-
-// The lock of a folder, unless another process holds it. Where no folder is there, the write itself will fail.
+// The lock of a folder, unless another process holds it.
 fn try_lock<R: Files>(rt: &R, folder: &str) -> Result<Option<Lock<R>>, HostFault>
 where
     R::File: LockFolder,
 {
-    match fs::metadata(rt, folder) {
-        Ok(found) if found.is_dir() => {}
-        _ => return Ok(Some(Lock::Free)),
-    }
     let mut options = OpenOptions::new();
     options.read(true);
     let file = match options.open(rt, folder) {
         Ok(file) => file,
         Err(error) => match error.kind() {
-            ErrorKind::PermissionDenied => return Ok(Some(Lock::Unavailable)),
+            ErrorKind::PermissionDenied => return Ok(Some(Lock::None)),
             _ => return Err(HostFault::from(error)),
         },
     };
     match file.take_lock() {
-        Ok(()) if is_at(rt, &file, folder)? => Ok(Some(Lock::Held(file))),
-        Ok(()) | Err(TryLockError::WouldBlock) => Ok(None),
-        Err(TryLockError::Error(_)) => Ok(Some(Lock::Unavailable)),
+        Ok(()) => held(rt, file, folder),
+        Err(TryLockError::WouldBlock) => Ok(None),
+        Err(TryLockError::Error(_)) => Ok(Some(Lock::None)),
     }
 }
 
-// Whether the folder that was opened is still the one at its path.
-fn is_at<R: Files>(rt: &R, file: &R::File, folder: &str) -> Result<bool, HostFault> {
+// The lock that was taken, where the folder that was opened is still the one at its path.
+fn held<R: Files>(rt: &R, file: R::File, folder: &str) -> Result<Option<Lock<R>>, HostFault> {
     let opened = file.metadata()?;
-    let found = fs::metadata(rt, folder)?;
-    Ok(opened.dev() == found.dev() && opened.ino() == found.ino())
+    if is_same(&opened, &fs::metadata(rt, folder)?) {
+        Ok(Some(Lock::Held(file, opened)))
+    } else {
+        Ok(None)
+    }
+}
+
+fn is_same(one: &Metadata, other: &Metadata) -> bool {
+    one.dev() == other.dev() && one.ino() == other.ino()
 }
