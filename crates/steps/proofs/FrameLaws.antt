@@ -12,9 +12,10 @@ use Rattle.cnb_world.specs.Tree.{Tree, item_at, is_root, folder_made}
 use Rattle.cnb_world.specs.Whole.{Progress, Unbegun, FolderMade, PartBeside, written, left_of, LeavesPart}
 use Rattle.cnb_world.proofs.Trees.{get-insert_bytes, get-remove_bytes}
 use Rattle.cnb_world.proofs.Folders.{get-with_folders}
-use Rattle.steps.specs.Causes.{Cause}
+use Rattle.steps.specs.Causes.{Cause, Decided}
 use Rattle.steps.specs.Frames.{folder_paths, touched, is_free, standing, Keeps, Spares}
 use Rattle.steps.specs.Outside.{Seen}
+use Rattle.steps.proofs.EndLaws.{obeys_bind, obeys_told}
 use Rattle.steps.specs.Steps.{LeavesSome, Same, ◌>>=◌, gives, map_err, reads, makes_folder, runs_child, writes, yields}
 
 neither : (a b : Bool) → not (a || b) ≡ true → (a ≡ false) × (b ≡ false)
@@ -87,10 +88,7 @@ keeps_then path a b c first second = record {
 }
 
 pub keeps_bind : {E A B : Type 0} (path : List ℕ) (first : Seen → Result A E → Seen → Type 0) (next : A → Seen → Result B E → Seen → Type 0) → Preserves path first → ((a : A) → Preserves path (next a)) → Preserves path (first >>= next)
-unfolding ◌>>=◌
-keeps_bind path first next p q old new (Ok value) (a, mid, h, k) = keeps_then path old mid new (p old mid (Ok a) h) (q a mid new (Ok value) k)
-keeps_bind path first next p q old new (Err e) (inl h) = p old new (Err e) h
-keeps_bind path first next p q old new (Err e) (inr (a, mid, h, k)) = keeps_then path old mid new (p old mid (Ok a) h) (q a mid new (Err e) k)
+keeps_bind path first next p q = obeys_bind (λ last. Keeps path) (λ fault. Decided) first next (λ last. keeps_then path) p q
 
 still : (path : List ℕ) (old new : Seen) → Same old new → Keeps path old new
 still path old new same = keeps_same path old new same.runs (ap (λ o. standing o path) same.files)
@@ -112,9 +110,7 @@ keeps_yields path want old new (Ok value) h = unmoved path old new h.1
 keeps_yields path want old new (Err fault) h = absurd h
 
 pub keeps_told : {E F A : Type 0} (path : List ℕ) (of : E → F) (step : Seen → Result A E → Seen → Type 0) → Preserves path step → Preserves path (map_err of step)
-unfolding map_err
-keeps_told path of step p old new (Ok value) h = p old new (Ok value) h
-keeps_told path of step p old new (Err refusal) (fault, is, h) = p old new (Err fault) h
+keeps_told path of step p = obeys_told (λ last. Keeps path) (λ fault. Decided) (λ fault. Decided) of step (λ fault. refl) p
 
 pub step_at : (o o1 : Option Tree) (step : Tree → Tree) (q : List ℕ) → ((t : Tree) → item_at (step t) q ≡ item_at t q) → o1 ≡ option_map step o → standing o1 q ≡ standing o q
 step_at None o1 step q same e = ap (λ o. standing o q) e

@@ -1,7 +1,9 @@
 pub mod AnswerLaws
 pub mod AskingLemmas
 pub mod EachLemmas
+pub mod EndLaws
 pub mod FrameLaws
+pub mod OutsideLaws
 pub mod ReadingLaws
 pub mod RemovalLemmas
 pub mod StepLemmas

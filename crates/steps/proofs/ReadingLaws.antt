@@ -4,10 +4,13 @@ use Rattle.std.specs.Prelude.{IfSome}
 use Rattle.std.specs.Option.{option_map}
 use Rattle.cnb_world.specs.Calls.{MayMisuse}
 use Rattle.cnb_world.specs.Tree.{Tree}
-use Rattle.steps.specs.Causes.{Cause, FileFailed, ChildFailed, OutOfMemory, Decided, IsAnswer, WhereDecided}
+use Rattle.steps.specs.Causes.{Cause, FileFailed, ChildFailed, OutOfMemory, Decided, IsAnswer, WhereDecided, ended_by}
+use Rattle.steps.specs.Counts.{FileCounts}
 use Rattle.steps.specs.Outside.{Seen}
+use Rattle.steps.specs.Reading.{ReadFrame}
 use Rattle.steps.specs.Results as results
 use Rattle.steps.specs.Steps.{◌>>=◌, Allows, Same, gives, map_err, reads}
+use Rattle.steps.proofs.EndLaws.{read_ends}
 
 -- what follows a step that only reads
 pub record IsRead {E A : Type 0} (cause_of : E → Cause) (fits : Tree → Bool) (want : Tree → Result A E) (old : Seen) (result : Result A E) (new : Seen) : Type 0 where
@@ -129,3 +132,20 @@ reads_told cause_of cause_of' of fits want step causes p old new (Err refusal) (
     let one = p old new (Err fault) h in
     subst (λ r. IsRead cause_of' fits (λ t. results.with_fault of (want t)) old (Err r) new) (sym is)
     (record { same = one.same; answer = told_where cause_of cause_of' of fault old.files want (causes fault) one.answer; allows = one.allows })
+
+-- what a call that only reads does to the counts
+pub frame_counts : {E A : Type 0} (cause_of : E → Cause) (result : Result A E) (old new : Seen) → ReadFrame cause_of result old new → FileCounts (ended_by cause_of result) old new
+frame_counts cause_of (Ok value) old new frame = record { ends = tt; files = frame.counts; children = frame.children }
+frame_counts cause_of (Err fault) old new frame = record { ends = read_ends new.failed_at (cause_of fault) frame.cause; files = frame.counts; children = frame.children }
+
+-- files that were read by a call that leaves all as it was
+pub read_framed : {E A : Type 0} (cause_of : E → Cause) (fits : Tree → Bool) (want : Tree → Result A E) (result : Result A E) {old new : Seen}
+    → IfSome old.files (λ files. IsAnswer cause_of result (want files)) → ReadFrame cause_of result old new → Allows fits old new → reads cause_of fits want old result new
+unfolding reads
+read_framed cause_of fits want result {old} {new} answer frame allows = record {
+  same = record { files = frame.files; runs = frame.runs };
+  answer = answer;
+  cause = frame.cause;
+  allows = allows;
+  counts = frame_counts cause_of result old new frame;
+}

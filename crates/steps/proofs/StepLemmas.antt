@@ -5,8 +5,9 @@ use Rattle.std.specs.Option.{option_map}
 use Rattle.cnb_world.specs.Calls.{MayMisuse}
 use Rattle.cnb_world.specs.Tree.{Tree}
 use Rattle.cnb_world.specs.Whole.{LeavesPart, can_write, written}
-use Rattle.steps.specs.Causes.{Cause, OutOfMemory, WhereDecided, IsAnswer, IsGivenCause, IsReadCause, IsWriteCause}
+use Rattle.steps.specs.Causes.{Cause, OutOfMemory, ended_by, WhereDecided, IsAnswer, IsGivenCause, IsReadCause, IsWriteCause}
 use Rattle.cnb_world.specs.declared.world.World as world
+use Rattle.steps.specs.Counts.{FileCounts}
 use Rattle.steps.specs.Outside.{Seen, SpawnerSeen, seen}
 use Rattle.steps.specs.Steps.{◌>>=◌, gives, in_world, in_spawners, map_err, reads, writes, yields}
 
@@ -66,24 +67,28 @@ allowed_by fits (Some t) before now e = by (fits t)
     by true = e
     by false = omega (arith, e)
 
+-- memory ran out, and no call was made
+pub uncounted : (old : Seen) (cause : Cause) → cause ≡ OutOfMemory → FileCounts (Some cause) old old
+uncounted old cause is = subst (λ (c : Cause). FileCounts (Some c) old old) (sym is) (record { ends = tt; files = omega arith; children = refl })
+
 -- a write that wasn't begun
 pub not_begun : {E : Type 0} (cause_of : E → Cause) (path : List ℕ) (Says : List ℕ → Type 0) (old : Seen) (fault : E) → cause_of fault ≡ OutOfMemory → writes cause_of path Says old (Err fault) old
 unfolding writes
 not_begun cause_of path Says old fault is =
-    (subst (IsWriteCause path) (sym is) tt, record { files = inl refl; runs = refl; allows = allowed_by (can_write path) old.files old.misused old.misused refl })
+    (subst (IsWriteCause path) (sym is) tt, record { files = inl refl; runs = refl; allows = allowed_by (can_write path) old.files old.misused old.misused refl }, uncounted old (cause_of fault) is)
 
 -- a document that was written, and one whose write was refused
 pub written_so : {W E : Type 0} (ghosts : world.Ghosts W) (cause_of : E → Cause) (path : List ℕ) (Says : List ℕ → Type 0) (bytes : List ℕ) (old new : W)
     → Says bytes → ghosts.tree new ≡ option_map (written path bytes) (ghosts.tree old) → IfSome (ghosts.tree old) (λ files. IsTrue (can_write path files)) → ghosts.runs new ≡ ghosts.runs old
-    → MayMisuse (option_map (can_write path) (ghosts.tree old)) (ghosts.misused old) (ghosts.misused new) → writes cause_of path Says (seen ghosts old) (Ok tt) (seen ghosts new)
+    → MayMisuse (option_map (can_write path) (ghosts.tree old)) (ghosts.misused old) (ghosts.misused new) → FileCounts None (seen ghosts old) (seen ghosts new) → writes cause_of path Says (seen ghosts old) (Ok tt) (seen ghosts new)
 unfolding writes
-written_so ghosts cause_of path Says bytes old new says files fits runs allows = record { bytes = bytes; says = says; files = files; fits = fits; runs = runs; allows = allows }
+written_so ghosts cause_of path Says bytes old new says files fits runs allows counts = record { bytes = bytes; says = says; files = files; fits = fits; runs = runs; allows = allows; counts = counts }
 
 pub write_refused : {W E : Type 0} (ghosts : world.Ghosts W) (cause_of : E → Cause) (path : List ℕ) (Says : List ℕ → Type 0) (bytes : List ℕ) (fault : E) (old new : W)
     → IsWriteCause path (cause_of fault) → Says bytes → LeavesPart (ghosts.tree old) (ghosts.tree new) path bytes → ghosts.runs new ≡ ghosts.runs old
-    → MayMisuse (option_map (can_write path) (ghosts.tree old)) (ghosts.misused old) (ghosts.misused new) → writes cause_of path Says (seen ghosts old) (Err fault) (seen ghosts new)
+    → MayMisuse (option_map (can_write path) (ghosts.tree old)) (ghosts.misused old) (ghosts.misused new) → FileCounts (Some (cause_of fault)) (seen ghosts old) (seen ghosts new) → writes cause_of path Says (seen ghosts old) (Err fault) (seen ghosts new)
 unfolding writes
-write_refused ghosts cause_of path Says bytes fault old new cause says files runs allows = (cause, record { files = inr (bytes, says, files); runs = runs; allows = allows })
+write_refused ghosts cause_of path Says bytes fault old new cause says files runs allows counts = (cause, record { files = inr (bytes, says, files); runs = runs; allows = allows }, counts)
 
 -- a fault that is told as another, for the same cause
 pub cause_told : {E F : Type 0} (cause_of : E → Cause) (cause_of' : F → Cause) (of : E → F) (last : Option (List ℕ)) (fault : E) → cause_of' (of fault) ≡ cause_of fault → IsReadCause last (cause_of fault) → IsReadCause last (cause_of' (of fault))
@@ -92,6 +97,6 @@ cause_told cause_of cause_of' of last fault same h = subst (IsReadCause last) (s
 -- files that were read
 pub read_so : {W E A : Type 0} (ghosts : world.Ghosts W) (cause_of : E → Cause) (fits : Tree → Bool) (want : Tree → Result A E) (result : Result A E) (old new : W)
     → IfSome (ghosts.tree old) (λ files. IsAnswer cause_of result (want files)) → IfErr result (λ fault. IsReadCause (ghosts.failed_at new) (cause_of fault)) → ghosts.tree new ≡ ghosts.tree old → ghosts.runs new ≡ ghosts.runs old
-    → MayMisuse (option_map fits (ghosts.tree old)) (ghosts.misused old) (ghosts.misused new) → reads cause_of fits want (seen ghosts old) result (seen ghosts new)
+    → MayMisuse (option_map fits (ghosts.tree old)) (ghosts.misused old) (ghosts.misused new) → FileCounts (ended_by cause_of result) (seen ghosts old) (seen ghosts new) → reads cause_of fits want (seen ghosts old) result (seen ghosts new)
 unfolding reads
-read_so ghosts cause_of fits want result old new answer cause files runs allows = record { same = record { files = files; runs = runs }; answer = answer; cause = cause; allows = allows }
+read_so ghosts cause_of fits want result old new answer cause files runs allows counts = record { same = record { files = files; runs = runs }; answer = answer; cause = cause; allows = allows; counts = counts }

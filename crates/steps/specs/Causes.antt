@@ -1,5 +1,5 @@
 -- Why a call is refused, whatever its type of refusals is: each has a function that gives the cause.
-use Rattle.std.specs.Prelude.{ℕ, ◌≡◌, ◌≤◌, List, Option, Some, Result, Ok, Err}
+use Rattle.std.specs.Prelude.{ℕ, ◌≡◌, ◌≤◌, List, Option, Some, None, Result, Ok, Err}
 use Rattle.cnb_world.specs.Calls.{Rose}
 
 -- A call on the file at a path failed, a child gave no end, memory ran out, or what was read or answered decides.
@@ -25,17 +25,25 @@ abbrev pub IsAnswer : {A E : Type 0} → (E → Cause) → Result A E → Result
 IsAnswer cause_of (Ok value) want = want ≡ Ok value
 IsAnswer cause_of (Err fault) want = WhereDecided (cause_of fault) (want ≡ Err fault)
 
+-- what ended it, if anything did
+abbrev pub ended_by : {A E : Type 0} → (E → Cause) → Result A E → Option Cause
+ended_by cause_of (Ok value) = None
+ended_by cause_of (Err fault) = Some (cause_of fault)
+
 abbrev pub FilesBy : Cause → ℕ → ℕ → Type 0
 FilesBy (FileFailed path) before now = Rose before now
 FilesBy OutOfMemory before now = before ≤ now
 FilesBy ChildFailed before now = now ≡ before
 FilesBy Decided before now = now ≡ before
 
+abbrev pub FilesEnd : Option Cause → ℕ → ℕ → Type 0
+FilesEnd None before now = now ≡ before
+FilesEnd (Some cause) before now = FilesBy cause before now
+
 -- the count of failed calls on files: a refusal for one comes where the count rose, and the count stays at any other answer
 -- but want of memory
 abbrev pub CountsFiles : {A E : Type 0} → (E → Cause) → Result A E → ℕ → ℕ → Type 0
-CountsFiles cause_of (Ok value) before now = now ≡ before
-CountsFiles cause_of (Err fault) before now = FilesBy (cause_of fault) before now
+CountsFiles cause_of result before now = FilesEnd (ended_by cause_of result) before now
 
 abbrev pub ChildrenBy : Cause → ℕ → ℕ → Type 0
 ChildrenBy ChildFailed before now = Rose before now
@@ -43,10 +51,13 @@ ChildrenBy OutOfMemory before now = before ≤ now
 ChildrenBy (FileFailed path) before now = now ≡ before
 ChildrenBy Decided before now = now ≡ before
 
+abbrev pub ChildrenEnd : Option Cause → ℕ → ℕ → Type 0
+ChildrenEnd None before now = now ≡ before
+ChildrenEnd (Some cause) before now = ChildrenBy cause before now
+
 -- the same of the children that gave no end
 abbrev pub CountsChildren : {A E : Type 0} → (E → Cause) → Result A E → ℕ → ℕ → Type 0
-CountsChildren cause_of (Ok value) before now = now ≡ before
-CountsChildren cause_of (Err fault) before now = ChildrenBy (cause_of fault) before now
+CountsChildren cause_of result before now = ChildrenEnd (ended_by cause_of result) before now
 
 -- What each kind of step may be refused for: reading for a failed call, which is told with the path whose call failed last,
 -- want of memory or what was read;

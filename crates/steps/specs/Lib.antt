@@ -1,6 +1,8 @@
 pub mod Asking
 pub mod Causes
+pub mod Counts
 pub mod Each
+pub mod EitherCounts
 pub mod Frames
 pub mod Outside
 pub mod Reading

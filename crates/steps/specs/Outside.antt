@@ -39,7 +39,7 @@ spawner_seen ghosts s = record { runs = ghosts.runs s; says = ghosts.says s; fau
 abbrev pub spawners_seen : {S : Type 0} → spawner.Ghosts S → List S → List SpawnerSeen
 spawners_seen ghosts spawners = map (spawner_seen ghosts) spawners
 
--- all of it; what caches hold gets a field here, when commands use them
+-- a world and its spawners: of caches each step says itself what they hold
 pub record Outside : Type 0 where
   pub world : Seen
   pub spawners : List SpawnerSeen

@@ -1,12 +1,13 @@
 -- Steps, one after another: each from what is seen before, by an answer, to what is seen after.
-use Rattle.std.specs.Prelude.{ℕ, Bool, not, ◌≡◌, ◌⊎◌, ◌++◌, List, [], ◌∷◌, Option, Result, Ok, Err, IfErr, IfSome, IsTrue}
+use Rattle.std.specs.Prelude.{ℕ, Bool, not, ◌≡◌, ◌⊎◌, ◌++◌, List, [], ◌∷◌, Option, Some, None, Result, Ok, Err, IfErr, IfSome, IsTrue}
 use Rattle.std.specs.Option.{option_map}
 use Rattle.cnb_world.specs.Calls.{MayMisuse, RemovesSome}
 use Rattle.cnb_world.specs.Tree.{Tree, folder_made, can_make_folder, is_root, without}
 use Rattle.cnb_world.specs.Whole.{written, can_write, LeavesPart}
 use Rattle.cnb_world.specs.declared.child.ChildJob.{ChildJob}
 use Rattle.cnb_world.specs.declared.child.End.{End}
-use Rattle.steps.specs.Causes.{Cause, IsAnswer, IsReadCause, IsGivenCause, IsWriteCause, IsRunCause}
+use Rattle.steps.specs.Causes.{Cause, IsAnswer, IsReadCause, IsGivenCause, IsWriteCause, IsRunCause, ended_by}
+use Rattle.steps.specs.Counts.{AllCounts, FileCounts}
 use Rattle.steps.specs.Outside.{Outside, Seen, SpawnerSeen}
 
 -- one step after another: the first refusal ends them
@@ -52,6 +53,7 @@ pub record Reads {E A : Type 0} (cause_of : E → Cause) (fits : Tree → Bool) 
   pub answer : IfSome old.files (λ files. IsAnswer cause_of result (want files))
   pub cause : IfErr result (λ fault. IsReadCause new.failed_at (cause_of fault))
   pub allows : Allows fits old new
+  pub counts : FileCounts (ended_by cause_of result) old new
 
 unfoldable pub reads : {E A : Type 0} → (E → Cause) → (Tree → Bool) → (Tree → Result A E) → Seen → Result A E → Seen → Type 0
 reads cause_of fits want old result new = Reads cause_of fits want old result new
@@ -63,6 +65,7 @@ pub record Writes (path : List ℕ) (Says : List ℕ → Type 0) (old new : Seen
   pub fits : IfSome old.files (λ files. IsTrue (can_write path files))
   pub runs : new.runs ≡ old.runs
   pub allows : Allows (can_write path) old new
+  pub counts : FileCounts None old new
 
 -- all is as it was, or a part of bytes of which this holds stands beside the path
 abbrev pub LeavesSome : List ℕ → (List ℕ → Type 0) → Option Tree → Option Tree → Type 0
@@ -76,7 +79,7 @@ pub record LeavesUnwritten (path : List ℕ) (Says : List ℕ → Type 0) (old n
 -- a document is written whole, with bytes of which this holds
 unfoldable pub writes : {E : Type 0} → (E → Cause) → List ℕ → (List ℕ → Type 0) → Seen → Result (Unit {0}) E → Seen → Type 0
 writes cause_of path Says old (Ok done) new = Writes path Says old new
-writes cause_of path Says old (Err fault) new = IsWriteCause path (cause_of fault) × LeavesUnwritten path Says old new
+writes cause_of path Says old (Err fault) new = IsWriteCause path (cause_of fault) × LeavesUnwritten path Says old new × FileCounts (Some (cause_of fault)) old new
 
 pub record MakesFolder (path : List ℕ) (old new : Seen) : Type 0 where
   pub files : new.files ≡ option_map (folder_made path) old.files
@@ -84,8 +87,8 @@ pub record MakesFolder (path : List ℕ) (old new : Seen) : Type 0 where
 
 -- a folder is made
 unfoldable pub makes_folder : {E : Type 0} → (E → Cause) → List ℕ → Seen → Result (Unit {0}) E → Seen → Type 0
-makes_folder cause_of path old (Ok done) new = MakesFolder path old new × Allows (λ files. can_make_folder files path) old new
-makes_folder cause_of path old (Err fault) new = IsWriteCause path (cause_of fault) × Same old new × Allows (λ files. can_make_folder files path) old new
+makes_folder cause_of path old (Ok done) new = MakesFolder path old new × Allows (λ files. can_make_folder files path) old new × FileCounts None old new
+makes_folder cause_of path old (Err fault) new = IsWriteCause path (cause_of fault) × Same old new × Allows (λ files. can_make_folder files path) old new × FileCounts (Some (cause_of fault)) old new
 
 pub record Removes (path : List ℕ) (old new : Seen) : Type 0 where
   pub files : new.files ≡ option_map (without path) old.files
@@ -97,11 +100,11 @@ pub record RemovesPart (path : List ℕ) (old new : Seen) : Type 0 where
 
 -- what stands at a path, and below it, is removed
 unfoldable pub removes : {E : Type 0} → (E → Cause) → List ℕ → Seen → Result (Unit {0}) E → Seen → Type 0
-removes cause_of path old (Ok done) new = Removes path old new × Allows (λ files. not (is_root path)) old new
+removes cause_of path old (Ok done) new = Removes path old new × Allows (λ files. not (is_root path)) old new × FileCounts None old new
 removes cause_of path old (Err fault) new =
-    IsWriteCause path (cause_of fault) × RemovesPart path old new × Allows (λ files. not (is_root path)) old new
+    IsWriteCause path (cause_of fault) × RemovesPart path old new × Allows (λ files. not (is_root path)) old new × FileCounts (Some (cause_of fault)) old new
 
 -- a child runs: it finds the files as they then are, and what it leaves stands
 unfoldable pub runs_child : {E : Type 0} → (E → Cause) → ChildJob → Seen → Result End E → Seen → Type 0
-runs_child cause_of job old (Ok end) new = (new.misused ≡ old.misused) × (new.runs ≡ old.runs ++ record { job = job; end = end; found = old.files; left = new.files } ∷ [])
-runs_child cause_of job old (Err fault) new = IsRunCause (cause_of fault) × Same old new × (new.misused ≡ old.misused)
+runs_child cause_of job old (Ok end) new = (new.misused ≡ old.misused) × (new.runs ≡ old.runs ++ record { job = job; end = end; found = old.files; left = new.files } ∷ []) × AllCounts None old new
+runs_child cause_of job old (Err fault) new = IsRunCause (cause_of fault) × Same old new × (new.misused ≡ old.misused) × AllCounts (Some (cause_of fault)) old new
