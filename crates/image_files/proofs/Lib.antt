@@ -1,3 +1,4 @@
+pub mod CountLaws
 pub mod PathLemmas
 pub mod ReadLemmas
 pub mod ReadableLaws

@@ -30,8 +30,8 @@ more_left path Says Means means old new (inr (bytes, says, part)) = inr (bytes, 
 writes_as : (path : List ℕ) (Says Means : List ℕ → Type 0) → ((bytes : List ℕ) → Says bytes → Means bytes) → (old : Seen) (result : Result (Unit {0}) ImageFault) (new : Seen)
     → writes cause_of path Says old result new → writes cause_of path Means old result new
 unfolding writes
-writes_as path Says Means means old (Ok done) new h = record { bytes = h.bytes; says = means h.bytes h.says; files = h.files; fits = h.fits; runs = h.runs; allows = h.allows }
-writes_as path Says Means means old (Err fault) new h = (h.0, record { files = more_left path Says Means means old.files new.files h.1.files; runs = h.1.runs; allows = h.1.allows })
+writes_as path Says Means means old (Ok done) new h = record { bytes = h.bytes; says = means h.bytes h.says; files = h.files; fits = h.fits; runs = h.runs; allows = h.allows; counts = h.counts }
+writes_as path Says Means means old (Err fault) new h = (h.0, record { files = more_left path Says Means means old.files new.files h.1.files; runs = h.1.runs; allows = h.1.allows }, h.2)
 
 pub written_readable : (store name : List ℕ) (image : ImageDoc) (old : Seen) (result : Result (Unit {0}) ImageFault) (new : Seen) → IsTrue (is_image_doc image)
     → writes_image store name image old result new → writes_readable_image store name image old result new

@@ -5,13 +5,15 @@ use Rattle.cnb_world.specs.Tree.{Tree}
 use Rattle.cnb_toml.specs.Form.{TableForm}
 use Rattle.doc_files.specs.Faults.{read_cause}
 use Rattle.doc_files.specs.declared.fault.ReadFault.{ReadFault}
-use Rattle.steps.specs.Causes.{Cause, FileFailed, ChildFailed, OutOfMemory, Decided, IsAnswer, IsGivenCause, IsReadCause, WhereDecided}
+use Rattle.steps.specs.Causes.{Cause, FileFailed, ChildFailed, OutOfMemory, Decided, IsAnswer, IsGivenCause, IsReadCause, WhereDecided, FilesBy, ended_by}
 use Rattle.steps.specs.Outside.{Seen}
 use Rattle.steps.specs.Reading.{ReadFrame}
 use Rattle.steps.specs.Results.{and_then, with_fault}
 use Rattle.steps.specs.Steps.{Allows, reads}
+use Rattle.steps.specs.Counts.{FileCounts, IsFileEnd}
+use Rattle.steps.proofs.EndLaws.{files_link, files_rest, given_ends, read_ends}
 use Rattle.steps.proofs.ReadingLaws.{refused_where, where_map}
-use Rattle.steps.proofs.StepLemmas.{allowed_by, cause_told}
+use Rattle.steps.proofs.StepLemmas.{allowed_by, cause_told, uncounted}
 use Rattle.image_files.specs.Documents.{document_in, is_fit_document}
 
 -- a value that is known needs no reading
@@ -43,6 +45,7 @@ nothing_read cause_of fits want fault old is = record {
   answer = unread cause_of want fault old.files is;
   cause = subst (IsReadCause old.failed_at) (sym is) tt;
   allows = allowed_by fits old.files old.misused old.misused refl;
+  counts = uncounted old (cause_of fault) is;
 }
 
 module _ {F : Type 0} (cause_of : F → Cause) (of : ReadFault → F) (same : (fault : ReadFault) → cause_of (of fault) ≡ read_cause fault) where
@@ -56,6 +59,9 @@ module _ {F : Type 0} (cause_of : F → Cause) (of : ReadFault → F) (same : (f
   went want value None h = tt
   went want value (Some files) h = ap (with_fault of) h
 
+  counts_told : {A : Type 0} (fault : ReadFault) (old new : Seen) → ReadFrame {A = A} read_cause (Err fault) old new → FileCounts (Some (cause_of (of fault))) old new
+  counts_told fault old new frame = record { ends = subst (λ (cause : Cause). IsFileEnd (Some cause)) (sym (same fault)) (read_ends new.failed_at (read_cause fault) frame.cause); files = subst (λ (cause : Cause). FilesBy cause old.file_faults new.file_faults) (sym (same fault)) frame.counts; children = frame.children }
+
   -- files that were read, and files whose reading was refused
   pub files_read : {A : Type 0} (fits : Tree → Bool) (want : Tree → Result A ReadFault) (value : A) {old new : Seen}
       → IfSome old.files (λ files. IsAnswer read_cause (Ok value) (want files)) → ReadFrame read_cause (Ok value) old new → Allows fits old new → reads cause_of fits (λ files. with_fault of (want files)) old (Ok value) new
@@ -65,6 +71,7 @@ module _ {F : Type 0} (cause_of : F → Cause) (of : ReadFault → F) (same : (f
     answer = went want value old.files answer;
     cause = tt;
     allows = allows;
+    counts = record { ends = tt; files = frame.counts; children = frame.children };
   }
 
   pub files_refused : {A : Type 0} (fits : Tree → Bool) (want : Tree → Result A ReadFault) (fault : ReadFault) {old new : Seen}
@@ -75,6 +82,7 @@ module _ {F : Type 0} (cause_of : F → Cause) (of : ReadFault → F) (same : (f
     answer = told want fault old.files answer;
     cause = cause_told read_cause cause_of of new.failed_at fault (same fault) frame.cause;
     allows = allows;
+    counts = counts_told fault old new frame;
   }
 
   module _ {A B : Type 0} (form : TableForm A) (next : List ℕ → Option A → Result B F) where
@@ -90,6 +98,7 @@ module _ {F : Type 0} (cause_of : F → Cause) (of : ReadFault → F) (same : (f
       answer = refused_where cause_of old.files (λ files. with_fault of (document_in form path files)) (λ value files. next path value) (of fault) (told (document_in form path) fault old.files answer);
       cause = cause_told read_cause cause_of of new.failed_at fault (same fault) frame.cause;
       allows = allows;
+      counts = counts_told fault old new frame;
     })
 
     pub document_read : {path at : List ℕ} (value : Option A) (result : Result B F) {old new : Seen} → path ≡ at → IfSome old.files (λ files. IsAnswer read_cause (Ok value) (document_in form path files)) → ReadFrame read_cause (Ok value) old new
@@ -100,4 +109,5 @@ module _ {F : Type 0} (cause_of : F → Cause) (of : ReadFault → F) (same : (f
       answer = decided_by cause_of (λ files. with_fault of (document_in form path files)) (next path) old.files value result (went (document_in form path) value old.files answer) given;
       cause = given_causes cause_of new.failed_at result cause;
       allows = allows;
+      counts = files_link (ended_by cause_of result) old new new (record { ends = tt; files = frame.counts; children = frame.children }) (given_ends FileCounts cause_of result new files_rest cause);
     })

@@ -55,6 +55,10 @@ writes_readable_image store name image = writes cause_of (image_path store name)
 unfoldable pub writes_readable_run_image : List ℕ → List ℕ → RunDoc → Seen → Result (Unit {0}) ImageFault → Seen → Type 0
 writes_readable_run_image store name image = writes cause_of (run_path store name) (λ bytes. run_in bytes ≡ Ok image)
 
+-- where the files are told, the document at a path reads as this value
+abbrev pub ReadsAs : {A : Type 0} → (List ℕ → Result A DocFault) → List ℕ → A → Option Tree → Type 0
+ReadsAs form path value files = IfSome files (λ tree. form (bytes_of (item_at tree path)) ≡ Ok value)
+
 -- where the files are told, the document at a path reads as one of this form
 abbrev pub Stands : {A : Type 0} → (List ℕ → Result A DocFault) → List ℕ → Option Tree → Type 0
 Stands form path files = IfSome files (λ tree. IsOk (form (bytes_of (item_at tree path))))

@@ -1,6 +1,6 @@
 // The images of a store that are read.
-ghost use Rattle.std.specs.Prelude.{◌≡◌, ◌≤◌, ℕ, IfErr, IfOk, IsTrue, Some, length};
-ghost use Rattle.steps.specs.Causes.{CountsFiles, IsAnswer, IsGivenCause};
+ghost use Rattle.std.specs.Prelude.{◌≡◌, ◌≤◌, IfErr, IfOk, IsTrue, Some, length};
+ghost use Rattle.steps.specs.Causes.{IsAnswer, IsGivenCause};
 ghost use Rattle.steps.specs.Outside.{seen};
 ghost use Rattle.image_docs.specs.Image.{image_table_in, is_image_doc};
 ghost use Rattle.image_docs.specs.RunImage.{is_run_doc};
@@ -21,7 +21,6 @@ fn named<T: Drop>(alloc: Global, name: &ImageName, found: Option<T>) -> Result<T
     ensures answer { IsAnswer cause_of result (named name.now found) }
     ensures same { IfOk result (λ image. found ≡ Some image) }
     ensures cause { IfErr result (λ fault. IsGivenCause (cause_of fault)) }
-    ensures files { (n : ℕ) → CountsFiles cause_of result n n }
 {
     match found {
         Some(image) => Ok(image),
@@ -40,8 +39,6 @@ pub fn read_image<W: World>(
     ensures step { reads_image store.now name.now (seen W.World world.old) result (seen W.World world.new) }
     ensures read { IfOk result (IsRead image_table_in) }
     ensures readable { IfOk result (λ image. IsTrue (is_image_doc image)) }
-    ensures files { CountsFiles cause_of result (W.file_faults world.old) (W.file_faults world.new) }
-    ensures children { W.child_faults world.new ≡ W.child_faults world.old }
 {
     let path = image_path(alloc, store, name)?;
     let found = find_document::<W, ImageDoc>(alloc, world, &path)?;
@@ -59,8 +56,6 @@ pub fn read_run_image<W: World>(
     requires { length store.now ≤ 4096 }
     ensures step { reads_run_image store.now name.now (seen W.World world.old) result (seen W.World world.new) }
     ensures readable { IfOk result (λ image. IsTrue (is_run_doc image)) }
-    ensures files { CountsFiles cause_of result (W.file_faults world.old) (W.file_faults world.new) }
-    ensures children { W.child_faults world.new ≡ W.child_faults world.old }
 {
     let path = run_path(alloc, store, name)?;
     let found = find_document::<W, RunDoc>(alloc, world, &path)?;

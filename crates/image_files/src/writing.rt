@@ -1,8 +1,6 @@
 // The images of a store that are written.
-ghost use Rattle.std.specs.Prelude.{◌≡◌, ◌≤◌, IfOk, length};
-ghost use Rattle.steps.specs.Causes.{CountsFiles};
+ghost use Rattle.std.specs.Prelude.{◌≤◌, IfOk, length};
 ghost use Rattle.steps.specs.Outside.{seen};
-ghost use Rattle.image_files.specs.Faults.{cause_of};
 ghost use Rattle.image_files.specs.Images.{ReadsAsImage, ReadsAsRunImage, writes_image, writes_run_image};
 
 use crate::fault::ImageFault;
@@ -36,8 +34,6 @@ pub fn save_image<W: World>(
     requires { length store.now ≤ 4096 }
     ensures step { writes_image store.now name.now image.now
         (seen W.World world.old) result (seen W.World world.new) }
-    ensures files { CountsFiles cause_of result (W.file_faults world.old) (W.file_faults world.new) }
-    ensures children { W.child_faults world.new ≡ W.child_faults world.old }
 {
     let bytes = image_bytes(alloc, image)?;
     let folder = images_folder(alloc, store)?;
@@ -57,8 +53,6 @@ pub fn save_run_image<W: World>(
     requires { length store.now ≤ 4096 }
     ensures step { writes_run_image store.now name.now image.now
         (seen W.World world.old) result (seen W.World world.new) }
-    ensures files { CountsFiles cause_of result (W.file_faults world.old) (W.file_faults world.new) }
-    ensures children { W.child_faults world.new ≡ W.child_faults world.old }
 {
     let bytes = run_image_bytes(alloc, image)?;
     let folder = runs_folder(alloc, store)?;
