@@ -23,7 +23,7 @@ use Rattle.tree_store.proofs.Places.{above_child, child_not_root, is_at_or_below
 -- ---- the folders above a path
 
 -- a path lies in each of them
-above_begins : (front rest q : List ℕ) → list_any (bytes_eq q) (folders_from front rest) ≡ true → starts_with nat_eq (front ++ rest) (q ++ 47 ∷ []) ≡ true
+pub above_begins : (front rest q : List ℕ) → list_any (bytes_eq q) (folders_from front rest) ≡ true → starts_with nat_eq (front ++ rest) (q ++ 47 ∷ []) ≡ true
 above_begins front [] q h = absurd (cc)
 above_begins front (c ∷ cs) q h = by (c == 47) refl (not (bytes_eq front [])) h (above_begins (front ++ c ∷ []) cs q)
   where

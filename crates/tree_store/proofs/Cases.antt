@@ -61,7 +61,7 @@ fits_deep node depth fit = by (cased node)
     by (AFile exec bytes is) = leb-true depth 64 (sym (ap (λ n. fits n depth) is ∙ fits_file exec bytes depth) ∙ fit)
     by (ALink target is) = leb-true depth 64 (and_parts (nat_le depth 64) (is_target target) (sym (ap (λ n. fits n depth) is ∙ fits_link target depth) ∙ fit)).0
 
-target_of : (target : List ℕ) (depth : ℕ) → fits (Link target) depth ≡ true → is_target target ≡ true
+pub target_of : (target : List ℕ) (depth : ℕ) → fits (Link target) depth ≡ true → is_target target ≡ true
 target_of target depth fit = (and_parts (nat_le depth 64) (is_target target) (sym (fits_link target depth) ∙ fit)).1
 
 pub folder_count : (all : List Named) (depth : ℕ) → fits (Folder all) depth ≡ true → length all < 2 ^ 32
@@ -160,7 +160,7 @@ next_of depth (e ∷ es) left count some fit =
     let p = fits_cons fit.last e es depth fit.fit in
     record { entry = e; others = es; is = refl; name = (and_parts (is_name e.name) (follows fit.last e.name) p.0).0; node = p.1; fit = record { last = Some e.name; fit = p.2 } }
 
-next_bytes : (more : List Named) (e : Named) (es : List Named) (rest : List ℕ) → more ≡ e ∷ es → entry_bytes e ++ (entries_bytes es ++ rest) ≡ entries_bytes more ++ rest
+pub next_bytes : (more : List Named) (e : Named) (es : List Named) (rest : List ℕ) → more ≡ e ∷ es → entry_bytes e ++ (entries_bytes es ++ rest) ≡ entries_bytes more ++ rest
 next_bytes more e es rest is = sym (ap (λ m. entries_bytes m ++ rest) is ∙ append_assoc (entry_bytes e) (entries_bytes es) rest)
 
 -- laid, it leaves one less

@@ -32,6 +32,7 @@ use Rattle.tree_store.specs.Steps.{checks_tree, gets_tree}
 use Rattle.tree_store.specs.Digests.{HasTree}
 use Rattle.tree_store.specs.Store.{tree_path, Gets}
 use Rattle.tree_store.proofs.CallSteps.{got}
+use Rattle.tree_store.proofs.CountLaws.{counted}
 use Rattle.tree_store.proofs.Feeding.{fed_on, fed_broken, ended_badly}
 use Rattle.tree_store.proofs.Kept.{Taken, contents}
 
@@ -116,6 +117,6 @@ pub checked_so : {W : Type 0} (ghosts : world.Ghosts W) (store digest : List ℕ
 unfolding checks_tree
 checked_so ghosts store digest (Ok done) old new answer blames frame allows =
     let root = got_some (ghosts.tree old) (tree_path store digest) digest answer in
-    went (gets_tree store digest) (λ tree. yields tt) (seen ghosts old) (seen ghosts new) (seen ghosts new) root.0 (Ok done) (got ghosts store digest (Ok root.0) old new root.1 tt tt frame.files frame.runs allows) (yielded StoreFault tt (seen ghosts new))
+    went (gets_tree store digest) (λ tree. yields tt) (seen ghosts old) (seen ghosts new) (seen ghosts new) root.0 (Ok done) (got ghosts store digest (Ok root.0) old new root.1 tt tt frame.files frame.runs allows (counted (Ok root.0) (seen ghosts old) (seen ghosts new) frame.counts frame.children)) (yielded StoreFault tt (seen ghosts new))
 checked_so ghosts store digest (Err fault) old new answer blames frame allows =
-    ended (gets_tree store digest) (λ tree. yields tt) (seen ghosts old) (seen ghosts new) fault (got ghosts store digest (Err fault) old new answer frame.cause blames frame.files frame.runs allows)
+    ended (gets_tree store digest) (λ tree. yields tt) (seen ghosts old) (seen ghosts new) fault (got ghosts store digest (Err fault) old new answer frame.cause blames frame.files frame.runs allows (counted {A = Node} (Err fault) (seen ghosts old) (seen ghosts new) frame.counts frame.children))

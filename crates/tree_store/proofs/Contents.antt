@@ -47,7 +47,7 @@ one_right exec written path o o1 result a b plain is counts = right (λ t. can_r
     by None e = subst (λ x. IfSome x (λ files. IsTrue (can_read files path))) (sym e) tt
     by (Some files) e = subst (λ x. IfSome x (λ files. IsTrue (can_read files path))) (sym e) (stands exec written path files plain)
 
-one_more : (exec : Bool) (written piece path : List ℕ) (o a b c : Option Tree) → a ≡ option_map (file_laid exec written path) o → b ≡ option_map (λ files. files) a → c ≡ option_map (appended path piece) b → c ≡ option_map (file_laid exec (written ++ piece) path) o
+pub one_more : (exec : Bool) (written piece path : List ℕ) (o a b c : Option Tree) → a ≡ option_map (file_laid exec written path) o → b ≡ option_map (λ files. files) a → c ≡ option_map (appended path piece) b → c ≡ option_map (file_laid exec (written ++ piece) path) o
 one_more exec written piece path None a b c e f g = g ∙ ap (option_map (appended path piece)) (f ∙ ap (option_map (λ files. files)) e)
 one_more exec written piece path (Some files) a b c e f g = g ∙ ap (option_map (appended path piece)) (f ∙ ap (option_map (λ files. files)) e) ∙ ap Some (appended-set path written piece exec (without path files))
 

@@ -6,9 +6,11 @@ use Rattle.sha2.specs.Sha256.{sha256}
 use Rattle.cnb_world.specs.Calls.{MayMisuse}
 use Rattle.cnb_world.specs.Tree.{Tree, is_file_or_absent, is_within, item_at}
 use Rattle.cnb_world.proofs.Misuse.{both}
-use Rattle.steps.specs.Causes.{CountsFiles, IsAnswer, WhereDecided}
+use Rattle.steps.specs.Causes.{IsAnswer, WhereDecided, ended_by}
+use Rattle.steps.specs.Counts.{FileCounts}
 use Rattle.steps.specs.Outside.{Seen}
 use Rattle.steps.specs.Steps.{reads}
+use Rattle.steps.proofs.EndLaws.{files_link, files_rest}
 use Rattle.steps.proofs.ReadingLaws.{where_map}
 use Rattle.tree_canon.specs.Spelling.{spelling_of}
 use Rattle.tree_canon.specs.declared.node.Node.{Node}
@@ -22,6 +24,7 @@ use Rattle.tree_store.specs.Writing.{IsCleared, IsClearedOf, KeptFile, LeavesNew
 use Rattle.tree_store.specs.declared.fault.StoreFault.{StoreFault}
 use Rattle.tree_store.specs.declared.fault.StoreFault.TheVariants.{OddFile, Limit, File, NoTree, Damaged, Clash, Memory}
 use Rattle.tree_store.specs.declared.writing.Writer.{Writer}
+use Rattle.tree_store.proofs.CountLaws.{counted}
 use Rattle.tree_store.proofs.Around.{kept_itself}
 use Rattle.tree_store.proofs.NewPlace.{place_itself}
 use Rattle.tree_store.proofs.Puts.{free_keeps, unless_free}
@@ -93,7 +96,7 @@ none_begun store path before x y same = same_right before (can_put_folder store 
 -- the file could not be begun
 pub not_begun : {A : Type 0} (store path : List ℕ) {a b : Seen} {fault : StoreFault} → NewFrame {A = A} (new_path store) a (Err fault) b → IsTrue (is_free fault) → BlamesWithin (trees_of store) fault → MayMisuse (option_map (can_begin store) a.files) a.misused b.misused → puts_folder store path a (Err fault) b
 unfolding puts_folder
-not_begun store path {a} {b} {fault} frame free blames may = record {
+not_begun {A} store path {a} {b} {fault} frame free blames may = record {
   answer = free_puts a.files store path fault free;
   leaves = (frame.around.files, unless_free fault (IsCleared store b.files ⊎ (b.files ≡ a.files)) free);
   place = frame.place;
@@ -101,6 +104,7 @@ not_begun store path {a} {b} {fault} frame free blames may = record {
   cause = frame.cause;
   runs = frame.around.runs;
   allows = rest_allowed store path a.files a.misused b.misused b.misused may refl;
+  counts = counted {A = A} (Err fault) a b frame.counts frame.children;
 }
 
 -- what was written is removed
@@ -128,6 +132,7 @@ no_memory store path a = record {
   cause = tt;
   runs = refl;
   allows = none_begun store path a.files a.misused a.misused refl;
+  counts = files_rest.memory a;
 }
 
 -- what was read refuses it
@@ -142,6 +147,7 @@ walk_refused {store} {path} {writer} {after} {a} {b} {c} {d} {fault} {answered} 
   cause = all.cause;
   runs = all.around.runs;
   allows = rest_allowed store path a.files a.misused b.misused d.misused may (clear.right ∙ right);
+  counts = counted {A = Unit {0}} (Err answered) a d all.counts all.children;
 }
   where
     walked : NewFrame {A = Unit {0}} (new_path store) b (Err fault) c
@@ -179,6 +185,7 @@ tree_named path {store} {bytes} {a} {b} {c} {result} tree is read may frame puts
   cause = frame.cause;
   runs = frame.runs;
   allows = both (can_begin store) (λ files. can_name store (tree_in path files) files) a.files a.files a.misused b.misused c.misused refl may (named_right store path bytes tree a.files b.misused c.misused is read puts.named.right);
+  counts = counted result a c frame.counts frame.children;
 }
   where
     leaves : (r : Result (List ℕ) StoreFault) → OnErr r (KeptAround (new_path store) a.files c.files) → IfOk r (λ digest. digest ≡ sha256 bytes) → OnOk (done_of r) (c.files ≡ option_map (bytes_put store bytes) a.files) → IfErr (done_of r) (λ fault. WhereDecided (cause_of fault) (IsCleared store c.files)) → LeavesFolder store path a r c
@@ -205,21 +212,19 @@ read_refused store path a b fault read blames = record {
   cause = read.cause;
   runs = read.same.runs;
   allows = none_begun store path a.files a.misused b.misused (same_count a.files a.misused b.misused read.allows);
+  counts = read.counts;
 }
 
 -- ---- what the whole walk leaves
-
-pub walk_frame : {A : Type 0} {store path : List ℕ} {w : Writer} {writer after : Writer} {a b c d : Seen} {fault answered : StoreFault} → writer.path ≡ new_path store → NewFrame {A = Writer} (new_path store) a (Ok w) b → LeavesNew {A = ℕ} path writer b (Err fault) after c → IsClearedOf fault store c answered d → NewFrame {A = A} (new_path store) a (Err answered) d
-walk_frame {A} {store} {w = w} {writer} {a = a} {b} {c} {d} {fault} {answered} at begun leaves clear = frame_stop {A = Unit {0}} {B = A} (clear.frame a (frame_then begun (frame_stop {A = ℕ} {B = Unit {0}} (subst (λ f. NewFrame {A = ℕ} f b (Err fault) c) at leaves.frame))))
 
 pub put_frames : {A : Type 0} {store path : List ℕ} {w : Writer} {writer after : Writer} {v : A} {a b c d : Seen} {r : Result (List ℕ) StoreFault} → writer.path ≡ new_path store → NewFrame {A = Writer} (new_path store) a (Ok w) b → LeavesNew {A = A} path writer b (Ok v) after c → PutFrame store c r d → PutFrame store a r d
 put_frames {A} {store} {w = w} {writer} {v = v} {a = a} {b} {c} {d} at begun leaves put = put_frame_then (frame_then begun (subst (λ f. NewFrame {A = A} f b (Ok v) c) at leaves.frame)) put
 
 -- ---- behind a step that changed nothing
 
-folder_from : (store path : List ℕ) (a b c : Seen) (r : Result (List ℕ) StoreFault) → b.files ≡ a.files → b.runs ≡ a.runs → b.misused ≡ a.misused → puts_folder store path b r c → puts_folder store path a r c
+folder_from : (store path : List ℕ) (a b c : Seen) (r : Result (List ℕ) StoreFault) → b.files ≡ a.files → b.runs ≡ a.runs → b.misused ≡ a.misused → FileCounts None a b → puts_folder store path b r c → puts_folder store path a r c
 unfolding puts_folder
-folder_from store path a b c r files runs misused h = record {
+folder_from store path a b c r files runs misused counts h = record {
   answer = subst (λ o. IfSome o (λ files. PutsRead store (tree_in path files) files r)) files h.answer;
   leaves = leaves r h.leaves;
   place = subst (λ o. OnErr r (KeptFile (new_path store) o c.files)) files h.place;
@@ -227,6 +232,7 @@ folder_from store path a b c r files runs misused h = record {
   cause = h.cause;
   runs = h.runs ∙ runs;
   allows = subst (λ n. MayMisuse (option_map (can_put_folder store path) a.files) n c.misused) misused (subst (λ o. MayMisuse (option_map (can_put_folder store path) o) b.misused c.misused) files h.allows);
+  counts = files_link (ended_by cause_of r) a b c counts h.counts;
 }
   where
     stays : IsCleared store c.files ⊎ (c.files ≡ b.files) → IsCleared store c.files ⊎ (c.files ≡ a.files)
@@ -239,12 +245,8 @@ folder_from store path a b c r files runs misused h = record {
 
 pub read_then : (store path : List ℕ) (a b c : Seen) (tree : Node) (r : Result (List ℕ) StoreFault) → reads_tree path a (Ok tree) b → puts_folder store path b r c → puts_folder store path a r c
 unfolding reads_tree reads
-read_then store path a b c tree r read h = folder_from store path a b c r read.same.files read.same.runs (same_count a.files a.misused b.misused read.allows) h
+read_then store path a b c tree r read h = folder_from store path a b c r read.same.files read.same.runs (same_count a.files a.misused b.misused read.allows) read.counts h
 
 pub read_still : (path : List ℕ) (a b : Seen) (tree : Node) → reads_tree path a (Ok tree) b → IfSome b.files (λ files. tree_in path files ≡ Ok tree)
 unfolding reads_tree reads
 read_still path a b tree read = subst (λ o. IfSome o (λ files. tree_in path files ≡ Ok tree)) (sym read.same.files) read.answer
-
--- a count, behind one that stayed
-pub counts_behind : {A : Type 0} {x y : ℕ} (z : ℕ) (r : Result A StoreFault) → y ≡ x → CountsFiles cause_of r y z → CountsFiles cause_of r x z
-counts_behind z r same h = subst (λ n. CountsFiles cause_of r n z) same h

@@ -7,6 +7,7 @@ pub mod CallSteps
 pub mod Cases
 pub mod Checked
 pub mod Contents
+pub mod CountLaws
 pub mod Entries
 pub mod Feeding
 pub mod Fit
@@ -14,6 +15,9 @@ pub mod Fitting
 pub mod Kept
 pub mod Laid
 pub mod Overlays
+pub mod Partly
+pub mod PartlyLaid
+pub mod KeptPartly
 pub mod Places
 pub mod Pieces
 pub mod Puts

@@ -42,16 +42,16 @@ use Rattle.tree_store.proofs.Places.{is_at_or_below, or_parts, above_child, belo
 abbrev pub items_in : List Named → List ℕ → List Given
 items_in es path = all_given (map items_of_entry es) path
 
-items_folder : (es : List Named) (path : List ℕ) → items_of (Folder es) path ≡ folder_at path ++ items_in es path
+pub items_folder : (es : List Named) (path : List ℕ) → items_of (Folder es) path ≡ folder_at path ++ items_in es path
 items_folder es path = ap (λ (f : Giving). f path) (ap items_of (sym (rolls-Folder es)) ∙ fold-roll-Node Giving Giving give_step give_entry_step (layer.Folder es))
 
-items_file : (exec : Bool) (bytes path : List ℕ) → items_of (File exec bytes) path ≡ (path, item.File exec bytes) ∷ []
+pub items_file : (exec : Bool) (bytes path : List ℕ) → items_of (File exec bytes) path ≡ (path, item.File exec bytes) ∷ []
 items_file exec bytes path = ap (λ (f : Giving). f path) (ap items_of (sym (rolls-File exec bytes)) ∙ fold-roll-Node Giving Giving give_step give_entry_step (layer.File exec bytes))
 
-items_link : (target path : List ℕ) → items_of (Link target) path ≡ (path, item.Link target) ∷ []
+pub items_link : (target path : List ℕ) → items_of (Link target) path ≡ (path, item.Link target) ∷ []
 items_link target path = ap (λ (f : Giving). f path) (ap items_of (sym (rolls-Link target)) ∙ fold-roll-Node Giving Giving give_step give_entry_step (layer.Link target))
 
-items_entry : (e : Named) (path : List ℕ) → items_of_entry e path ≡ items_of e.node (joined path e.name)
+pub items_entry : (e : Named) (path : List ℕ) → items_of_entry e path ≡ items_of e.node (joined path e.name)
 items_entry e path = ap (λ (f : Giving). f path) (fold_out-Named Giving Giving give_step give_entry_step e)
 
 -- ---- items behind items

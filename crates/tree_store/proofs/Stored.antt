@@ -14,9 +14,11 @@ use Rattle.cnb_world.specs.declared.world.FileFault.{FileFault}
 use Rattle.cnb_world.specs.declared.world.Item.{Item}
 use Rattle.cnb_world.specs.declared.world.Item.TheVariants as item
 use Rattle.cnb_world.specs.declared.world.World as world
-use Rattle.steps.specs.Causes.{Cause, FileFailed, ChildFailed, OutOfMemory, Decided, FilesBy}
+use Rattle.steps.specs.Causes.{Cause, FileFailed, ChildFailed, OutOfMemory, Decided, FilesBy, ended_by}
+use Rattle.steps.specs.Counts.{FileCounts}
 use Rattle.steps.specs.Outside.{Seen, seen}
 use Rattle.steps.specs.Reading.{ReadFrame}
+use Rattle.steps.proofs.EndLaws.{files_rest}
 use Rattle.steps.proofs.StepLemmas.{ended, went}
 use Rattle.tree_canon.specs.Fits.{fits}
 use Rattle.tree_canon.specs.Spelling.{limit, magic, node_bytes}
@@ -28,13 +30,16 @@ use Rattle.tree_store.specs.Checking.{Checks}
 use Rattle.tree_store.specs.Laying.{folder_laid, laid_under, node_laid, tree_steps}
 use Rattle.tree_store.specs.Overlay.{IsPlaced, parts_of, tree_laid, way_parts}
 use Rattle.tree_store.specs.Right.{way_to}
+use Rattle.tree_store.specs.Partly.{LaidPartly, items_placed}
 use Rattle.tree_store.specs.Steps.{IsCauseWithin, IsKeptCause, can_lay, gets_tree, lays_kept, lays_stored, lays_tree}
 use Rattle.tree_store.specs.Store.{Gets, tree_path}
 use Rattle.tree_store.specs.declared.fault.StoreFault.{StoreFault}
 use Rattle.tree_store.specs.declared.fault.StoreFault.TheVariants.{OddFile, Limit, File, NoTree, Damaged, Clash, Memory}
 use Rattle.tree_store.specs.declared.kept_bytes.KeptBytes.{KeptBytes}
 use Rattle.tree_store.proofs.CallSteps.{got}
+use Rattle.tree_store.proofs.CountLaws.{counted}
 use Rattle.tree_store.proofs.Checked.{got_some}
+use Rattle.tree_store.proofs.KeptPartly.{partly_untold}
 use Rattle.tree_store.proofs.Overlays.{laid_where, plain_placed}
 use Rattle.tree_store.proofs.Right.{laid_right, made_right, way_made}
 
@@ -155,16 +160,20 @@ untold_cause root file o (Clash digest) none blames = none
 
 kept_step : (store digest root place : List ℕ) (tree : Node) (source after : KeptBytes) (old new : Seen) (result : Result (Unit {0}) StoreFault)
     → source.path ≡ tree_path store digest → IsBegun source digest → IfSome old.files (λ files. Gets digest (item_at files (tree_path store digest)) (Ok tree))
-    → Leaves root source old result after new → ((node : Node) → fits node 0 ≡ true → Ahead source old.files (node_bytes node) → LaysTree root place node old result after new) → lays_kept store digest root place tree old result new
+    → Leaves root source old result after new → ((node : Node) → fits node 0 ≡ true → Ahead source old.files (node_bytes node) → LaysTree root place node old result after new)
+    → ((node : Node) → fits node 0 ≡ true → Ahead source old.files (node_bytes node) → LaidPartly root (items_placed root place node) old.files new.files) → lays_kept store digest root place tree old result new
 unfolding lays_kept
-kept_step store digest root place tree source after old new result is begun gets leaves lays = by result leaves (told source (tree_path store digest) digest old.files tree is begun gets) (lays tree)
+kept_step store digest root place tree source after old new result is begun gets leaves lays parts = by result leaves (told source (tree_path store digest) digest old.files tree is begun gets) (lays tree)
   where
+    counts : (result : Result (Unit {0}) StoreFault) → Leaves root source old result after new → FileCounts (ended_by cause_of result) old new
+    counts result leaves = counted result old new leaves.counts leaves.children
+
     by : (result : Result (Unit {0}) StoreFault) → Leaves root source old result after new → (old.files ≡ None) ⊎ (Ahead source old.files (node_bytes tree) × (fits tree 0 ≡ true)) → (fits tree 0 ≡ true → Ahead source old.files (node_bytes tree) → LaysTree root place tree old result after new)
         → lays_kept store digest root place tree old result new
-    by (Ok done) leaves (inl none) lays = (none_files root old.files new.files (tree_laid root place tree) none leaves.around.files, leaves.around, none_allowed old.files (can_lay root place tree) old.misused new.misused none leaves.untold)
-    by (Ok done) leaves (inr (ahead, fit)) lays = let laid = lays fit ahead in (laid.files, leaves.around, laid.allows)
-    by (Err fault) leaves (inl none) lays = (untold_cause root (tree_path store digest) old.files fault none (subst (λ f. BlamesEither root f fault) is leaves.blames), leaves.around, none_allowed old.files (can_lay root place tree) old.misused new.misused none leaves.untold)
-    by (Err fault) leaves (inr (ahead, fit)) lays = let laid = lays fit ahead in (free_cause root (tree_path store digest) old.files fault laid.free (subst (λ f. BlamesEither root f fault) is leaves.blames), leaves.around, laid.allows)
+    by (Ok done) leaves (inl none) lays = (none_files root old.files new.files (tree_laid root place tree) none leaves.around.files, leaves.around, none_allowed old.files (can_lay root place tree) old.misused new.misused none leaves.untold, counts (Ok done) leaves)
+    by (Ok done) leaves (inr (ahead, fit)) lays = let laid = lays fit ahead in (laid.files, leaves.around, laid.allows, counts (Ok done) leaves)
+    by (Err fault) leaves (inl none) lays = (untold_cause root (tree_path store digest) old.files fault none (subst (λ f. BlamesEither root f fault) is leaves.blames), leaves.around, none_allowed old.files (can_lay root place tree) old.misused new.misused none leaves.untold, counts (Err fault) leaves, partly_untold root root (items_placed root place tree) old.files new.files none leaves.around.files)
+    by (Err fault) leaves (inr (ahead, fit)) lays = let laid = lays fit ahead in (free_cause root (tree_path store digest) old.files fault laid.free (subst (λ f. BlamesEither root f fault) is leaves.blames), leaves.around, laid.allows, counts (Err fault) leaves, parts tree fit ahead)
 
 -- ---- the digest of what was laid
 
@@ -206,20 +215,21 @@ pub not_judged : {W : Type 0} (ghosts : world.Ghosts W) (store digest root place
     → lays_stored store digest root place (seen ghosts old) (Err fault) (seen ghosts new)
 unfolding lays_stored
 not_judged ghosts store digest root place fault old new answer blames frame allows =
-    ended (gets_tree store digest) (lays_kept store digest root place) (seen ghosts old) (seen ghosts new) fault (got ghosts store digest (Err fault) old new answer frame.cause blames frame.files frame.runs allows)
+    ended (gets_tree store digest) (lays_kept store digest root place) (seen ghosts old) (seen ghosts new) fault (got ghosts store digest (Err fault) old new answer frame.cause blames frame.files frame.runs allows (counted {A = Node} (Err fault) (seen ghosts old) (seen ghosts new) frame.counts frame.children))
 
 pub judged_and_laid : {W : Type 0} (ghosts : world.Ghosts W) (store digest root place : List ℕ) (done : Unit {0}) (source after : KeptBytes) (old mid new : W) (result : Result (Unit {0}) StoreFault)
     → IfSome (ghosts.tree old) (λ files. Checks digest (item_at files (tree_path store digest)) (Ok done)) → ReadFrame cause_of (Ok done) (seen ghosts old) (seen ghosts mid)
     → MayMisuse (option_map (λ files. is_file_or_absent (item_at files (tree_path store digest))) (ghosts.tree old)) (ghosts.misused old) (ghosts.misused mid)
     → source.path ≡ tree_path store digest → IsBegun source digest
     → Leaves root source (seen ghosts mid) result after (seen ghosts new) → ((node : Node) → fits node 0 ≡ true → Ahead source (ghosts.tree mid) (node_bytes node) → LaysTree root place node (seen ghosts mid) result after (seen ghosts new))
+    → ((node : Node) → fits node 0 ≡ true → Ahead source (ghosts.tree mid) (node_bytes node) → LaidPartly root (items_placed root place node) (ghosts.tree mid) (ghosts.tree new))
     → lays_stored store digest root place (seen ghosts old) result (seen ghosts new)
 unfolding lays_stored
-judged_and_laid ghosts store digest root place done source after old mid new result answer frame allows is begun leaves lays =
+judged_and_laid ghosts store digest root place done source after old mid new result answer frame allows is begun leaves lays parts =
     let tree = got_some (ghosts.tree old) (tree_path store digest) digest answer in
     went (gets_tree store digest) (lays_kept store digest root place) (seen ghosts old) (seen ghosts mid) (seen ghosts new) tree.0 result
-    (got ghosts store digest (Ok tree.0) old mid tree.1 tt tt frame.files frame.runs allows)
-    (kept_step store digest root place tree.0 source after (seen ghosts mid) (seen ghosts new) result is begun (subst (λ o. IfSome o (λ files. Gets digest (item_at files (tree_path store digest)) (Ok tree.0))) (sym frame.files) tree.1) leaves lays)
+    (got ghosts store digest (Ok tree.0) old mid tree.1 tt tt frame.files frame.runs allows (counted (Ok tree.0) (seen ghosts old) (seen ghosts mid) frame.counts frame.children))
+    (kept_step store digest root place tree.0 source after (seen ghosts mid) (seen ghosts new) result is begun (subst (λ o. IfSome o (λ files. Gets digest (item_at files (tree_path store digest)) (Ok tree.0))) (sym frame.files) tree.1) leaves lays parts)
 
 -- a tree that was got whole, and written
 wider_cause : (root file : List ℕ) (o : Option Tree) (cause : Cause) → IsCauseWithin root cause → IsKeptCause root file o cause
@@ -231,7 +241,7 @@ wider_cause root file o Decided h = absurd h
 pub whole_laid : (store digest root place : List ℕ) (tree : Node) (old new : Seen) (result : Result (Unit {0}) StoreFault) → lays_tree root place tree old result new → lays_kept store digest root place tree old result new
 unfolding lays_tree lays_kept
 whole_laid store digest root place tree old new (Ok done) h = h
-whole_laid store digest root place tree old new (Err fault) (cause, around, allows) = (wider_cause root (tree_path store digest) old.files (cause_of fault) cause, around, allows)
+whole_laid store digest root place tree old new (Err fault) (cause, around, allows, counts, partly) = (wider_cause root (tree_path store digest) old.files (cause_of fault) cause, around, allows, counts, partly)
 
 -- no path could be made of the digest
 no_tree : (digest : List ℕ) (o : Option Tree) (path : List ℕ) → IfSome o (λ files. Gets digest (item_at files path) (Err Memory))
@@ -257,4 +267,4 @@ pub no_path : {W : Type 0} (ghosts : world.Ghosts W) (store digest root place : 
 unfolding lays_stored
 no_path ghosts store digest root place old =
     ended (gets_tree store digest) (lays_kept store digest root place) (seen ghosts old) (seen ghosts old) Memory
-    (got ghosts store digest (Err Memory) old old (no_tree digest (ghosts.tree old) (tree_path store digest)) tt tt refl refl (may_stay (ghosts.tree old) (λ files. is_file_or_absent (item_at files (tree_path store digest))) (ghosts.misused old)))
+    (got ghosts store digest (Err Memory) old old (no_tree digest (ghosts.tree old) (tree_path store digest)) tt tt refl refl (may_stay (ghosts.tree old) (λ files. is_file_or_absent (item_at files (tree_path store digest))) (ghosts.misused old)) (files_rest.memory (seen ghosts old)))

@@ -13,7 +13,8 @@ use Rattle.tree_canon.specs.Spelling.{limit}
 use Rattle.tree_store.specs.Answers.{cause_of, is_free}
 pub use Rattle.tree_store.specs.Answers.{BlamesEither}
 use Rattle.tree_store.specs.Around.{LeavesAround}
-use Rattle.tree_store.specs.Overlay.{tree_laid}
+use Rattle.tree_store.specs.Overlay.{Given, tree_laid}
+use Rattle.tree_store.specs.Partly.{LaidPartly}
 use Rattle.tree_store.specs.Right.{AreFolders}
 use Rattle.tree_store.specs.Steps.{can_lay}
 use Rattle.tree_canon.specs.declared.node.Node.{Node}
@@ -84,3 +85,7 @@ pub record LaysTree (root place : List ℕ) (tree : Node) (old : Seen) (result :
 abbrev pub HasDigest : List ℕ → List ℕ → Result (Unit {0}) StoreFault → Type 0
 HasDigest digest bytes (Ok done) = sha256 bytes ≡ digest
 HasDigest digest bytes (Err fault) = (sha256 bytes ≢ digest) × (fault ≡ Damaged digest (sha256 bytes) None)
+
+-- With these bytes ahead and folders at these paths, a call leaves a part of these items, whether it is refused or not.
+pub record LaysPartly (folder : List ℕ) (given : List Given) (bytes : List ℕ) (before : List (List ℕ)) (source : KeptBytes) (old new : Seen) : Type 0 where
+  pub so : Ahead source old.files bytes → AreFolders before old.files → LaidPartly folder given old.files new.files

@@ -7,6 +7,7 @@ pub mod Digests
 pub mod Judging
 pub mod Laying
 pub mod Overlay
+pub mod Partly
 pub mod Reading
 pub mod Right
 pub mod Steps

@@ -1,10 +1,11 @@
 -- What each call does, as a step: from what is seen before, by an answer, to what is seen after.
-use Rattle.std.specs.Prelude.{[], ◌∷◌, ◌&&◌, ◌⊎◌, ℕ, Bool, true, ◌≡◌, List, Option, None, Result, Ok, Err, IfErr, IfSome, IsTrue, OnErr}
+use Rattle.std.specs.Prelude.{[], ◌∷◌, ◌&&◌, ◌⊎◌, ℕ, Bool, true, ◌≡◌, List, Option, Some, None, Result, Ok, Err, IfErr, IfSome, IsTrue, OnErr}
 use Rattle.std.specs.Option.{option_map}
 use Rattle.sha2.specs.Sha256.{sha256}
 use Rattle.cnb_world.specs.Tree.{Tree, can_make_folder, item_at, is_file, is_file_or_absent, is_within}
 use Rattle.cnb_world.specs.Whole.{can_write}
-use Rattle.steps.specs.Causes.{Cause, FileFailed, ChildFailed, OutOfMemory, Decided, IsAnswer, IsReadCause, WhereDecided}
+use Rattle.steps.specs.Causes.{Cause, FileFailed, ChildFailed, OutOfMemory, Decided, IsAnswer, IsReadCause, WhereDecided, ended_by}
+use Rattle.steps.specs.Counts.{FileCounts}
 use Rattle.steps.specs.Outside.{Seen}
 use Rattle.steps.specs.Steps.{◌>>=◌, Allows, Same, reads, yields}
 use Rattle.tree_canon.specs.Spelling.{spelling_of}
@@ -12,6 +13,7 @@ use Rattle.tree_canon.specs.declared.node.Node.{Node}
 use Rattle.tree_store.specs.Answers.{BlamesAt, cause_of}
 use Rattle.tree_store.specs.Around.{KeptAround, LeavesAround}
 use Rattle.tree_store.specs.Overlay.{can_stand, parts_of, tree_laid}
+use Rattle.tree_store.specs.Partly.{LaidPartly, items_placed}
 use Rattle.tree_store.specs.Reading.{tree_in}
 use Rattle.tree_store.specs.Store.{Gets, LeavesStore, Puts, tree_path, tree_put}
 use Rattle.tree_store.specs.Writing.{IsCleared, KeptFile, bytes_put, can_begin, new_path, trees_of}
@@ -35,6 +37,7 @@ pub record GetsTree (store digest : List ℕ) (old : Seen) (result : Result Node
   pub cause : IfErr result (λ fault. IsReadCause new.failed_at (cause_of fault))
   pub blames : IfErr result (BlamesAt (tree_path store digest))
   pub allows : Allows (λ files. is_file_or_absent (item_at files (tree_path store digest))) old new
+  pub counts : FileCounts (ended_by cause_of result) old new
 
 -- the tree that the store has under a digest
 unfoldable pub gets_tree : List ℕ → List ℕ → Seen → Result Node StoreFault → Seen → Type 0
@@ -63,6 +66,7 @@ pub record PutsTree (store : List ℕ) (tree : Node) (old : Seen) (result : Resu
   pub blames : IfErr result (BlamesAt (tree_path store (sha256 (spelling_of tree))))
   pub runs : new.runs ≡ old.runs
   pub allows : Allows (can_put store tree) old new
+  pub counts : FileCounts (ended_by cause_of result) old new
 
 -- a tree is put into the store
 unfoldable pub puts_tree : List ℕ → Node → Seen → Result (List ℕ) StoreFault → Seen → Type 0
@@ -116,6 +120,7 @@ pub record PutsFolder (store path : List ℕ) (old : Seen) (result : Result (Lis
   pub cause : IfErr result (λ fault. IsReadCause new.failed_at (cause_of fault))
   pub runs : new.runs ≡ old.runs
   pub allows : Allows (can_put_folder store path) old new
+  pub counts : FileCounts (ended_by cause_of result) old new
 
 -- the tree of a folder is put into the store
 unfoldable pub puts_folder : List ℕ → List ℕ → Seen → Result (List ℕ) StoreFault → Seen → Type 0
@@ -137,12 +142,13 @@ can_place node (part ∷ parts) root = true
 abbrev pub can_lay : List ℕ → List ℕ → Node → Tree → Bool
 can_lay root place tree files = can_make_folder files root && can_place tree (parts_of place) root
 
--- A tree is laid at a place under a folder. Where that is refused, a part of it may stand.
+-- A tree is laid at a place under a folder. Where that is refused, each path at the folder or below it has what stood there, or
+-- a part of what the tree gives.
 unfoldable pub lays_tree : List ℕ → List ℕ → Node → Seen → Result (Unit {0}) StoreFault → Seen → Type 0
 lays_tree root place tree old (Ok done) new =
-    (new.files ≡ option_map (tree_laid root place tree) old.files) × LeavesAround root old new × Allows (can_lay root place tree) old new
+    (new.files ≡ option_map (tree_laid root place tree) old.files) × LeavesAround root old new × Allows (can_lay root place tree) old new × FileCounts None old new
 lays_tree root place tree old (Err fault) new =
-    IsCauseWithin root (cause_of fault) × LeavesAround root old new × Allows (can_lay root place tree) old new
+    IsCauseWithin root (cause_of fault) × LeavesAround root old new × Allows (can_lay root place tree) old new × FileCounts (Some (cause_of fault)) old new × LaidPartly root (items_placed root place tree) old.files new.files
 
 -- The same for a failed call on the file of a tree too; and, where the files are not told, because the file was changed since
 -- its bytes were judged.
@@ -152,12 +158,13 @@ IsKeptCause root file files ChildFailed = ⊥
 IsKeptCause root file files OutOfMemory = Unit {0}
 IsKeptCause root file files Decided = files ≡ None
 
--- A tree that the store has is laid at a place under a folder. Where that is refused, a part of it may stand.
+-- A tree that the store has is laid at a place under a folder. Where that is refused, each path at the folder or below it has
+-- what stood there, or a part of what the tree gives.
 unfoldable pub lays_kept : List ℕ → List ℕ → List ℕ → List ℕ → Node → Seen → Result (Unit {0}) StoreFault → Seen → Type 0
 lays_kept store digest root place tree old (Ok done) new =
-    (new.files ≡ option_map (tree_laid root place tree) old.files) × LeavesAround root old new × Allows (can_lay root place tree) old new
+    (new.files ≡ option_map (tree_laid root place tree) old.files) × LeavesAround root old new × Allows (can_lay root place tree) old new × FileCounts None old new
 lays_kept store digest root place tree old (Err fault) new =
-    IsKeptCause root (tree_path store digest) old.files (cause_of fault) × LeavesAround root old new × Allows (can_lay root place tree) old new
+    IsKeptCause root (tree_path store digest) old.files (cause_of fault) × LeavesAround root old new × Allows (can_lay root place tree) old new × FileCounts (Some (cause_of fault)) old new × LaidPartly root (items_placed root place tree) old.files new.files
 
 -- a stored tree is read and judged, and then laid at a place under a folder
 unfoldable pub lays_stored : List ℕ → List ℕ → List ℕ → List ℕ → Seen → Result (Unit {0}) StoreFault → Seen → Type 0

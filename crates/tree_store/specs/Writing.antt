@@ -65,7 +65,8 @@ pub record HasWritten (store : List ℕ) (before : Option Tree) (writer : Writer
   pub kept : KeptAround (new_path store) before now
 
 -- What a call leaves that writes at no path but this one, whatever stands there: all but what is at that path, or a folder
--- above it that was made; and at the path what was there, or a file or nothing. A refusal for a failed call comes where the count rose, with the path whose call failed last.
+-- above it that was made; and at the path what was there, or a file or nothing. A refusal for a failed call comes where the
+-- count rose, with the path whose call failed last.
 pub record NewFrame {A : Type 0} (file : List ℕ) (old : Seen) (result : Result A StoreFault) (new : Seen) : Type 0 where
   pub around : LeavesAround file old new
   pub place : KeptFile file old.files new.files

@@ -1,9 +1,7 @@
 // Folders that go into the store, and stored trees that are checked and laid.
 ghost use Rattle.std.specs.Prelude.{◌≡◌, ◌≤◌, OnOk, false, length};
 ghost use Rattle.cnb_world.specs.Tree.{is_within};
-ghost use Rattle.steps.specs.Causes.{CountsFiles};
 ghost use Rattle.steps.specs.Outside.{seen};
-ghost use Rattle.tree_store.specs.Answers.{cause_of};
 ghost use Rattle.tree_store.specs.Digests.{HasTree};
 ghost use Rattle.tree_store.specs.Steps.{checks_tree, lays_stored, puts_folder};
 ghost use Rattle.tree_store.specs.Store.{tree_path};
@@ -36,8 +34,6 @@ fn put_walked<W: World>(
     requires path { length path.now ≤ 8192 }
     requires apart { AreApart (new_path store.now) path.now }
     ensures steps { puts_folder store.now path.now (seen W.World world.old) result (seen W.World world.new) }
-    ensures files { CountsFiles cause_of result (W.file_faults world.old) (W.file_faults world.new) }
-    ensures children { W.child_faults world.new ≡ W.child_faults world.old }
 {
     let mut writer = Writer::begin(alloc, world, store)?;
     match put_tree(alloc, world, &mut writer, path) {
@@ -58,8 +54,6 @@ fn put_whole<W: World>(
     requires file { file.now ≡ new_path store.now }
     requires path { length path.now ≤ 8192 }
     ensures steps { puts_folder store.now path.now (seen W.World world.old) result (seen W.World world.new) }
-    ensures files { CountsFiles cause_of result (W.file_faults world.old) (W.file_faults world.new) }
-    ensures children { W.child_faults world.new ≡ W.child_faults world.old }
 {
     let tree = read_tree(alloc, world, path)?;
     let bytes = encode(alloc, &tree)?;
@@ -85,8 +79,6 @@ pub fn put_folder<W: World>(
     requires store { length store.now ≤ 8192 }
     requires path { length path.now ≤ 8192 }
     ensures steps { puts_folder store.now path.now (seen W.World world.old) result (seen W.World world.new) }
-    ensures files { CountsFiles cause_of result (W.file_faults world.old) (W.file_faults world.new) }
-    ensures children { W.child_faults world.new ≡ W.child_faults world.old }
 {
     let file = new_file(alloc, store)?;
     if is_within(path.as_str(), file.as_str()) || is_within(file.as_str(), path.as_str()) {
@@ -108,8 +100,6 @@ pub fn check_tree<W: World>(
     requires { length store.now ≤ 8192 }
     ensures steps { checks_tree store.now digest.now (seen W.World world.old) result (seen W.World world.new) }
     ensures digest { OnOk result (HasTree digest.now) }
-    ensures files { CountsFiles cause_of result (W.file_faults world.old) (W.file_faults world.new) }
-    ensures children { W.child_faults world.new ≡ W.child_faults world.old }
 {
     check_file(alloc, world, store, digest)
 }
@@ -128,8 +118,6 @@ fn lay_whole<W: World>(
     requires place { length place.now ≤ 8192 }
     ensures steps { lays_stored store.now digest.now root.now place.now
         (seen W.World world.old) result (seen W.World world.new) }
-    ensures files { CountsFiles cause_of result (W.file_faults world.old) (W.file_faults world.new) }
-    ensures children { W.child_faults world.new ≡ W.child_faults world.old }
 {
     let tree = get(alloc, world, store, digest)?;
     write_tree(alloc, world, root, place, &tree)?;
@@ -154,8 +142,6 @@ fn lay_judged<W: World>(
     requires place { length place.now ≤ 8192 }
     ensures steps { lays_stored store.now digest.now root.now place.now
         (seen W.World world.old) result (seen W.World world.new) }
-    ensures files { CountsFiles cause_of result (W.file_faults world.old) (W.file_faults world.new) }
-    ensures children { W.child_faults world.new ≡ W.child_faults world.old }
 {
     check_file(alloc, world, store, digest)?;
     let mut source = KeptBytes::new(alloc, path, digest);
@@ -181,8 +167,6 @@ pub fn lay_stored<W: World>(
     requires place { length place.now ≤ 8192 }
     ensures steps { lays_stored store.now digest.now root.now place.now
         (seen W.World world.old) result (seen W.World world.new) }
-    ensures files { CountsFiles cause_of result (W.file_faults world.old) (W.file_faults world.new) }
-    ensures children { W.child_faults world.new ≡ W.child_faults world.old }
 {
     let path = tree_file(alloc, store, digest)?;
     if is_within(root.as_str(), path.as_str()) {

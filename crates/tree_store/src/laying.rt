@@ -1,11 +1,12 @@
 // Laying a tree over files.
-ghost use Rattle.std.specs.Prelude.{◌≡◌, ◌<◌, ◌≤◌, ◌+◌, ◌-◌, ◌*◌, ◌∷◌, [], IfErr, IfSome, OnOk, IsTrue, length, true, false, None};
+ghost use Rattle.std.specs.Prelude.{◌≡◌, ◌<◌, ◌≤◌, ◌+◌, ◌-◌, ◌*◌, ◌∷◌, ◌&&◌, [], IfErr, IfSome, OnErr, OnOk, IsTrue, is_some, length, not, true, false, None};
 ghost use Rattle.std.specs.Option.{option_map, MatchOption};
 ghost use Rattle.std.specs.List.{list_all};
-ghost use Rattle.cnb_world.specs.Calls.{CountsFailed, MayMisuse};
+ghost use Rattle.cnb_world.specs.Calls.{CountsFailed, MayMisuse, RemovesSome};
 ghost use Rattle.cnb_world.specs.Path.{is_part, joined};
-ghost use Rattle.cnb_world.specs.Tree.{can_create, folder_made, is_root, item_at, kind_of, without};
-ghost use Rattle.tree_canon.specs.declared.node.Node.TheVariants.{File, Link};
+ghost use Rattle.cnb_world.specs.Tree.{can_create, folder_made, is_folder, is_root, item_at, kind_of, without};
+ghost use Rattle.cnb_world.specs.declared.world.Item.TheVariants as item;
+ghost use Rattle.tree_canon.specs.declared.node.Node.TheVariants.{Folder, File, Link};
 ghost use Rattle.tree_canon.specs.Fits.{fits, entries_fit};
 ghost use Rattle.tree_canon.specs.Names.{is_name};
 ghost use Rattle.steps.specs.Causes.{CountsFiles};
@@ -14,7 +15,8 @@ ghost use Rattle.tree_store.specs.Answers.{BlamesWithin, is_free, cause_of};
 ghost use Rattle.tree_store.specs.Around.{LeavesAround};
 ghost use Rattle.tree_store.specs.Right.{AreFolders, way_into, way_to};
 ghost use Rattle.tree_store.specs.Steps.{can_lay, lays_tree};
-ghost use Rattle.tree_store.specs.Overlay.{IsOverlay, IsPlaced, can_stand, items_under, parts_of, tree_laid, way_parts};
+ghost use Rattle.tree_store.specs.Overlay.{IsOverlay, IsPlaced, can_stand, folder_at, items_of, items_under, parts_of, tree_laid, way_parts};
+ghost use Rattle.tree_store.specs.Partly.{LaidPartly, items_placed};
 ghost use Rattle.tree_store.specs.Laying.{file_set, laid_under, tree_steps, node_laid, entry_laid, entries_laid, folder_by, folder_laid};
 
 use crate::fault::{StoreFault, or_blame};
@@ -50,6 +52,8 @@ fn write_file<W: World>(
     ensures files { CountsFailed result (W.file_faults world.old) (W.file_faults world.new) }
     ensures children { W.child_faults world.new ≡ W.child_faults world.old }
     ensures around { LeavesAround path.now (seen W.World world.old) (seen W.World world.new) }
+    ensures partly { LaidPartly path.now ((path.now, item.File exec bytes.now) ∷ [])
+        (W.tree world.old) (W.tree world.new) }
     ensures right { IfSome (W.tree world.old) (λ files. IsTrue (can_create files path.now))
         → W.misused world.new ≡ W.misused world.old }
 {
@@ -67,6 +71,7 @@ fn write_file<W: World>(
 #[tactic(auto, using(crate::proofs::Around::removed, crate::proofs::Around::removed_right, crate::proofs::Around::not_root_where))]
 fn clear<W: World>(world: &mut W, path: &Path) -> Result<(), FileFault>
     ensures ok { OnOk result (W.tree world.new ≡ option_map (without path.now) (W.tree world.old)) }
+    ensures err { OnErr result (RemovesSome (W.tree world.old) (W.tree world.new) path.now) }
     ensures placed { IfSome (W.tree world.old) (λ _. OnOk result (is_root path.now ≡ false)) }
     ensures files { CountsFailed result (W.file_faults world.old) (W.file_faults world.new) }
     ensures children { W.child_faults world.new ≡ W.child_faults world.old }
@@ -91,6 +96,8 @@ pub(crate) fn lay_file<W: World>(
     ensures files { CountsFailed result (W.file_faults world.old) (W.file_faults world.new) }
     ensures children { W.child_faults world.new ≡ W.child_faults world.old }
     ensures around { LeavesAround path.now (seen W.World world.old) (seen W.World world.new) }
+    ensures partly { LaidPartly path.now ((path.now, item.File exec bytes.now) ∷ [])
+        (W.tree world.old) (W.tree world.new) }
     ensures right { IfSome (W.tree world.old) (λ _. is_root path.now ≡ false)
         → AreFolders (way_to path.now) (W.tree world.old) → W.misused world.new ≡ W.misused world.old }
 {
@@ -107,6 +114,8 @@ pub(crate) fn lay_link<W: World>(world: &mut W, path: &Path, target: &str) -> Re
     ensures files { CountsFailed result (W.file_faults world.old) (W.file_faults world.new) }
     ensures children { W.child_faults world.new ≡ W.child_faults world.old }
     ensures around { LeavesAround path.now (seen W.World world.old) (seen W.World world.new) }
+    ensures partly { LaidPartly path.now ((path.now, item.Link target.now) ∷ [])
+        (W.tree world.old) (W.tree world.new) }
     ensures right { IfSome (W.tree world.old) (λ _. is_root path.now ≡ false)
         → AreFolders (way_to path.now) (W.tree world.old) → W.misused world.new ≡ W.misused world.old }
 {
@@ -122,6 +131,9 @@ fn replace_by_folder<W: World>(world: &mut W, path: &Path) -> Result<(), FileFau
     ensures files { CountsFailed result (W.file_faults world.old) (W.file_faults world.new) }
     ensures children { W.child_faults world.new ≡ W.child_faults world.old }
     ensures around { LeavesAround path.now (seen W.World world.old) (seen W.World world.new) }
+    ensures partly { IfSome (W.tree world.old)
+        (λ files. IsTrue (is_some (item_at files path.now) && not (is_folder (item_at files path.now))))
+        → LaidPartly path.now (folder_at path.now) (W.tree world.old) (W.tree world.new) }
     ensures right { IfSome (W.tree world.old) (λ _. is_root path.now ≡ false)
         → AreFolders (way_to path.now) (W.tree world.old) → W.misused world.new ≡ W.misused world.old }
 {
@@ -137,6 +149,8 @@ fn lay_folder_over<W: World>(world: &mut W, path: &Path, kind: Kind) -> Result<(
     ensures files { CountsFailed result (W.file_faults world.old) (W.file_faults world.new) }
     ensures children { W.child_faults world.new ≡ W.child_faults world.old }
     ensures around { LeavesAround path.now (seen W.World world.old) (seen W.World world.new) }
+    ensures partly { IfSome (W.tree world.old) (λ files. kind ≡ kind_of (item_at files path.now))
+        → LaidPartly path.now (folder_at path.now) (W.tree world.old) (W.tree world.new) }
     ensures right { IfSome (W.tree world.old) (λ files. kind ≡ kind_of (item_at files path.now))
         → AreFolders (way_to path.now) (W.tree world.old) → W.misused world.new ≡ W.misused world.old }
 {
@@ -156,6 +170,7 @@ pub(crate) fn lay_folder<W: World>(world: &mut W, path: &Path) -> Result<(), Fil
     ensures files { CountsFailed result (W.file_faults world.old) (W.file_faults world.new) }
     ensures children { W.child_faults world.new ≡ W.child_faults world.old }
     ensures around { LeavesAround path.now (seen W.World world.old) (seen W.World world.new) }
+    ensures partly { LaidPartly path.now (folder_at path.now) (W.tree world.old) (W.tree world.new) }
     ensures right { AreFolders (way_to path.now) (W.tree world.old) → W.misused world.new ≡ W.misused world.old }
 {
     let kind = world.kind(path)?;
@@ -181,6 +196,7 @@ fn lay_node<W: World>(
     ensures files { CountsFiles cause_of result (W.file_faults world.old) (W.file_faults world.new) }
     ensures children { W.child_faults world.new ≡ W.child_faults world.old }
     ensures around { LeavesAround path.now (seen W.World world.old) (seen W.World world.new) }
+    ensures partly { LaidPartly path.now (items_of node.now path.now) (W.tree world.old) (W.tree world.new) }
     ensures right { IfSome (W.tree world.old) (λ _. can_stand node.now path.now ≡ true)
         → AreFolders (way_to path.now) (W.tree world.old) → W.misused world.new ≡ W.misused world.old }
 {
@@ -217,6 +233,8 @@ fn lay_entries<W: World>(
     ensures files { CountsFiles cause_of result (W.file_faults world.old) (W.file_faults world.new) }
     ensures children { W.child_faults world.new ≡ W.child_faults world.old }
     ensures around { LeavesAround path.now (seen W.World world.old) (seen W.World world.new) }
+    ensures partly { LaidPartly path.now (items_of (Folder entries.now) path.now)
+        (W.tree world.old) (W.tree world.new) }
     ensures right { AreFolders (way_into path.now) (W.tree world.old) → W.misused world.new ≡ W.misused world.old }
 {
     for entry in entries {
@@ -243,6 +261,8 @@ fn lay_entry<W: World>(
     ensures files { CountsFiles cause_of result (W.file_faults world.old) (W.file_faults world.new) }
     ensures children { W.child_faults world.new ≡ W.child_faults world.old }
     ensures around { LeavesAround (joined folder.now entry.now.name) (seen W.World world.old) (seen W.World world.new) }
+    ensures partly { LaidPartly (joined folder.now entry.now.name)
+        (items_of entry.now.node (joined folder.now entry.now.name)) (W.tree world.old) (W.tree world.new) }
     ensures right { AreFolders (way_into folder.now) (W.tree world.old) → W.misused world.new ≡ W.misused world.old }
 {
     // The proof takes from this call what each path keeps to.
@@ -280,6 +300,8 @@ fn lay_under<W: World>(
     ensures files { CountsFiles cause_of result (W.file_faults world.old) (W.file_faults world.new) }
     ensures children { W.child_faults world.new ≡ W.child_faults world.old }
     ensures around { LeavesAround folder.now (seen W.World world.old) (seen W.World world.new) }
+    ensures partly { LaidPartly folder.now (items_under node.now (way_parts way.now) folder.now)
+        (W.tree world.old) (W.tree world.new) }
     ensures right { AreFolders (way_to folder.now) (W.tree world.old) → W.misused world.new ≡ W.misused world.old }
 {
     // The proof takes from this call what each path keeps to.
@@ -330,6 +352,7 @@ fn lay_at<W: World>(
     ensures files { CountsFiles cause_of result (W.file_faults world.old) (W.file_faults world.new) }
     ensures children { W.child_faults world.new ≡ W.child_faults world.old }
     ensures around { LeavesAround root.now (seen W.World world.old) (seen W.World world.new) }
+    ensures partly { LaidPartly root.now (items_placed root.now place.now node.now) (W.tree world.old) (W.tree world.new) }
     ensures right { MayMisuse (option_map (can_lay root.now place.now node.now) (W.tree world.old))
         (W.misused world.old) (W.misused world.new) }
 {
@@ -348,7 +371,8 @@ fn lay_at<W: World>(
 
 /// Lays a tree at a place under a folder, which is made with those above it. The place is a path as seen from that
 /// folder. A folder merges into a folder and takes the place of anything else, also on the way to the place; a file or
-/// a link takes the place of whatever stands. No link is followed. After a refusal a part may stand.
+/// a link takes the place of whatever stands. No link is followed. After a refusal each path at the folder or below it has
+/// what stood there, or a part of what the tree gives.
 pub fn write_tree<W: World>(
     alloc: Global,
     world: &mut W,
@@ -361,8 +385,6 @@ pub fn write_tree<W: World>(
     ensures steps { lays_tree root.now place.now tree.now (seen W.World world.old) result (seen W.World world.new) }
     ensures overlay { OnOk result (IfSome (W.tree world.old) (λ old. IfSome (W.tree world.new)
         (IsOverlay (items_under tree.now (parts_of place.now) root.now) (folder_made root.now old)))) }
-    ensures files { CountsFiles cause_of result (W.file_faults world.old) (W.file_faults world.new) }
-    ensures children { W.child_faults world.new ≡ W.child_faults world.old }
 {
     lay_at(alloc, world, root, place, tree.node())
 }

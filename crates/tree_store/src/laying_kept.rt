@@ -2,7 +2,7 @@
 ghost use Rattle.std.specs.Prelude.{◌≡◌, ◌<◌, ◌≤◌, ◌+◌, ◌-◌, ◌*◌, ◌++◌, ◌∷◌, [], ℕ, Bool, List as Seq, IsTrue, length, if◌then◌else◌, true, false, None};
 ghost use Rattle.std.specs.Int.{to_be_bytes, w16, w32, w64};
 ghost use Rattle.std.specs.List.{list_all};
-ghost use Rattle.cnb_world.specs.Path.{is_part};
+ghost use Rattle.cnb_world.specs.Path.{is_part, joined};
 ghost use Rattle.cnb_world.specs.Effects.{is_slashed};
 ghost use Rattle.cnb_world.specs.Tree.{is_under, is_within};
 ghost use Rattle.tree_canon.specs.declared.node.Named.{Named};
@@ -12,9 +12,10 @@ ghost use Rattle.tree_canon.specs.Fits.{fits, entries_fit};
 ghost use Rattle.tree_canon.specs.Names.{is_name, is_target};
 ghost use Rattle.tree_canon.specs.Spelling.{node_bytes, entry_bytes, entries_bytes};
 ghost use Rattle.steps.specs.Outside.{seen};
-ghost use Rattle.tree_store.specs.Ahead.{Ahead, Lays, LaysTree, Leaves};
+ghost use Rattle.tree_store.specs.Ahead.{Ahead, Lays, LaysPartly, LaysTree, Leaves};
 ghost use Rattle.tree_store.specs.Laying.{entries_laid, entry_laid, laid_under, node_laid};
-ghost use Rattle.tree_store.specs.Overlay.{parts_of, way_parts};
+ghost use Rattle.tree_store.specs.Overlay.{folder_at, items_of, items_under, parts_of, way_parts};
+ghost use Rattle.tree_store.specs.Partly.{LaidPartly, items_placed};
 ghost use Rattle.tree_store.specs.Right.{way_into, way_to};
 
 use crate::fault::{StoreFault, or_blame};
@@ -67,6 +68,10 @@ fn lay_kept_link<W: World>(
     ensures lays { (target rest : Seq ℕ) → is_target target ≡ true
         → Lays (to_be_bytes w16 (length target) ++ (target ++ rest)) rest (node_laid (Link target) path.now)
         (way_to path.now) [] source.old (seen W.World world.old) result source.new (seen W.World world.new) }
+    ensures partly { (target rest : Seq ℕ) → is_target target ≡ true
+        → LaysPartly path.now (items_of (Link target) path.now)
+        (to_be_bytes w16 (length target) ++ (target ++ rest)) (way_to path.now)
+        source.old (seen W.World world.old) (seen W.World world.new) }
 {
     let target = source.text(alloc, world, 4096)?;
     if !is_target(target.as_str().as_bytes()) {
@@ -103,6 +108,9 @@ fn lay_kept_contents<W: World>(
     ensures lays { (bytes rest : Seq ℕ) → length bytes ≡ len → Lays (bytes ++ rest) rest
         (node_laid (File exec bytes) path.now) (way_to path.now) []
         source.old (seen W.World world.old) result source.new (seen W.World world.new) }
+    ensures partly { (bytes rest : Seq ℕ) → length bytes ≡ len
+        → LaysPartly path.now (items_of (File exec bytes) path.now) (bytes ++ rest) (way_to path.now)
+        source.old (seen W.World world.old) (seen W.World world.new) }
 {
     or_blame(alloc, path, lay_file(world, path, exec, &[]))?;
     let mut left = len;
@@ -128,6 +136,10 @@ fn lay_kept_file<W: World>(
         ((if exec then 1 else 0) ∷ (to_be_bytes w64 (length bytes) ++ (bytes ++ rest))) rest
         (node_laid (File exec bytes) path.now) (way_to path.now) []
         source.old (seen W.World world.old) result source.new (seen W.World world.new) }
+    ensures partly { (exec : Bool) (bytes rest : Seq ℕ)
+        → LaysPartly path.now (items_of (File exec bytes) path.now)
+        ((if exec then 1 else 0) ∷ (to_be_bytes w64 (length bytes) ++ (bytes ++ rest))) (way_to path.now)
+        source.old (seen W.World world.old) (seen W.World world.new) }
 {
     let bit = source.byte(alloc, world)?;
     if bit > 1 {
@@ -153,6 +165,9 @@ fn lay_kept_node<W: World>(
     ensures lays { (node : Node) (rest : Seq ℕ) → fits node depth ≡ true
         → Lays (node_bytes node ++ rest) rest (node_laid node path.now) (way_to path.now) []
         source.old (seen W.World world.old) result source.new (seen W.World world.new) }
+    ensures partly { (node : Node) (rest : Seq ℕ) → fits node depth ≡ true
+        → LaysPartly path.now (items_of node path.now) (node_bytes node ++ rest) (way_to path.now)
+        source.old (seen W.World world.old) (seen W.World world.new) }
 {
     match source.byte(alloc, world)? {
         b'D' => lay_kept_folder(alloc, world, source, path, depth),
@@ -177,6 +192,10 @@ fn lay_kept_folder<W: World>(
     ensures lays { (all : Seq Named) (rest : Seq ℕ) → fits (Folder all) depth ≡ true
         → Lays (to_be_bytes w32 (length all) ++ (entries_bytes all ++ rest)) rest (node_laid (Folder all) path.now)
         (way_to path.now) [] source.old (seen W.World world.old) result source.new (seen W.World world.new) }
+    ensures partly { (all : Seq Named) (rest : Seq ℕ) → fits (Folder all) depth ≡ true
+        → LaysPartly path.now (items_of (Folder all) path.now)
+        (to_be_bytes w32 (length all) ++ (entries_bytes all ++ rest)) (way_to path.now)
+        source.old (seen W.World world.old) (seen W.World world.new) }
 {
     let head = source.field(alloc, world, 4)?;
     let count = u32_of(head.as_slice());
@@ -200,6 +219,9 @@ fn lay_kept_entries<W: World>(
     ensures lays { (all : Seq Named) (rest : Seq ℕ) → length all ≡ count → entries_fit None all depth ≡ true
         → Lays (entries_bytes all ++ rest) rest (entries_laid all path.now) (way_into path.now) (way_into path.now)
         source.old (seen W.World world.old) result source.new (seen W.World world.new) }
+    ensures partly { (all : Seq Named) (rest : Seq ℕ) → length all ≡ count → entries_fit None all depth ≡ true
+        → LaysPartly path.now (items_of (Folder all) path.now) (entries_bytes all ++ rest) (way_into path.now)
+        source.old (seen W.World world.old) (seen W.World world.new) }
 {
     let mut left = count;
     while left > 0 {
@@ -225,6 +247,10 @@ fn lay_kept_entry<W: World>(
         → Lays (entry_bytes entry ++ rest) rest (entry_laid entry folder.now)
         (way_into folder.now) (way_into folder.now)
         source.old (seen W.World world.old) result source.new (seen W.World world.new) }
+    ensures partly { (entry : Named) (rest : Seq ℕ) → is_name entry.name ≡ true → fits entry.node depth ≡ true
+        → LaysPartly folder.now (folder_at folder.now ++ items_of entry.node (joined folder.now entry.name))
+        (entry_bytes entry ++ rest) (way_into folder.now)
+        source.old (seen W.World world.old) (seen W.World world.new) }
 {
     if depth > MAX_DEPTH {
         return Err(source.broken(Reason::Deep));
@@ -251,6 +277,9 @@ fn lay_kept_under<W: World>(
     ensures lays { (node : Node) (rest : Seq ℕ) → fits node 0 ≡ true
         → Lays (node_bytes node ++ rest) rest (laid_under node (way_parts way.now) folder.now) (way_to folder.now) []
         source.old (seen W.World world.old) result source.new (seen W.World world.new) }
+    ensures partly { (node : Node) (rest : Seq ℕ) → fits node 0 ≡ true
+        → LaysPartly folder.now (items_under node (way_parts way.now) folder.now) (node_bytes node ++ rest)
+        (way_to folder.now) source.old (seen W.World world.old) (seen W.World world.new) }
 {
     // The proof takes from this call what each path keeps to.
     let _folder = folder.as_str();
@@ -283,6 +312,9 @@ fn lay_kept_at<W: World>(
         → Lays (node_bytes node ++ rest) rest (laid_under node (parts_of place.now) root.now) (way_to root.now) []
         source.old (seen W.World world.old) result source.new (seen W.World world.new) }
     ensures names { IsTrue (list_all is_part (parts_of place.now)) }
+    ensures partly { (node : Node) (rest : Seq ℕ) → fits node 0 ≡ true
+        → LaysPartly root.now (items_under node (parts_of place.now) root.now) (node_bytes node ++ rest)
+        (way_to root.now) source.old (seen W.World world.old) (seen W.World world.new) }
 {
     match way_to(place) {
         Some(way) => lay_kept_under(alloc, world, source, root, way),
@@ -304,6 +336,8 @@ pub(crate) fn lay_kept<W: World>(
     ensures leaves { Leaves root.now source.old (seen W.World world.old) result source.new (seen W.World world.new) }
     ensures lays { (tree : Node) → fits tree 0 ≡ true → Ahead source.old (W.tree world.old) (node_bytes tree)
         → LaysTree root.now place.now tree (seen W.World world.old) result source.new (seen W.World world.new) }
+    ensures partly { (tree : Node) → fits tree 0 ≡ true → Ahead source.old (W.tree world.old) (node_bytes tree)
+        → LaidPartly root.now (items_placed root.now place.now tree) (W.tree world.old) (W.tree world.new) }
 {
     or_blame(alloc, root, world.make_folder(root))?;
     lay_kept_at(alloc, world, source, root, place)

@@ -387,8 +387,6 @@ pub fn read_tree<W: World>(alloc: Global, world: &mut W, path: &Path) -> Result<
     requires { length path.now ≤ 8192 }
     ensures steps { reads_tree path.now (seen W.World world.old) result (seen W.World world.new) }
     ensures blames { IfErr result (BlamesWithin path.now) }
-    ensures files { CountsFiles cause_of result (W.file_faults world.old) (W.file_faults world.new) }
-    ensures children { W.child_faults world.new ≡ W.child_faults world.old }
 {
     tree_at(alloc, world, path)
 }

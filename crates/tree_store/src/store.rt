@@ -96,8 +96,6 @@ pub fn has<W: World>(
     requires { length store.now ≤ 8192 }
     ensures steps { looks_for_tree store.now digest.now (seen W.World world.old) result (seen W.World world.new) }
     ensures blames { IfErr result (BlamesAt (tree_path store.now digest.now)) }
-    ensures files { CountsFiles cause_of result (W.file_faults world.old) (W.file_faults world.new) }
-    ensures children { W.child_faults world.new ≡ W.child_faults world.old }
 {
     stands(alloc, world, store, digest)
 }
@@ -306,8 +304,6 @@ pub fn put<W: World>(
 ) -> Result<Digest, StoreFault>
     requires { length store.now ≤ 8192 }
     ensures steps { puts_tree store.now tree.now (seen W.World world.old) result (seen W.World world.new) }
-    ensures files { CountsFiles cause_of result (W.file_faults world.old) (W.file_faults world.new) }
-    ensures children { W.child_faults world.new ≡ W.child_faults world.old }
 {
     put_file(alloc, world, store, tree)
 }
@@ -390,8 +386,6 @@ pub fn get<W: World>(
     requires { length store.now ≤ 8192 }
     ensures steps { gets_tree store.now digest.now (seen W.World world.old) result (seen W.World world.new) }
     ensures digest { IfOk result (λ tree. sha256 (spelling_of tree) ≡ digest.now) }
-    ensures files { CountsFiles cause_of result (W.file_faults world.old) (W.file_faults world.new) }
-    ensures children { W.child_faults world.new ≡ W.child_faults world.old }
 {
     get_file(alloc, world, store, digest)
 }

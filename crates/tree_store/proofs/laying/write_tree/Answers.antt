@@ -1,6 +1,7 @@
 use Rattle.std.proofs.Common.{refl, subst}
 use Rattle.std.specs.Option.{option_map}
 use Rattle.cnb_world.specs.Calls.{MayMisuse}
+use Rattle.tree_store.specs.Partly.{LaidPartly, items_placed}
 use Rattle.tree_store.specs.Steps.{can_lay}
 use Rattle.tree_store.proofs.CallSteps.{laid_so}
 use Rattle.tree_store.proofs.Overlays.{laid_where, overlaid_where}
@@ -15,6 +16,8 @@ returns-clause-steps g c = laid_so g.W.World _ _ _ c.lay_at.result _ _
     (laid_where c.lay_at.result (g.W.World.tree c.args.world.now) _ c.args.root.now c.args.place.now c.args.tree.now c.node.result.now c.node.ensures.root (tree_fits c.args.tree.now c.args.tree.now refl c.node.ensures.tree) c.lay_at.ensures.ok c.lay_at.ensures.names c.lay_at.ensures.placed (g.W.World.standing c.args.world.now))
     c.lay_at.ensures.free c.lay_at.ensures.blames c.lay_at.ensures.around
     (subst (λ n. MayMisuse (option_map (can_lay c.args.root.now c.args.place.now n) (g.W.World.tree c.args.world.now)) (g.W.World.misused c.args.world.now) (g.W.World.misused c.lay_at.new.world)) c.node.ensures.root c.lay_at.ensures.right)
+    c.lay_at.ensures.files c.lay_at.ensures.children
+    (subst (λ n. LaidPartly c.args.root.now (items_placed c.args.root.now c.args.place.now n) (g.W.World.tree c.args.world.now) (g.W.World.tree c.lay_at.new.world)) c.node.ensures.root c.lay_at.ensures.partly)
 
 pub returns-clause-overlay : goal.returns-clause-overlay
 returns-clause-overlay g c = overlaid_where c.lay_at.result (g.W.World.tree c.args.world.now) _ c.args.root.now c.args.place.now c.args.tree.now

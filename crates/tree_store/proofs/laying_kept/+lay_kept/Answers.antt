@@ -12,6 +12,9 @@ use Rattle.tree_store.proofs.Fit.{folder_entries}
 use Rattle.tree_store.proofs.Laid.{laid_folder}
 use Rattle.tree_store.proofs.Right.{inside_laid}
 use Rattle.tree_store.proofs.Ways.{joined_short}
+use Rattle.tree_store.proofs.PartlyLaid.{folder_partly}
+use Rattle.tree_store.proofs.Partly.{partly_itself, partly_then}
+use Rattle.tree_store.proofs.KeptPartly.{begun_first, begun_next, begun_part, entry_parts, node_parts, part_after, part_behind, part_bytes, partly_unread}
 use Rattle.tree_store.proofs.laying_kept.+lay_kept.Goals as goal
 
 -- ---- entries
@@ -20,6 +23,7 @@ pub lay_kept_entries-loop-left-init : goal.lay_kept_entries-loop-left-init
 lay_kept_entries-loop-left-init g t c = record {
   leaves = leaves_ok c.args.path.now _ _ _;
   laid = λ all rest count fit. entries_begun c.args.path.now c.args.depth all rest c.args.count _ _ count fit;
+  begun = λ all rest count fit. begun_first c.args.path.now c.args.depth all rest c.args.count _ _ count fit;
 }
 
 pub lay_kept_entries-returns-in_err-lay_kept_entry-clause-leaves : goal.lay_kept_entries-returns-in_err-lay_kept_entry-clause-leaves
@@ -41,6 +45,10 @@ lay_kept_entries-loop-left-preserved g t c = record {
       let h = c.loop-left.invariant.laid all rest count fit in
       let n = next_of c.args.depth h.more c.loop-left.left h.count c.loop-left-test.true h.fit in
       entries_more c.args.path.now c.args.depth all rest c.loop-left.left _ _ _ _ _ _ h n (c.in_ok-lay_kept_entry.ensures.lays n.entry (entries_bytes n.others ++ rest) n.name n.node);
+  begun = λ all rest count fit.
+      let h = c.loop-left.invariant.begun all rest count fit in
+      let n = next_of c.args.depth h.more c.loop-left.left h.count c.loop-left-test.true h.fit in
+      begun_next c.args.path.now c.args.depth all rest c.loop-left.left _ _ _ _ _ _ h n (c.in_ok-lay_kept_entry.ensures.lays n.entry (entries_bytes n.others ++ rest) n.name n.node) (c.in_ok-lay_kept_entry.ensures.partly n.entry (entries_bytes n.others ++ rest) n.name n.node);
 }
 
 pub lay_kept_entries-returns-clause-lays : goal.lay_kept_entries-returns-clause-lays
@@ -196,3 +204,69 @@ lay_kept_node-returns-in_default-clause-lays g t c = λ node rest fit. node_lays
     (λ all tag fit. lays_never (omega (arith, tag)))
     (λ exec bytes tag. lays_never (omega (arith, tag)))
     (λ target tag is. lays_never (omega (arith, tag)))
+
+-- ---- what stands where it was cut off
+
+pub lay_kept_entries-returns-in_err-lay_kept_entry-clause-partly : goal.lay_kept_entries-returns-in_err-lay_kept_entry-clause-partly
+lay_kept_entries-returns-in_err-lay_kept_entry-clause-partly g t c = λ all rest count fit.
+    let h = c.loop-left.invariant.begun all rest count fit in
+    let n = next_of c.args.depth h.more c.loop-left.left h.count c.loop-left-test.true h.fit in
+    begun_part c.args.path.now c.args.depth all rest c.loop-left.left _ _ _ _ _ h n (c.in_err-lay_kept_entry.ensures.partly n.entry (entries_bytes n.others ++ rest) n.name n.node)
+
+pub lay_kept_entries-returns-clause-partly : goal.lay_kept_entries-returns-clause-partly
+lay_kept_entries-returns-clause-partly g t c = λ all rest count fit. let h = c.loop-left.invariant.begun all rest count fit in h.partly
+
+pub lay_kept_entry-returns-then-depth-gt-MAX_DEPTH-clause-partly : goal.lay_kept_entry-returns-then-depth-gt-MAX_DEPTH-clause-partly
+lay_kept_entry-returns-then-depth-gt-MAX_DEPTH-clause-partly g t c = λ entry rest name fit. record { so = λ ahead are. partly_itself _ _ _ _ refl }
+
+pub lay_kept_entry-returns-in_err-name-clause-partly : goal.lay_kept_entry-returns-in_err-name-clause-partly
+lay_kept_entry-returns-in_err-name-clause-partly g t c = λ entry rest name fit. record { so = λ ahead are. partly_unread _ _ _ _ (λ p. (c.in_err-name.ensures.leaves p).around.files) }
+
+pub lay_kept_entry-returns-in_err-path-clause-partly : goal.lay_kept_entry-returns-in_err-path-clause-partly
+lay_kept_entry-returns-in_err-path-clause-partly g t c = λ entry rest name fit. record { so = λ ahead are. partly_unread _ _ _ _ (λ p. (c.in_ok-name.ensures.leaves p).around.files) }
+
+pub lay_kept_entry-returns-clause-partly : goal.lay_kept_entry-returns-clause-partly
+lay_kept_entry-returns-clause-partly g t c = λ entry rest name fit.
+    part_bytes (entry_ahead entry rest) (part_behind (λ read. read ≡ entry.name) (c.in_ok-name.ensures.reads entry.name (node_bytes entry.node ++ rest) (way_into c.args.folder.now) name)
+    (λ same. entry_parts c.args.folder.now _ entry (node_bytes entry.node ++ rest) _ _ _ (c.in_ok-path.ensures.0 ∙ ap (joined c.args.folder.now) (c.as_str.ensures ∙ same)) c.as_str-folder.ensures.is_path name c.lay_kept_node.ensures.leaves.around
+    (c.lay_kept_node.ensures.partly entry.node rest fit)))
+
+pub lay_kept_folder-returns-in_err-head-clause-partly : goal.lay_kept_folder-returns-in_err-head-clause-partly
+lay_kept_folder-returns-in_err-head-clause-partly g t c = λ all rest fit. record { so = λ ahead are. partly_unread _ _ _ _ (λ p. (c.in_err-head.ensures.leaves p).around.files) }
+
+pub lay_kept_folder-returns-in_err-or_blame-clause-partly : goal.lay_kept_folder-returns-in_err-or_blame-clause-partly
+lay_kept_folder-returns-in_err-or_blame-clause-partly g t c = λ all rest fit. record { so = λ ahead are. partly_then _ _ _ _ _ (partly_unread _ _ _ _ (λ p. (c.in_ok-head.ensures.leaves p).around.files)) (folder_partly all c.args.path.now _ _ c.lay_folder.ensures.partly) }
+
+pub lay_kept_folder-returns-clause-partly : goal.lay_kept_folder-returns-clause-partly
+lay_kept_folder-returns-clause-partly g t c = λ all rest fit.
+    part_behind (λ read. read ≡ to_be_bytes w32 (length all)) (c.in_ok-head.ensures.reads (to_be_bytes w32 (length all)) (entries_bytes all ++ rest) (way_to c.args.path.now) refl)
+    (λ size. part_after
+    (does_called c.args.path.now (entries_bytes all ++ rest) _ (folder_laid c.args.path.now) (way_to c.args.path.now) (way_into c.args.path.now) c.lay_folder.result (Ok tt) _ _
+    (ap (is_within c.args.path.now) (c.in_ok-head.ensures.leaves c.args.path.now).stays ∙ c.requires.apart) c.lay_folder.ensures.ok c.in_ok-or_blame.ensures.ok tt c.lay_folder.ensures.around c.lay_folder.ensures.right
+    (λ is are. inside_laid c.args.path.now _ _ is c.lay_folder.ensures.around.files are))
+    (c.lay_kept_entries.ensures.partly all rest (count_is all c.args.depth c.in_ok-head.head c.as_slice.result.now c.u32_of-count.result fit c.as_slice.ensures size c.u32_of-count.ensures) (folder_entries all c.args.depth fit))
+    (λ h. partly_then _ _ _ _ _ (folder_partly all c.args.path.now _ _ c.lay_folder.ensures.partly) h))
+
+pub lay_kept_node-returns-in_err-byte-clause-partly : goal.lay_kept_node-returns-in_err-byte-clause-partly
+lay_kept_node-returns-in_err-byte-clause-partly g t c = λ node rest fit. record { so = λ ahead are. partly_unread _ _ _ _ (λ p. (c.in_err-byte.ensures.leaves p).around.files) }
+
+pub lay_kept_node-returns-in_default-clause-partly : goal.lay_kept_node-returns-in_default-clause-partly
+lay_kept_node-returns-in_default-clause-partly g t c = λ node rest fit. record { so = λ ahead are. partly_unread _ _ _ _ (λ p. (c.in_ok-byte.ensures.leaves p).around.files) }
+
+pub lay_kept_node-returns-in-68-clause-partly : goal.lay_kept_node-returns-in-68-clause-partly
+lay_kept_node-returns-in-68-clause-partly g t c = λ node rest fit. node_parts node rest c.args.path.now c.args.depth (way_to c.args.path.now) c.in_ok-byte.field-0 _ _ _ _ _ fit (λ byte behind. c.in_ok-byte.ensures.reads byte behind (way_to c.args.path.now))
+    (λ all tag fit. c.lay_kept_folder.ensures.partly all rest fit)
+    (λ exec bytes tag. absurd (omega (arith, tag, c.in-68.is)))
+    (λ target tag is. absurd (omega (arith, tag, c.in-68.is)))
+
+pub lay_kept_node-returns-in-70-clause-partly : goal.lay_kept_node-returns-in-70-clause-partly
+lay_kept_node-returns-in-70-clause-partly g t c = λ node rest fit. node_parts node rest c.args.path.now c.args.depth (way_to c.args.path.now) c.in_ok-byte.field-0 _ _ _ _ _ fit (λ byte behind. c.in_ok-byte.ensures.reads byte behind (way_to c.args.path.now))
+    (λ all tag fit. absurd (omega (arith, tag, c.in-70.is)))
+    (λ exec bytes tag. c.lay_kept_file.ensures.partly exec bytes rest)
+    (λ target tag is. absurd (omega (arith, tag, c.in-70.is)))
+
+pub lay_kept_node-returns-in-76-clause-partly : goal.lay_kept_node-returns-in-76-clause-partly
+lay_kept_node-returns-in-76-clause-partly g t c = λ node rest fit. node_parts node rest c.args.path.now c.args.depth (way_to c.args.path.now) c.in_ok-byte.field-0 _ _ _ _ _ fit (λ byte behind. c.in_ok-byte.ensures.reads byte behind (way_to c.args.path.now))
+    (λ all tag fit. absurd (omega (arith, tag, c.in-76.is)))
+    (λ exec bytes tag. absurd (omega (arith, tag, c.in-76.is)))
+    (λ target tag is. c.lay_kept_link.ensures.partly target rest is)

@@ -4,6 +4,7 @@ use Rattle.tree_canon.specs.Fits.{entries_fit}
 use Rattle.tree_canon.specs.declared.node.Named.{Named}
 use Rattle.tree_store.specs.Ahead.{Leaves}
 use Rattle.tree_store.proofs.Cases.{EntriesLeft}
+use Rattle.tree_store.proofs.KeptPartly.{EntriesBegun}
 use Rattle.tree_store.proofs.laying_kept.+lay_kept.Given as goal
 
 abbrev pub decreases-lay_kept_node : goal.decreases-lay_kept_node
@@ -22,6 +23,7 @@ abbrev pub invariant-lay_kept_entries-loop-left : goal.invariant-lay_kept_entrie
 invariant-lay_kept_entries-loop-left g l = record {
   leaves : Leaves {A = Unit {0}} l.path l.fn.source (seen g.W.World l.fn.world) (Ok tt) l.source (seen g.W.World l.world);
   laid : (all : List Named) (rest : List ℕ) → length all ≡ l.count → entries_fit None all l.depth ≡ true → EntriesLeft l.path l.depth all rest l.left l.fn.source (seen g.W.World l.fn.world) l.source (seen g.W.World l.world);
+  begun : (all : List Named) (rest : List ℕ) → length all ≡ l.count → entries_fit None all l.depth ≡ true → EntriesBegun l.path l.depth all rest l.left l.fn.source (seen g.W.World l.fn.world) l.source (seen g.W.World l.world);
 }
 
 abbrev pub decreases-lay_kept_entries-loop-left : goal.decreases-lay_kept_entries-loop-left

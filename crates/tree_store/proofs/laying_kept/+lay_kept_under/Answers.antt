@@ -7,6 +7,8 @@ use Rattle.tree_store.proofs.Ahead.{apart_child, does_called, does_memory, lays_
 use Rattle.tree_store.proofs.Right.{inside_laid, part_way}
 use Rattle.tree_store.proofs.Stored.{same_last, same_part}
 use Rattle.tree_store.proofs.Ways.{joined_short, last_part, part_ahead, parts_behind}
+use Rattle.tree_store.proofs.PartlyLaid.{way_begun, way_partly}
+use Rattle.tree_store.proofs.KeptPartly.{part_after, part_from}
 use Rattle.tree_store.proofs.laying_kept.+lay_kept_under.Goals as goal
 
 pub returns-in_err-or_blame-clause-leaves : goal.returns-in_err-or_blame-clause-leaves
@@ -86,3 +88,26 @@ returns-in_ok-path-in-None-clause-lays g t c = λ node rest fit.
     (lays_on (does_called c.args.folder.now (node_bytes node ++ rest) c.args.source.now (folder_laid c.args.folder.now) (way_to c.args.folder.now) (way_into c.args.folder.now) c.lay_folder.result (Ok tt) _ _
     c.requires.1.1.1.0 c.lay_folder.ensures.ok c.in_ok-or_blame.ensures.ok tt c.lay_folder.ensures.around c.lay_folder.ensures.right (λ is are. inside_laid c.args.folder.now _ _ is c.lay_folder.ensures.around.files are))
     (lays_from (λ are. part_way c.args.folder.now c.args.way.now _ _ c.in_ok-path-in-None.ensures.0 c.as_str-folder.ensures.is_path (last_part c.args.way.now c.in-None.ensures.parts c.requires.1.1.1.1.0) are) (c.lay_kept_node.ensures.lays node rest fit)))
+
+pub returns-in_err-or_blame-clause-partly : goal.returns-in_err-or_blame-clause-partly
+returns-in_err-or_blame-clause-partly g t c = λ node rest fit. record { so = λ ahead are. way_begun node c.args.way.now c.args.folder.now _ _ c.lay_folder.ensures.partly }
+
+pub returns-in_err-path-in-Some-clause-partly : goal.returns-in_err-path-in-Some-clause-partly
+returns-in_err-path-in-Some-clause-partly g t c = λ node rest fit. record { so = λ ahead are. way_begun node c.args.way.now c.args.folder.now _ _ c.lay_folder.ensures.partly }
+
+pub returns-in_err-path-in-None-clause-partly : goal.returns-in_err-path-in-None-clause-partly
+returns-in_err-path-in-None-clause-partly g t c = λ node rest fit. record { so = λ ahead are. way_begun node c.args.way.now c.args.folder.now _ _ c.lay_folder.ensures.partly }
+
+pub returns-in_ok-path-in-Some-clause-partly : goal.returns-in_ok-path-in-Some-clause-partly
+returns-in_ok-path-in-Some-clause-partly g t c = λ node rest fit.
+    part_after (does_called c.args.folder.now (node_bytes node ++ rest) c.args.source.now (folder_laid c.args.folder.now) (way_to c.args.folder.now) (way_into c.args.folder.now) c.lay_folder.result (Ok tt) _ _
+    c.requires.1.1.1.0 c.lay_folder.ensures.ok c.in_ok-or_blame.ensures.ok tt c.lay_folder.ensures.around c.lay_folder.ensures.right (λ is are. inside_laid c.args.folder.now _ _ is c.lay_folder.ensures.around.files are))
+    (part_from (λ are. part_way c.args.folder.now c.in-Some.part.now _ _ c.in_ok-path-in-Some.ensures.0 c.as_str-folder.ensures.is_path (part_ahead c.args.way.now c.in-Some.part.now c.in-Some.rest.now c.in-Some.ensures.parts c.requires.1.1.1.1.0) are) (c.lay_kept_under.ensures.partly node rest fit))
+    (λ h. way_partly node _ _ c.args.folder.now c.in-Some.part.now _ _ _ _ c.in-Some.ensures.parts c.in_ok-path-in-Some.ensures.0 (part_ahead c.args.way.now c.in-Some.part.now c.in-Some.rest.now c.in-Some.ensures.parts c.requires.1.1.1.1.0) c.lay_folder.ensures.partly c.lay_kept_under.ensures.leaves.around.files h)
+
+pub returns-in_ok-path-in-None-clause-partly : goal.returns-in_ok-path-in-None-clause-partly
+returns-in_ok-path-in-None-clause-partly g t c = λ node rest fit.
+    part_after (does_called c.args.folder.now (node_bytes node ++ rest) c.args.source.now (folder_laid c.args.folder.now) (way_to c.args.folder.now) (way_into c.args.folder.now) c.lay_folder.result (Ok tt) _ _
+    c.requires.1.1.1.0 c.lay_folder.ensures.ok c.in_ok-or_blame.ensures.ok tt c.lay_folder.ensures.around c.lay_folder.ensures.right (λ is are. inside_laid c.args.folder.now _ _ is c.lay_folder.ensures.around.files are))
+    (part_from (λ are. part_way c.args.folder.now c.args.way.now _ _ c.in_ok-path-in-None.ensures.0 c.as_str-folder.ensures.is_path (last_part c.args.way.now c.in-None.ensures.parts c.requires.1.1.1.1.0) are) (c.lay_kept_node.ensures.partly node rest fit))
+    (λ h. way_partly node _ [] c.args.folder.now c.args.way.now _ _ _ _ c.in-None.ensures.parts c.in_ok-path-in-None.ensures.0 (last_part c.args.way.now c.in-None.ensures.parts c.requires.1.1.1.1.0) c.lay_folder.ensures.partly c.lay_kept_node.ensures.leaves.around.files h)

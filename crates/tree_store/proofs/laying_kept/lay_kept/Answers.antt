@@ -1,4 +1,4 @@
-use Rattle.std.proofs.Common.{Ok, Err, []}
+use Rattle.std.proofs.Common.{Ok, Err, [], refl, sym, subst}
 use Rattle.std.proofs.lemmas.Result.{err_from_is_err_and}
 use Rattle.cnb_world.specs.Tree.{can_make_folder}
 use Rattle.steps.specs.Outside.{seen}
@@ -7,6 +7,11 @@ use Rattle.tree_store.proofs.Ahead.{ahead_kept, leaves_called, leaves_then, plai
 use Rattle.tree_store.proofs.Around.{made_so}
 use Rattle.tree_store.proofs.Stored.{tree_kept, tree_stopped}
 use Rattle.tree_store.proofs.Ways.{when_ok}
+use Rattle.std.proofs.lemmas.List.{append-nil}
+use Rattle.tree_store.specs.Overlay.{parts_of}
+use Rattle.tree_store.specs.Ahead.{Ahead}
+use Rattle.tree_store.proofs.Right.{way_made}
+use Rattle.tree_store.proofs.PartlyLaid.{root_made, root_partly}
 use Rattle.tree_store.proofs.laying_kept.lay_kept.Goals as goal
 
 pub returns-in_err-or_blame-clause-leaves : goal.returns-in_err-or_blame-clause-leaves
@@ -34,3 +39,13 @@ returns-clause-lays g c = λ tree fit ahead.
     c.lay_kept_at.ensures.names c.lay_kept_at.ensures.leaves.around
     (ahead_kept c.args.source.now c.args.root.now (node_bytes tree) _ _ c.requires.apart (made_so g.W.World _ c.make_folder.result _ _ c.make_folder.ensures.ok c.make_folder.ensures.err c.make_folder.ensures.runs c.make_folder.ensures.misused).files ahead)
     (c.lay_kept_at.ensures.lays tree [] fit)
+
+pub returns-in_err-or_blame-clause-partly : goal.returns-in_err-or_blame-clause-partly
+returns-in_err-or_blame-clause-partly g c = λ tree fit ahead. root_made c.args.root.now c.args.place.now tree c.make_folder.result _ _ c.make_folder.ensures.ok c.make_folder.ensures.err
+
+pub returns-clause-partly : goal.returns-clause-partly
+returns-clause-partly g c = λ tree fit ahead. root_partly c.args.root.now c.args.place.now tree (parts_of c.args.place.now) _ _ _ refl (root_made c.args.root.now c.args.place.now tree c.make_folder.result _ _ c.make_folder.ensures.ok c.make_folder.ensures.err)
+    ((c.lay_kept_at.ensures.partly tree [] fit).so
+    (subst (Ahead c.args.source.now (g.W.World.tree c.make_folder.new.self)) (sym (append-nil (node_bytes tree)))
+    (ahead_kept c.args.source.now c.args.root.now (node_bytes tree) _ _ c.requires.apart (made_so g.W.World _ c.make_folder.result _ _ c.make_folder.ensures.ok c.make_folder.ensures.err c.make_folder.ensures.runs c.make_folder.ensures.misused).files ahead))
+    (way_made c.args.root.now (g.W.World.tree c.args.world.now) (g.W.World.tree c.make_folder.new.self) (when_ok c.make_folder.result c.in_ok-or_blame.ensures.ok c.make_folder.ensures.ok) (g.W.World.standing c.make_folder.new.self)))

@@ -1,6 +1,11 @@
-use Rattle.std.proofs.Common.{ap, sym}
+use Rattle.std.proofs.Common.{ap, sym, subst, ◌++◌}
 use Rattle.tree_store.specs.Laying.{laid_under}
 use Rattle.tree_store.proofs.Ahead.{lays_as}
+use Rattle.tree_store.specs.Right.{way_to}
+use Rattle.tree_store.specs.Overlay.{items_under}
+use Rattle.tree_store.specs.Ahead.{LaysPartly}
+use Rattle.tree_canon.specs.Spelling.{node_bytes}
+use Rattle.steps.specs.Outside.{seen}
 use Rattle.tree_store.proofs.laying_kept.lay_kept_at.Goals as goal
 
 pub returns-in-Some-clause-lays : goal.returns-in-Some-clause-lays
@@ -8,3 +13,9 @@ returns-in-Some-clause-lays g c = λ node rest fit. lays_as (λ files. ap (λ pa
 
 pub returns-in-None-clause-lays : goal.returns-in-None-clause-lays
 returns-in-None-clause-lays g c = λ node rest fit. lays_as (λ files. ap (λ parts. laid_under node parts c.args.root.now files) (sym c.in-None.ensures.parts)) (c.lay_kept_node.ensures.lays node rest fit)
+
+pub returns-in-Some-clause-partly : goal.returns-in-Some-clause-partly
+returns-in-Some-clause-partly g c = λ node rest fit. subst (λ parts. LaysPartly c.args.root.now (items_under node parts c.args.root.now) (node_bytes node ++ rest) (way_to c.args.root.now) c.args.source.now (seen g.W.World c.args.world.now) (seen g.W.World c.lay_kept_under.new.world)) (sym c.in-Some.ensures.parts) (c.lay_kept_under.ensures.partly node rest fit)
+
+pub returns-in-None-clause-partly : goal.returns-in-None-clause-partly
+returns-in-None-clause-partly g c = λ node rest fit. subst (λ parts. LaysPartly c.args.root.now (items_under node parts c.args.root.now) (node_bytes node ++ rest) (way_to c.args.root.now) c.args.source.now (seen g.W.World c.args.world.now) (seen g.W.World c.lay_kept_node.new.world)) (sym c.in-None.ensures.parts) (c.lay_kept_node.ensures.partly node rest fit)

@@ -1,4 +1,4 @@
-use Rattle.std.proofs.Common.{◌≡◌, ◌∙◌, ap, subst, arith, Ok, Err, [], ◌++◌, drop, take}
+use Rattle.std.proofs.Common.{◌≡◌, ◌∙◌, refl, ap, subst, arith, Ok, Err, [], ◌++◌, drop, take}
 use Rattle.std.proofs.lemmas.Result.{err_from_is_err_and}
 use Rattle.cnb_world.specs.Tree.{can_read, is_within}
 use Rattle.steps.specs.Outside.{seen}
@@ -8,6 +8,9 @@ use Rattle.tree_store.specs.Right.{way_to}
 use Rattle.tree_store.proofs.Ahead.{does_called, lays_on, lays_stop, leaves_called, leaves_laid, leaves_stop, leaves_then, none_are, plain_path, reads_stop, told_plain, untold_by}
 use Rattle.tree_store.proofs.Around.{appended_so}
 use Rattle.tree_store.proofs.Contents.{ContentsLeft, contents_begun, contents_done, contents_more, piece_ahead, piece_laid, piece_size}
+use Rattle.tree_store.proofs.PartlyLaid.{file_partly}
+use Rattle.tree_store.proofs.Partly.{partly_then}
+use Rattle.tree_store.proofs.KeptPartly.{contents_cut, contents_partly, empty_partly, partly_unread}
 use Rattle.tree_store.proofs.laying_kept.lay_kept_contents.Goals as goal
 
 pub returns-in_err-or_blame-clause-leaves : goal.returns-in_err-or_blame-clause-leaves
@@ -76,3 +79,26 @@ loop-left-preserved g c = record {
 
 pub returns-clause-lays : goal.returns-clause-lays
 returns-clause-lays g c = λ bytes rest is. contents_done c.args.exec c.args.path.now bytes rest c.loop-left.left _ _ _ _ (omega arith) (c.loop-left.invariant.laid bytes rest is)
+
+pub returns-in_err-or_blame-clause-partly : goal.returns-in_err-or_blame-clause-partly
+returns-in_err-or_blame-clause-partly g c = λ bytes rest is. record { so = λ ahead are. file_partly (File c.args.exec bytes) c.args.path.now c.args.exec bytes _ _ refl (empty_partly c.args.path.now c.args.exec bytes _ _ c.lay_file.ensures.partly) }
+
+pub returns-in_err-piece-clause-partly : goal.returns-in_err-piece-clause-partly
+returns-in_err-piece-clause-partly g c = λ bytes rest is. record {
+  so = λ ahead are. file_partly (File c.args.exec bytes) c.args.path.now c.args.exec bytes _ _ refl
+      (partly_then _ _ _ _ _ ((contents_partly c.args.exec c.args.path.now bytes rest c.loop-left.left _ _ _ _ (c.loop-left.invariant.laid bytes rest is)).so ahead are) (partly_unread _ _ _ _ (λ p. (c.in_err-piece.ensures.leaves p).around.files)));
+}
+
+pub returns-in_err-or_blame-2-clause-partly : goal.returns-in_err-or_blame-2-clause-partly
+returns-in_err-or_blame-2-clause-partly g c = λ bytes rest is. record {
+  so = λ ahead are.
+      let h = c.loop-left.invariant.laid bytes rest is in
+      file_partly (File c.args.exec bytes) c.args.path.now c.args.exec bytes _ _ refl
+      ((contents_cut c.args.exec c.args.path.now bytes (bytes ++ rest) h.written h.more rest c.next_size-size.result (way_to c.args.path.now) _ _ c.field.new.self _ _ (seen g.W.World c.field.new.world) (seen g.W.World c.append.new.self) c.as_slice.result.now c.in_ok-piece.piece c.append.result h.is
+      (piece_ahead c.args.exec c.args.path.now bytes rest c.loop-left.left c.next_size-size.result _ _ _ _ h)
+      (c.in_ok-piece.ensures.reads (take c.next_size-size.result h.more) (drop c.next_size-size.result h.more ++ rest) [] (piece_size h.more c.loop-left.left c.next_size-size.result h.count c.next_size-size.ensures.within))
+      c.as_slice.ensures c.append.ensures.ok c.append.ensures.err).so ahead are);
+}
+
+pub returns-clause-partly : goal.returns-clause-partly
+returns-clause-partly g c = λ bytes rest is. record { so = λ ahead are. file_partly (File c.args.exec bytes) c.args.path.now c.args.exec bytes _ _ refl ((contents_partly c.args.exec c.args.path.now bytes rest c.loop-left.left _ _ _ _ (c.loop-left.invariant.laid bytes rest is)).so ahead are) }

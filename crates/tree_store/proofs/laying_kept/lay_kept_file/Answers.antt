@@ -1,4 +1,4 @@
-use Rattle.std.proofs.Common.{◌≡◌, ◌≤◌, ◌∙◌, refl, ap, arith, ℕ, Bool, true, false, if◌then◌else◌, ◌++◌, length, nat_eq}
+use Rattle.std.proofs.Common.{◌≡◌, ◌≤◌, ◌∙◌, refl, ap, subst, arith, ℕ, Bool, true, false, if◌then◌else◌, ◌++◌, length, nat_eq}
 use Rattle.std.specs.Int.{to_be_bytes, w64}
 use Rattle.std.proofs.lemmas.Result.{err_from_is_err_and}
 use Rattle.cnb_world.specs.Tree.{is_within}
@@ -7,6 +7,10 @@ use Rattle.tree_store.specs.Laying.{node_laid}
 use Rattle.tree_store.specs.Right.{way_to}
 use Rattle.tree_store.proofs.Ahead.{lays_as, lays_behind, leaves_broken, leaves_stop, leaves_then, reads_stop}
 use Rattle.tree_store.proofs.Cases.{file_size, lays_few}
+use Rattle.tree_store.specs.Partly.{LaidPartly}
+use Rattle.tree_store.specs.Overlay.{items_of}
+use Rattle.tree_store.proofs.Partly.{partly_then}
+use Rattle.tree_store.proofs.KeptPartly.{part_behind, part_few, partly_unread}
 use Rattle.tree_store.proofs.laying_kept.lay_kept_file.Goals as goal
 
 small : (exec : Bool) (b : ℕ) → b ≡ (if exec then 1 else 0) → b ≤ 1
@@ -58,3 +62,21 @@ returns-clause-lays g c = λ exec bytes rest. lays_few (λ few.
     (λ value. lays_behind (λ read. read ≡ to_be_bytes w64 (length bytes)) (c.in_ok-head.ensures.reads (to_be_bytes w64 (length bytes)) (bytes ++ rest) (way_to c.args.path.now) refl)
     (λ size. lays_as (λ files. ap (λ e. node_laid (File e bytes) c.args.path.now files) (exec_is exec c.in_ok-bit.bit value))
     (c.lay_kept_contents.ensures.lays bytes rest (file_size exec bytes rest c.in_ok-head.head c.as_slice.result.now c.u64_of-len.result few c.as_slice.ensures size c.u64_of-len.ensures)))))
+
+pub returns-in_err-bit-clause-partly : goal.returns-in_err-bit-clause-partly
+returns-in_err-bit-clause-partly g c = λ exec bytes rest. record { so = λ ahead are. partly_unread _ _ _ _ (λ p. (c.in_err-bit.ensures.leaves p).around.files) }
+
+pub returns-then-bit-gt1-clause-partly : goal.returns-then-bit-gt1-clause-partly
+returns-then-bit-gt1-clause-partly g c = λ exec bytes rest. record { so = λ ahead are. partly_unread _ _ _ _ (λ p. (c.in_ok-bit.ensures.leaves p).around.files) }
+
+pub returns-in_err-head-clause-partly : goal.returns-in_err-head-clause-partly
+returns-in_err-head-clause-partly g c = λ exec bytes rest. record { so = λ ahead are. partly_then _ _ _ _ _ (partly_unread _ _ _ _ (λ p. (c.in_ok-bit.ensures.leaves p).around.files)) (partly_unread _ _ _ _ (λ p. (c.in_err-head.ensures.leaves p).around.files)) }
+
+pub returns-clause-partly : goal.returns-clause-partly
+returns-clause-partly g c = λ exec bytes rest. part_few (λ few.
+    part_behind (λ read. read ≡ (if exec then 1 else 0)) (c.in_ok-bit.ensures.reads (if exec then 1 else 0) (to_be_bytes w64 (length bytes) ++ (bytes ++ rest)) (way_to c.args.path.now))
+    (λ value. part_behind (λ read. read ≡ to_be_bytes w64 (length bytes)) (c.in_ok-head.ensures.reads (to_be_bytes w64 (length bytes)) (bytes ++ rest) (way_to c.args.path.now) refl)
+    (λ size. record {
+      so = λ ahead are. subst (λ e. LaidPartly c.args.path.now (items_of (File e bytes) c.args.path.now) (g.W.World.tree c.field.new.world) (g.W.World.tree c.lay_kept_contents.new.world)) (exec_is exec c.in_ok-bit.bit value)
+          ((c.lay_kept_contents.ensures.partly bytes rest (file_size exec bytes rest c.in_ok-head.head c.as_slice.result.now c.u64_of-len.result few c.as_slice.ensures size c.u64_of-len.ensures)).so ahead are);
+    })))

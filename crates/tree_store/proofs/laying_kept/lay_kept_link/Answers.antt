@@ -1,4 +1,4 @@
-use Rattle.std.proofs.Common.{◌≡◌, ◌∙◌, ap, false, true, []}
+use Rattle.std.proofs.Common.{◌≡◌, ◌∙◌, ap, sym, false, true, []}
 use Rattle.std.proofs.lemmas.Bool.{and_parts}
 use Rattle.std.proofs.lemmas.Result.{err_from_is_err_and}
 use Rattle.cnb_world.specs.Tree.{is_within}
@@ -7,6 +7,8 @@ use Rattle.tree_canon.specs.declared.node.Node.TheVariants.{Link}
 use Rattle.tree_store.specs.Laying.{node_laid}
 use Rattle.tree_store.specs.Right.{way_to}
 use Rattle.tree_store.proofs.Ahead.{does_called, lays_as, lays_behind, leaves_broken, leaves_laid, leaves_stop, leaves_then, lays_never, none_are, plain_path, reads_stop, told_plain}
+use Rattle.tree_store.proofs.PartlyLaid.{link_partly}
+use Rattle.tree_store.proofs.KeptPartly.{part_behind, partly_unread}
 use Rattle.tree_store.proofs.laying_kept.lay_kept_link.Goals as goal
 
 text_of : (target : _) → is_target target ≡ true → is_text 4096 target ≡ true
@@ -42,3 +44,14 @@ returns-clause-lays g c = λ target rest is.
     (does_called c.args.path.now rest _ (node_laid (Link c.as_str-2.result.now) c.args.path.now) (way_to c.args.path.now) [] c.lay_link.result _ _ _
     (ap (is_within c.args.path.now) (c.in_ok-target.ensures.leaves c.args.path.now).stays ∙ c.requires.apart) c.lay_link.ensures.ok c.or_blame.ensures.ok c.or_blame.ensures.free c.lay_link.ensures.around
     (λ are. c.lay_link.ensures.right (told_plain _ c.args.path.now (plain_path c.args.path.now _ c.requires.apart)) are) (λ is are. none_are _)))
+
+pub returns-in_err-target-clause-partly : goal.returns-in_err-target-clause-partly
+returns-in_err-target-clause-partly g c = λ target rest is. record { so = λ ahead are. partly_unread _ _ _ _ (λ p. (c.in_err-target.ensures.leaves p).around.files) }
+
+pub returns-then-not-is_target-clause-partly : goal.returns-then-not-is_target-clause-partly
+returns-then-not-is_target-clause-partly g c = λ target rest is. record { so = λ ahead are. partly_unread _ _ _ _ (λ p. (c.in_ok-target.ensures.leaves p).around.files) }
+
+pub returns-clause-partly : goal.returns-clause-partly
+returns-clause-partly g c = λ target rest is.
+    part_behind (λ read. read ≡ target) (c.in_ok-target.ensures.reads target rest (way_to c.args.path.now) (text_of target is))
+    (λ same. record { so = λ ahead are. link_partly (Link target) c.args.path.now _ _ _ (ap Link (sym (c.as_str-2.ensures ∙ same))) c.lay_link.ensures.partly })
