@@ -7,3 +7,4 @@ pub mod GatherLemmas
 pub mod CountLemmas
 pub mod CacheLemmas
 pub mod CachingLemmas
+pub mod CountLaws

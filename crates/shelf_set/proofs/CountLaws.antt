@@ -1,0 +1,76 @@
+-- Steps over a world and its caches: what holds of what is seen of the world, by what ended them.
+use Rattle.std.proofs.Common.{◌≡◌, refl, sym, ap, subst, ℕ, Bool, List, Option, Some, None, Result, Ok, Err}
+use Rattle.tree_canon.specs.declared.node.Node.{Node}
+use Rattle.image_docs.specs.declared.layer_row.LayerRow.{LayerRow}
+use Rattle.steps.specs.Causes.{Cause, FileFailed, ChildFailed, OutOfMemory, Decided}
+use Rattle.steps.specs.Outside.{Seen}
+use Rattle.steps.proofs.EndLaws.{Links, Obeys, Relation, Rests}
+use Rattle.shelf_set.specs.CacheSteps.{finds, gathers}
+use Rattle.shelf_set.specs.Caches.{Caches, WorldAndCaches, in_caches, in_world}
+use Rattle.shelf_set.specs.Caching.{stores_rows}
+
+-- a relation of worlds, whatever the caches are
+abbrev pub BesideCaches : Relation Seen → Relation WorldAndCaches
+BesideCaches R last old new = R last old.world new.world
+
+pub beside_link : (R : Relation Seen) → Links R → Links (BesideCaches R)
+beside_link R links last a b c h k = links last a.world b.world c.world h k
+
+pub beside_rest : (R : Relation Seen) → Rests R → Rests (BesideCaches R)
+beside_rest R rests = record {
+  none = λ s. rests.none s.world;
+  memory = λ s. rests.memory s.world;
+  decided = λ s. rests.decided s.world;
+}
+
+pub obeys_in_world : {E A : Type 0} (R : Relation Seen) (cause_of : E → Cause) (step : Seen → Result A E → Seen → Type 0)
+    → Obeys R cause_of step → Obeys (BesideCaches R) cause_of (in_world step)
+unfolding in_world
+obeys_in_world R cause_of step p old new result h = p old.world new.world result h.0
+
+-- ---- what caches are refused for
+
+-- it went well, or memory ran out
+abbrev pub IsMemoryEnd : Option Cause → Type 0
+IsMemoryEnd None = Unit {0}
+IsMemoryEnd (Some (FileFailed path)) = ⊥
+IsMemoryEnd (Some ChildFailed) = ⊥
+IsMemoryEnd (Some OutOfMemory) = Unit {0}
+IsMemoryEnd (Some Decided) = ⊥
+
+-- a step over caches is refused for want of memory alone
+abbrev pub WantsMemory : Relation Caches
+WantsMemory last old new = IsMemoryEnd last
+
+memory_end : (cause : Cause) → cause ≡ OutOfMemory → IsMemoryEnd (Some cause)
+memory_end cause is = subst (λ (c : Cause). IsMemoryEnd (Some c)) (sym is) tt
+
+pub gathers_ends : {E : Type 0} (cause_of : E → Cause) → Obeys WantsMemory cause_of (gathers cause_of)
+unfolding gathers
+gathers_ends cause_of old new (Ok gathered) h = tt
+gathers_ends cause_of old new (Err fault) h = memory_end (cause_of fault) h.0
+
+pub finds_ends : {E : Type 0} (cause_of : E → Cause) (digest : List ℕ) → Obeys WantsMemory cause_of (finds cause_of digest)
+unfolding finds
+finds_ends cause_of digest old new (Ok search) h = tt
+finds_ends cause_of digest old new (Err fault) h = memory_end (cause_of fault) h.0
+
+pub stores_rows_ends : {E : Type 0} (cause_of : E → Cause) (readable : Bool) (rows : List LayerRow) (trees : List Node) → Obeys WantsMemory cause_of (stores_rows cause_of readable rows trees)
+unfolding stores_rows
+stores_rows_ends cause_of readable rows trees old new (Ok gone) h = tt
+stores_rows_ends cause_of readable rows trees old new (Err fault) h = memory_end (cause_of fault) h.0
+
+memory_rests : (R : Relation Seen) → Rests R → (last : Option Cause) (s : Seen) → IsMemoryEnd last → R last s s
+memory_rests R rests None s h = rests.none s
+memory_rests R rests (Some (FileFailed path)) s h = absurd h
+memory_rests R rests (Some ChildFailed) s h = absurd h
+memory_rests R rests (Some OutOfMemory) s h = rests.memory s
+memory_rests R rests (Some Decided) s h = absurd h
+
+-- steps over caches leave the world alone
+pub obeys_in_caches : {E A : Type 0} (R : Relation Seen) (cause_of : E → Cause) (step : Caches → Result A E → Caches → Type 0)
+    → Rests R → Obeys WantsMemory cause_of step → Obeys (BesideCaches R) cause_of (in_caches step)
+unfolding in_caches
+obeys_in_caches R cause_of step rests p old new (Ok value) h = subst (R None old.world) (sym h.1) (rests.none old.world)
+obeys_in_caches R cause_of step rests p old new (Err fault) h =
+    subst (R (Some (cause_of fault)) old.world) (sym h.1) (memory_rests R rests (Some (cause_of fault)) old.world (p old.caches new.caches (Err fault) h.0))
