@@ -1,4 +1,4 @@
 pub mod BaseLemmas
-pub mod FileLemmas
+pub mod CountLaws
 pub mod ReadableLemmas
 pub mod StandLaws

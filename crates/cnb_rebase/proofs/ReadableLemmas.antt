@@ -1,5 +1,6 @@
 -- An image that can be read can also be read on another run image, and so can a run image of some folders.
 use Rattle.std.proofs.Common.{◌≡◌, ◌∙◌, refl, ap, sym, ℕ, ◌+◌, ◌≤◌, zero, suc, Bool, true, false, not, cond, ◌&&◌, List, [], ◌∷◌, ◌++◌, codes, drop, length, Result, Ok, Err, arith}
+use Rattle.std.specs.Prelude.{IfErr, IsTrue, OnOk}
 use Rattle.std.specs.List.{list_all, prefix_len}
 use Rattle.std.specs.Str.{bytes_eq}
 use Rattle.std.proofs.lemmas.Bool.{and_from, and_parts, cond-true}
@@ -20,11 +21,13 @@ use Rattle.image_docs.specs.declared.image.ImageDoc.{ImageDoc}
 use Rattle.image_docs.specs.declared.row.Row.{Row}
 use Rattle.image_docs.specs.declared.run_image.RunDoc.{RunDoc}
 use Rattle.image_files.proofs.RunPartLaws.{base_readable, env_readable, has_no_run_row, run_env, run_filled, run_rows_ordered, run_rows_sound}
+use Rattle.steps.specs.Causes.{IsAnswer, IsGivenCause}
 use Rattle.steps.specs.Each.{for_each}
 use Rattle.steps.specs.Outside.{Seen}
 use Rattle.steps.specs.Results.{and_then}
 use Rattle.steps.specs.Steps.{◌>>=◌, gives, yields}
 use Rattle.cnb_rebase.specs.Bases.{puts_folders, puts_next}
+use Rattle.cnb_rebase.specs.Refusals.{cause_of}
 use Rattle.cnb_rebase.specs.Rebased.{on_run, rebased, rows_above, same_target, same_top}
 use Rattle.cnb_rebase.specs.declared.refusal.RebaseFault.{RebaseFault}
 
@@ -77,6 +80,19 @@ rebased_readable image new name run h k is = ap is_image_doc (sym (by (same_top 
     by (Ok one) (Ok other) e = cc
     by (Ok one) (Err fault) e = absurd (cc)
     by (Err fault) target e = absurd (cc)
+
+-- ---- an image that was changed where it stands
+
+pub put_readable : (image new : ImageDoc) (name : List ℕ) (run : RunDoc) (result : Result (Unit {0}) RebaseFault) → is_run_doc run ≡ true → IsAnswer cause_of (and_then result (λ done. Ok new)) (rebased image name run)
+    → is_image_doc image ≡ true → OnOk result (IsTrue (is_image_doc new))
+put_readable image new name run (Ok done) k h readable = rebased_readable image new name run readable k h
+put_readable image new name run (Err fault) k h readable = tt
+
+pub put_so : (image new : ImageDoc) (name : List ℕ) (run : RunDoc) (result : Result (Unit {0}) RebaseFault) (old : Seen) → IsAnswer cause_of (and_then result (λ done. Ok new)) (rebased image name run)
+    → IfErr result (λ fault. IsGivenCause (cause_of fault)) → gives cause_of (rebased image name run) old (and_then result (λ done. Ok new)) old
+unfolding gives
+put_so image new name run (Ok done) old h cause = (refl, h, tt)
+put_so image new name run (Err fault) old h cause = (refl, h, cause)
 
 -- ---- a run image of some folders
 

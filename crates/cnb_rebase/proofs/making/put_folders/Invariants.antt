@@ -1,4 +1,4 @@
-use Rattle.std.proofs.Common.{◌≡◌, ℕ, drop, List, [], Result}
+use Rattle.std.proofs.Common.{ℕ, drop, List, [], Result}
 use Rattle.steps.specs.Each.{for_each}
 use Rattle.steps.specs.Outside.{Seen, seen}
 use Rattle.tree_store.specs.declared.fault.StoreFault.{StoreFault}
@@ -11,6 +11,4 @@ invariant-loop-folder g l = record {
   step : (result : Result (List (List ℕ)) StoreFault) (new : Seen)
       → for_each (puts_next l.store) (drop l.folder-index l.folders) l.digests (seen g.W.World l.world) result new
       → for_each (puts_next l.store) l.folders [] (seen g.W.World l.fn.world) result new;
-  files : g.W.World.file_faults l.world ≡ g.W.World.file_faults l.fn.world;
-  children : g.W.World.child_faults l.world ≡ g.W.World.child_faults l.fn.world;
 }
