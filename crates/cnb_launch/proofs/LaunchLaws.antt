@@ -1,38 +1,21 @@
 -- What a launch leaves: all is as it was, but for what its children did.
-use Rattle.std.proofs.Common.{ℕ, List, [], ◌∷◌, Result}
+use Rattle.std.proofs.Common.{refl, ℕ, List}
 use Rattle.cnb_world.specs.declared.env.Variable.{Variable}
 use Rattle.cnb_words.specs.declared.launch.Call.{Call}
-use Rattle.steps.specs.Each.{for_each}
+use Rattle.steps.specs.Frames.{Keeps}
 use Rattle.steps.specs.Outside.{Seen}
-use Rattle.steps.proofs.FrameLaws.{Preserves, keeps_bind, keeps_gives, keeps_reads, keeps_runs_child, keeps_told, keeps_yields}
-use Rattle.cnb_launch.specs.Exec.{runs_all, runs_exec, runs_execs}
-use Rattle.cnb_launch.specs.Planning.{launches, plans, prepares}
+use Rattle.steps.proofs.EndLaws.{Rests}
+use Rattle.steps.proofs.FrameLaws.{Preserves, keeps_reads, keeps_runs_child, keeps_same, keeps_then, keeps_told}
+use Rattle.cnb_launch.specs.Planning.{launches, plans}
+use Rattle.cnb_launch.proofs.ObeyLaws.{launch_obeys, plan_obeys}
 
-keeps_each : {E A X : Type 0} (path : List ℕ) (step : X → A → Seen → Result A E → Seen → Type 0) → ((x : X) (so_far : A) → Preserves path (step x so_far)) → (xs : List X) (so_far : A) → Preserves path (for_each step xs so_far)
-unfolding for_each
-keeps_each path step keeps [] so_far = keeps_yields path so_far
-keeps_each path step keeps (x ∷ xs) so_far = keeps_bind path (step x so_far) (for_each step xs) (keeps x so_far) (λ more. keeps_each path step keeps xs more)
-
-exec_keeps : (path dir program : List ℕ) (env : List Variable) → Preserves path (runs_exec dir program env)
-unfolding runs_exec
-exec_keeps path dir program env = keeps_bind path _ _ (keeps_runs_child path _ _) (λ end. keeps_gives path _ _)
-
-all_keep : (path dir : List ℕ) (lists : List (List (List ℕ))) (env : List Variable) → Preserves path (runs_all dir lists env)
-all_keep path dir lists env = keeps_each path (runs_execs dir) (λ programs so_far. keeps_each path (runs_exec dir) (exec_keeps path dir) programs so_far) lists env
-
-prepare_keeps : (path root : List ℕ) (call : Call) (env : List Variable) → Preserves path (prepares root call env)
-unfolding prepares
-prepare_keeps path root call env =
-    keeps_bind path _ _ (keeps_told path _ _ (keeps_reads path _ _ _)) (λ doc.
-    keeps_bind path _ _ (keeps_gives path _ _) (λ chosen.
-    keeps_bind path _ _ (keeps_told path _ _ (keeps_reads path _ _ _)) (λ sets.
-    keeps_bind path _ _ (keeps_told path _ _ (keeps_reads path _ _ _)) (λ start.
-    keeps_bind path _ _ (keeps_told path _ _ (keeps_reads path _ _ _)) (λ execs. keeps_gives path _ _)))))
+keeps_rest : (path : List ℕ) → Rests {S = Seen} (λ last. Keeps path)
+keeps_rest path =
+    let same : (s : Seen) → Keeps path s s = λ s. keeps_same path s s refl refl in
+    record { none = same; memory = same; decided = same }
 
 pub plan_keeps : (path root : List ℕ) (call : Call) (env : List Variable) → Preserves path (plans root call env)
-unfolding plans
-plan_keeps path root call env = keeps_bind path _ _ (prepare_keeps path root call env) (λ prepared. keeps_bind path _ _ (all_keep path _ _ _) (λ ready. keeps_yields path _))
+plan_keeps path = plan_obeys (λ last. Keeps path) (λ last. keeps_then path) (keeps_rest path) (λ A fits want. keeps_told path _ _ (keeps_reads path _ fits want)) (keeps_runs_child path _)
 
 pub launch_keeps : (path root : List ℕ) (call : Call) (env : List Variable) → Preserves path (launches root call env)
-unfolding launches
-launch_keeps path root call env = keeps_bind path _ _ (plan_keeps path root call env) (λ plan. keeps_runs_child path _ _)
+launch_keeps path = launch_obeys (λ last. Keeps path) (λ last. keeps_then path) (keeps_rest path) (λ A fits want. keeps_told path _ _ (keeps_reads path _ fits want)) (keeps_runs_child path _)

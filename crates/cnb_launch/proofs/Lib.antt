@@ -1,9 +1,10 @@
-pub mod CauseLemmas
+pub mod CountLaws
 pub mod DocumentLemmas
 pub mod ExecLemmas
 pub mod FolderLemmas
 pub mod ImageLemmas
 pub mod LaunchLaws
+pub mod ObeyLaws
 pub mod PlaceLemmas
 pub mod PlanLemmas
 pub mod SoundLemmas

@@ -1,6 +1,6 @@
 -- The steps that say what is run.
-use Rattle.std.proofs.Common.{◌≡◌, subst, ℕ, ◌≤◌, arith, Bool, List, Option, Result, Err}
-use Rattle.std.specs.Prelude.{IfSome, length}
+use Rattle.std.proofs.Common.{◌≡◌, refl, subst, ℕ, ◌≤◌, arith, Bool, List, Option, Result, Err}
+use Rattle.std.specs.Prelude.{IfErr, IfSome, length}
 use Rattle.std.specs.List.{All}
 use Rattle.std.specs.Option.{option_map}
 use Rattle.std.proofs.lemmas.List.Elements.{All-weaker}
@@ -12,14 +12,13 @@ use Rattle.cnb_toml.specs.declared.names.Key.{Key}
 use Rattle.cnb_env.specs.Layers.{AreShort, IsShort, are_fit_launch_sets, launch_env}
 use Rattle.doc_files.specs.Faults.{read_cause}
 use Rattle.doc_files.specs.declared.fault.ReadFault.{ReadFault}
-use Rattle.doc_files.specs.declared.fault.ReadFault.TheVariants as read
-use Rattle.steps.specs.Causes.{Cause, ChildrenBy, FileFailed, ChildFailed, OutOfMemory, Decided, FilesBy, IsAnswer, IsGivenCause}
+use Rattle.steps.specs.Causes.{IsAnswer, IsGivenCause}
 use Rattle.steps.specs.Outside.{Seen, seen}
 use Rattle.steps.specs.Reading.{ReadFrame}
-use Rattle.steps.specs.Steps.{reads}
-use Rattle.steps.proofs.StepLemmas.{read_so}
+use Rattle.steps.specs.Steps.{gives, reads}
+use Rattle.steps.proofs.ReadingLaws.{read_framed}
 use Rattle.cnb_launch.specs.Exec.{runs_all, runs_execs}
-use Rattle.cnb_launch.specs.Faults.{cause_of, of_read_fault}
+use Rattle.cnb_launch.specs.Faults.{cause_of}
 use Rattle.cnb_launch.specs.Folders.{AreWithin, all_exec_folders, all_in, set_folders}
 use Rattle.cnb_launch.specs.Planning.{execs_in, sets_in}
 use Rattle.cnb_launch.specs.declared.fault.LaunchFault.{LaunchFault}
@@ -30,7 +29,7 @@ use Rattle.cnb_launch.specs.declared.folders.Wanted.TheVariants.{Folders, Files}
 pub read_step : {W T : Type 0} (ghosts : world.Ghosts W) (fits : Tree → Bool) (want : Tree → Result T ReadFault) (result : Result T ReadFault) (old new : W)
     → IfSome (ghosts.tree old) (λ files. IsAnswer read_cause result (want files)) → ReadFrame read_cause result (seen ghosts old) (seen ghosts new)
     → MayMisuse (option_map fits (ghosts.tree old)) (ghosts.misused old) (ghosts.misused new) → reads read_cause fits want (seen ghosts old) result (seen ghosts new)
-read_step ghosts fits want result old new answer frame allows = read_so ghosts read_cause fits want result old new answer frame.cause frame.files frame.runs allows
+read_step ghosts fits want result old new answer frame allows = read_framed read_cause fits want result answer frame allows
 
 -- the environment, by the type that was handed on
 pub env_step : {W : Type 0} (ghosts : world.Ghosts W) (kind handed : Option (List ℕ)) (sets : List (List (List ℕ))) (base : List Variable) (result : Result (List Variable) ReadFault) (old new : W) → handed ≡ kind
@@ -71,35 +70,15 @@ execs_refused kind sets folders o fault same h = execs_read kind sets folders o 
 pub sets_short : (sets : List (List (List ℕ))) → All (AreWithin 4615) sets → All AreShort sets
 sets_short sets h = All-weaker (AreWithin 4615) AreShort (λ layers fit. All-weaker (λ path. length path ≤ 4615) IsShort (λ path short. omega arith) layers fit) sets h
 
--- ---- counts
+-- ---- the same lists of programs
 
-pub given_files : (cause : Cause) (x y : ℕ) → IsGivenCause cause → y ≡ x → FilesBy cause x y
-given_files (FileFailed path) x y h same = absurd h
-given_files ChildFailed x y h same = absurd h
-given_files OutOfMemory x y h same = omega arith
-given_files Decided x y h same = same
-
-pub given_children : (cause : Cause) (x y : ℕ) → IsGivenCause cause → y ≡ x → ChildrenBy cause x y
-given_children (FileFailed path) x y h same = absurd h
-given_children ChildFailed x y h same = absurd h
-given_children OutOfMemory x y h same = omega arith
-given_children Decided x y h same = same
-
-pub read_files : (fault : ReadFault) (x y z : ℕ) → y ≡ x → FilesBy (read_cause fault) y z → FilesBy (cause_of (of_read_fault fault)) x z
-read_files (read.File path) x y z same h = subst (λ n. FilesBy (FileFailed path) n z) same h
-read_files (read.Document path fault) x y z same h = subst (λ n. FilesBy Decided n z) same h
-read_files (read.Limit kind) x y z same h = subst (λ n. FilesBy Decided n z) same h
-read_files read.Memory x y z same h = omega arith
-
-pub read_children : (fault : ReadFault) (x y : ℕ) → y ≡ x → ChildrenBy (cause_of (of_read_fault fault)) x y
-read_children (read.File path) x y same = same
-read_children (read.Document path fault) x y same = same
-read_children (read.Limit kind) x y same = same
-read_children read.Memory x y same = omega arith
-
--- the same lists of programs
 pub all_as : (dir : List ℕ) (lists other : List (List (List ℕ))) (env : List Variable) (old new : Seen) (result : Result (List Variable) LaunchFault) → lists ≡ other → runs_all dir lists env old result new → runs_all dir other env old result new
 all_as dir lists other env old new result same h = let P : List (List (List ℕ)) → Type 0 = λ ls. runs_all dir ls env old result new in subst P same h
 
 pub execs_as : (dir : List ℕ) (paths other : List (List ℕ)) (env : List Variable) (old new : Seen) (result : Result (List Variable) LaunchFault) → paths ≡ other → runs_execs dir paths env old result new → runs_execs dir other env old result new
 execs_as dir paths other env old new result same h = let P : List (List ℕ) → Type 0 = λ ps. runs_execs dir ps env old result new in subst P same h
+
+-- an answer that is known, whatever it is
+pub answered : {A : Type 0} (want result : Result A LaunchFault) (old : Seen) → IsAnswer cause_of result want → IfErr result (λ fault. IsGivenCause (cause_of fault)) → gives cause_of want old result old
+unfolding gives
+answered want result old answer cause = (refl, answer, cause)

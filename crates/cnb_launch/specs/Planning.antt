@@ -8,6 +8,7 @@ use Rattle.cnb_toml.specs.declared.names.Key.{Key}
 use Rattle.cnb_env.specs.Layers.{are_fit_launch_sets, launch_env}
 use Rattle.doc_files.specs.Faults.{read_cause}
 use Rattle.doc_files.specs.declared.fault.ReadFault.{ReadFault}
+use Rattle.image_docs.specs.declared.launch_doc.LaunchDoc.{LaunchDoc}
 use Rattle.steps.specs.Outside.{Seen}
 use Rattle.steps.specs.Steps.{◌>>=◌, gives, map_err, reads, runs_child, yields}
 use Rattle.cnb_launch.specs.Choosing.{chosen_in}
@@ -46,16 +47,26 @@ prepared_of root chosen env execs = record {
   execs = execs;
 }
 
+-- the layers' environment files and the names of their programs, for the process that is run
+unfoldable pub prepares_in : List ℕ → List Variable → ChosenProcess → List (List (List ℕ)) → Seen → Result Prepared LaunchFault → Seen → Type 0
+prepares_in root env chosen sets = do
+  start ← map_err of_read_fault (reads read_cause (λ files. are_fit_launch_sets chosen.kind files sets) (launch_env sets chosen.kind env))
+  execs ← map_err of_read_fault (reads read_cause (are_fit_execs chosen.kind sets) (execs_in chosen.kind sets))
+  gives cause_of (Ok (prepared_of root chosen start execs))
+
+-- the process, and the layers
+unfoldable pub prepares_of : List ℕ → Call → List Variable → LaunchDoc → Seen → Result Prepared LaunchFault → Seen → Type 0
+prepares_of root call env doc = do
+  chosen ← gives cause_of (chosen_in doc call)
+  sets ← map_err of_read_fault (reads read_cause (are_fit_layers root doc.buildpacks) (sets_in root doc.buildpacks))
+  prepares_in root env chosen sets
+
 -- The document, the process, the layers, their environment files, the names of their programs: all of it is read before the
 -- first program runs.
 unfoldable pub prepares : List ℕ → Call → List Variable → Seen → Result Prepared LaunchFault → Seen → Type 0
 prepares root call env = do
   doc ← map_err of_read_fault (reads read_cause (is_fit_doc root) (launch_doc_under root))
-  chosen ← gives cause_of (chosen_in doc call)
-  sets ← map_err of_read_fault (reads read_cause (are_fit_layers root doc.buildpacks) (sets_in root doc.buildpacks))
-  start ← map_err of_read_fault (reads read_cause (λ files. are_fit_launch_sets chosen.kind files sets) (launch_env sets chosen.kind env))
-  execs ← map_err of_read_fault (reads read_cause (are_fit_execs chosen.kind sets) (execs_in chosen.kind sets))
-  gives cause_of (Ok (prepared_of root chosen start execs))
+  prepares_of root call env doc
 
 abbrev pub plan_of : Prepared → List Variable → LaunchPlan
 plan_of prepared env = record { command = prepared.command; env = env; dir = prepared.dir }

@@ -6,6 +6,7 @@ use Rattle.cnb_world.specs.declared.limits.LimitKind.TheVariants as limit
 use Rattle.cnb_env.specs.Files.{is_absent}
 use Rattle.doc_files.specs.Faults.{read_cause}
 use Rattle.image_docs.specs.LaunchDoc.{launch_doc_in}
+use Rattle.image_docs.specs.declared.image.ImageDoc.{ImageDoc}
 use Rattle.image_docs.specs.declared.launch_doc.LaunchDoc.{LaunchDoc}
 use Rattle.image_docs.specs.declared.row.Row.{Row}
 use Rattle.image_files.specs.Images.{reads_image}
@@ -57,11 +58,16 @@ lays_launch root launch = do
   tree ← gives cause_of (file_tree bytes)
   map_err of_store_fault (lays_tree root launch_doc_place tree)
 
--- The image is read, the root must be absent, the rows are laid in their order, and then the document of the launch.
-unfoldable pub unpacks : List ℕ → List ℕ → List ℕ → Seen → Result (Unit {0}) LaunchFault → Seen → Type 0
-unpacks store image root = do
-  doc ← map_err of_image_fault (reads_image store image)
+-- the root must be absent, the rows are laid in their order, and then the document of the launch
+unfoldable pub lays_image : List ℕ → List ℕ → ImageDoc → Seen → Result (Unit {0}) LaunchFault → Seen → Type 0
+lays_image store root doc = do
   absent ← map_err of_read_fault (reads read_cause (λ files. true) (λ files. Ok (is_absent (kind_of (item_at files root)))))
   free ← gives cause_of (if_absent root absent)
   laid ← for_each (lays_row store root) doc.rows tt
   lays_launch root doc.launch
+
+-- the image is read and laid
+unfoldable pub unpacks : List ℕ → List ℕ → List ℕ → Seen → Result (Unit {0}) LaunchFault → Seen → Type 0
+unpacks store image root = do
+  doc ← map_err of_image_fault (reads_image store image)
+  lays_image store root doc

@@ -1,11 +1,9 @@
 // The commands `unpack` and `launch`.
-ghost use Rattle.std.specs.Prelude.{◌≡◌, ◌≢◌, IfErr, IfOk};
+ghost use Rattle.std.specs.Prelude.{◌≡◌, IfOk};
 ghost use Rattle.cnb_words.specs.Launch as launch_words;
 ghost use Rattle.cnb_words.specs.Unpack as unpack_words;
-ghost use Rattle.steps.specs.Causes.{ChildFailed, CountsChildren, CountsFiles};
 ghost use Rattle.steps.specs.Outside.{seen};
 ghost use Rattle.cnb_launch.specs.Commands.{launches_command, unpacked_text, unpacks_command};
-ghost use Rattle.cnb_launch.specs.Faults.{cause_of};
 
 use crate::fault::LaunchFault;
 use crate::planning::launch;
@@ -32,9 +30,6 @@ pub fn unpack_command<W: World>(
 ) -> Result<Text, LaunchFault>
     requires { unpack_words.KeepsLimits options.now }
     ensures steps { unpacks_command options.now (seen W.World world.old) result (seen W.World world.new) }
-    ensures files { CountsFiles cause_of result (W.file_faults world.old) (W.file_faults world.new) }
-    ensures children { W.child_faults world.new ≡ W.child_faults world.old }
-    ensures cause { IfErr result (λ fault. cause_of fault ≢ ChildFailed) }
 {
     let text = unpacked_text(alloc, &options.image)?;
     unpack(alloc, world, &options.store, &options.image, &options.root)?;
@@ -51,8 +46,6 @@ pub fn launch_command<W: World>(
 ) -> Result<Option<i32>, LaunchFault>
     requires { launch_words.KeepsLimits options.now }
     ensures steps { launches_command options.now env.now (seen W.World world.old) result (seen W.World world.new) }
-    ensures files { CountsFiles cause_of result (W.file_faults world.old) (W.file_faults world.new) }
-    ensures children { CountsChildren cause_of result (W.child_faults world.old) (W.child_faults world.new) }
 {
     let end = launch(alloc, world, &options.root, &options.call, env)?;
     Ok(end.code)

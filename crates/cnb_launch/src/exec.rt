@@ -1,6 +1,6 @@
 // The programs in `exec.d`.
-ghost use Rattle.std.specs.Prelude.{◌≡◌, ℕ, IfErr, IfOk};
-ghost use Rattle.steps.specs.Causes.{CountsChildren, CountsFiles, IsAnswer, IsGivenCause};
+ghost use Rattle.std.specs.Prelude.{◌≡◌, IfErr, IfOk};
+ghost use Rattle.steps.specs.Causes.{IsAnswer, IsGivenCause};
 ghost use Rattle.steps.specs.Outside.{seen};
 ghost use Rattle.steps.specs.Steps.{runs_child};
 ghost use Rattle.cnb_launch.specs.Exec.{after_exec, exec_job, or_bad, runs_all, runs_exec, runs_execs};
@@ -24,11 +24,9 @@ fn exec_job(alloc: Global, dir: &Path, path: &Path, env: &Env) -> Result<ChildJo
 }
 
 /// Runs a child to its end.
-#[tactic(auto, unfolding(steps::specs::Steps::runs_child))]
+#[tactic(auto, unfolding(steps::specs::Steps::runs_child), using(crate::proofs::ExecLemmas::child_counted))]
 pub(crate) fn run_child<W: World>(world: &mut W, job: &ChildJob) -> Result<End, LaunchFault>
     ensures step { runs_child cause_of job.now (seen W.World world.old) result (seen W.World world.new) }
-    ensures files { CountsFiles cause_of result (W.file_faults world.old) (W.file_faults world.new) }
-    ensures children { CountsChildren cause_of result (W.child_faults world.old) (W.child_faults world.new) }
 {
     Ok(world.run(job)?)
 }
@@ -60,7 +58,6 @@ fn after_exec(alloc: Global, path: &Path, env: Env, end: &End) -> Result<Env, La
     }
 }
 
-#[tactic(auto, using(crate::proofs::PlanLemmas::given_files, crate::proofs::PlanLemmas::given_children))]
 fn run_exec<W: World>(
     alloc: Global,
     world: &mut W,
@@ -69,13 +66,10 @@ fn run_exec<W: World>(
     env: Env,
 ) -> Result<Env, LaunchFault>
     ensures step { runs_exec dir.now path.now env (seen W.World world.old) result (seen W.World world.new) }
-    ensures files { CountsFiles cause_of result (W.file_faults world.old) (W.file_faults world.new) }
-    ensures children { CountsChildren cause_of result (W.child_faults world.old) (W.child_faults world.new) }
 {
     let job = exec_job(alloc, dir, path, &env)?;
     let end = run_child(world, &job)?;
-    let env = after_exec(alloc, path, env, &end)?;
-    Ok(env)
+    after_exec(alloc, path, env, &end)
 }
 
 // The programs of one folder, one after another.
@@ -87,8 +81,6 @@ fn run_execs<W: World>(
     env: Env,
 ) -> Result<Env, LaunchFault>
     ensures step { runs_execs dir.now paths.now env (seen W.World world.old) result (seen W.World world.new) }
-    ensures files { CountsFiles cause_of result (W.file_faults world.old) (W.file_faults world.new) }
-    ensures children { CountsChildren cause_of result (W.child_faults world.old) (W.child_faults world.new) }
 {
     let mut env = env;
     for path in paths {
@@ -106,8 +98,6 @@ pub(crate) fn run_all<W: World>(
     env: Env,
 ) -> Result<Env, LaunchFault>
     ensures step { runs_all dir.now lists.now env (seen W.World world.old) result (seen W.World world.new) }
-    ensures files { CountsFiles cause_of result (W.file_faults world.old) (W.file_faults world.new) }
-    ensures children { CountsChildren cause_of result (W.child_faults world.old) (W.child_faults world.new) }
 {
     let mut env = env;
     for paths in lists {

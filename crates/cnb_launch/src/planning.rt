@@ -1,11 +1,13 @@
 // What is run, and in which environment.
-ghost use Rattle.std.specs.Prelude.{◌≡◌, ◌≤◌, ℕ, List as Seq, IfOk, length};
-ghost use Rattle.steps.specs.Causes.{CountsChildren, CountsFiles};
+ghost use Rattle.std.specs.Prelude.{◌≡◌, ◌≤◌, ℕ, List as Seq, IfOk, IsTrue, length};
+ghost use Rattle.std.specs.List.{All, list_all};
+ghost use Rattle.cnb_toml.specs.Process.{is_process};
 ghost use Rattle.steps.specs.Frames.{Keeps};
 ghost use Rattle.steps.specs.Outside.{seen};
-ghost use Rattle.cnb_launch.specs.Faults.{cause_of};
+ghost use Rattle.cnb_launch.specs.Folders.{AreWithin};
 ghost use Rattle.cnb_launch.specs.Places.{IsShortDir};
-ghost use Rattle.cnb_launch.specs.Planning.{args_of, launch_job, launches, plans, prepared_of, prepares, program_of};
+ghost use Rattle.cnb_launch.specs.Planning.{args_of, launch_job, launches, plans, prepared_of, prepares};
+ghost use Rattle.cnb_launch.specs.Planning.{prepares_in, prepares_of, program_of};
 
 use crate::choosing::{ChosenProcess, choose, copy_words};
 use crate::documents::read_launch;
@@ -13,9 +15,10 @@ use crate::exec::{run_all, run_child};
 use crate::fault::LaunchFault;
 use crate::places::dir_in;
 use crate::sets::{execs_in, sets_in};
-use cnb_env::launch_env;
+use cnb_env::{LayerSet, launch_env};
 use cnb_words::Call;
 use cnb_world::{ChildJob, End, Env, List, Memory, Path, Text, World};
+use image_docs::LaunchDoc;
 use std::alloc::Global;
 
 /// What is run: the command line, whose first word is the program, the whole environment and the working folder.
@@ -59,6 +62,45 @@ fn prepared_of(
     })
 }
 
+// Reads the files of the layers, for a process that is chosen.
+fn prepare_in<W: World>(
+    alloc: Global,
+    world: &mut W,
+    root: &Path,
+    env: &Env,
+    chosen: ChosenProcess,
+    sets: &List<LayerSet>,
+) -> Result<Prepared, LaunchFault>
+    requires root { length root.now ≤ 4096 }
+    requires dir { IsShortDir chosen.dir }
+    requires short { All (AreWithin 4615) sets.now }
+    ensures step { prepares_in root.now env.now chosen sets.now
+        (seen W.World world.old) result (seen W.World world.new) }
+{
+    let start = launch_env(alloc, world, env, sets, chosen.kind.as_ref())?;
+    let execs = execs_in(alloc, world, sets, &chosen.kind)?;
+    Ok(prepared_of(alloc, root, chosen, start, execs)?)
+}
+
+// Chooses the process of a document, and reads what is run with it.
+fn prepare_of<W: World>(
+    alloc: Global,
+    world: &mut W,
+    root: &Path,
+    call: &Call,
+    env: &Env,
+    doc: &LaunchDoc,
+) -> Result<Prepared, LaunchFault>
+    requires root { length root.now ≤ 4096 }
+    requires sound { IsTrue (list_all is_process doc.now.processes) }
+    ensures step { prepares_of root.now call.now env.now doc.now
+        (seen W.World world.old) result (seen W.World world.new) }
+{
+    let chosen = choose(alloc, doc, call)?;
+    let sets = sets_in(alloc, world, root, doc)?;
+    prepare_in(alloc, world, root, env, chosen, &sets)
+}
+
 // Reads all that says what is run, before anything runs.
 fn prepare<W: World>(
     alloc: Global,
@@ -69,16 +111,9 @@ fn prepare<W: World>(
 ) -> Result<Prepared, LaunchFault>
     requires { length root.now ≤ 4096 }
     ensures step { prepares root.now call.now env.now (seen W.World world.old) result (seen W.World world.new) }
-    ensures files { CountsFiles cause_of result (W.file_faults world.old) (W.file_faults world.new) }
-    ensures children { CountsChildren cause_of result (W.child_faults world.old) (W.child_faults world.new) }
 {
     let doc = read_launch(alloc, world, root)?;
-    let chosen = choose(alloc, &doc, call)?;
-    let sets = sets_in(alloc, world, root, &doc)?;
-    let start = launch_env(alloc, world, env, &sets, chosen.kind.as_ref())?;
-    let execs = execs_in(alloc, world, &sets, &chosen.kind)?;
-    let prepared = prepared_of(alloc, root, chosen, start, execs)?;
-    Ok(prepared)
+    prepare_of(alloc, world, root, call, env, &doc)
 }
 
 /// What a call runs of the image under a root: the files say it, and the programs in `exec.d`, which this runs
@@ -94,8 +129,6 @@ pub fn plan_launch<W: World>(
     ensures steps { plans root.now call.now env.now (seen W.World world.old) result (seen W.World world.new) }
     // Nothing is changed but by the children that ran.
     ensures keeps { (path : Seq ℕ) → Keeps path (seen W.World world.old) (seen W.World world.new) }
-    ensures files { CountsFiles cause_of result (W.file_faults world.old) (W.file_faults world.new) }
-    ensures children { CountsChildren cause_of result (W.child_faults world.old) (W.child_faults world.new) }
 {
     let prepared = prepare(alloc, world, root, call, env)?;
     let Prepared {
@@ -153,11 +186,8 @@ pub fn launch<W: World>(
     ensures steps { launches root.now call.now env.now (seen W.World world.old) result (seen W.World world.new) }
     // Nothing is changed but by the children that ran.
     ensures keeps { (path : Seq ℕ) → Keeps path (seen W.World world.old) (seen W.World world.new) }
-    ensures files { CountsFiles cause_of result (W.file_faults world.old) (W.file_faults world.new) }
-    ensures children { CountsChildren cause_of result (W.child_faults world.old) (W.child_faults world.new) }
 {
     let plan = plan_launch(alloc, world, root, call, env)?;
     let job = launch_job(alloc, plan)?;
-    let end = run_child(world, &job)?;
-    Ok(end)
+    run_child(world, &job)
 }

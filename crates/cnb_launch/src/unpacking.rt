@@ -1,23 +1,25 @@
 // An image laid out under a root.
-ghost use Rattle.std.specs.Prelude.{◌≡◌, ◌≢◌, ◌≤◌, IfErr, IfOk, IfSome, IsTrue, Ok, length};
+ghost use Rattle.std.specs.Prelude.{◌≡◌, ◌≤◌, IfErr, IfOk, IfSome, IsTrue, Ok, length};
 ghost use Rattle.std.specs.List.{list_all};
 ghost use Rattle.cnb_world.specs.Tree.{item_at, kind_of};
 ghost use Rattle.cnb_env.specs.Files.{is_absent};
 ghost use Rattle.doc_files.specs.Faults.{read_cause};
+ghost use Rattle.image_docs.specs.Image.{is_image_doc};
 ghost use Rattle.image_docs.specs.LaunchDoc.{is_launch_doc};
 ghost use Rattle.image_docs.specs.Row.{is_row};
-ghost use Rattle.steps.specs.Causes.{ChildFailed, CountsFiles, IsAnswer, IsGivenCause};
+ghost use Rattle.steps.specs.Causes.{IsAnswer, IsGivenCause};
 ghost use Rattle.steps.specs.Each.{for_each};
 ghost use Rattle.steps.specs.Outside.{seen};
 ghost use Rattle.steps.specs.Reading.{ReadFrame};
 ghost use Rattle.cnb_launch.specs.Faults.{cause_of};
-ghost use Rattle.cnb_launch.specs.Unpacking.{ReadsAs, file_tree, if_absent, launch_doc_place, lays_launch, lays_row, unpacks};
+ghost use Rattle.cnb_launch.specs.Unpacking.{ReadsAs, file_tree, if_absent, launch_doc_place, lays_image, lays_launch};
+ghost use Rattle.cnb_launch.specs.Unpacking.{lays_row, unpacks};
 
 use crate::fault::LaunchFault;
 use cnb_toml::ImageName;
 use cnb_world::{Bytes, Kind, LimitKind, Memory, Path, PathFault, World};
 use doc_files::{ReadFault, blamed};
-use image_docs::{LaunchDoc, Row, write_launch_doc};
+use image_docs::{ImageDoc, LaunchDoc, Row, write_launch_doc};
 use image_files::read_image;
 use std::alloc::Global;
 use tree_canon::{Node, Tree, TreeFault};
@@ -61,9 +63,6 @@ fn lay_row<W: World>(
     requires root { length root.now ≤ 4096 }
     requires row { IsTrue (is_row row.now) }
     ensures step { lays_row store.now root.now row.now tt (seen W.World world.old) result (seen W.World world.new) }
-    ensures files { CountsFiles cause_of result (W.file_faults world.old) (W.file_faults world.new) }
-    ensures children { W.child_faults world.new ≡ W.child_faults world.old }
-    ensures cause { IfErr result (λ fault. cause_of fault ≢ ChildFailed) }
 {
     lay_stored(alloc, world, store, &row.digest, root, &row.place)?;
     Ok(())
@@ -82,9 +81,6 @@ fn lay_rows<W: World>(
     requires rows { IsTrue (list_all is_row rows.now) }
     ensures step { for_each (lays_row store.now root.now) rows.now tt
         (seen W.World world.old) result (seen W.World world.new) }
-    ensures files { CountsFiles cause_of result (W.file_faults world.old) (W.file_faults world.new) }
-    ensures children { W.child_faults world.new ≡ W.child_faults world.old }
-    ensures cause { IfErr result (λ fault. cause_of fault ≢ ChildFailed) }
 {
     for row in rows {
         lay_row(alloc, world, store, root, row)?;
@@ -124,15 +120,31 @@ fn lay_launch<W: World>(
     requires root { length root.now ≤ 4096 }
     requires readable { IsTrue (is_launch_doc launch.now) }
     ensures step { lays_launch root.now launch.now (seen W.World world.old) result (seen W.World world.new) }
-    ensures files { CountsFiles cause_of result (W.file_faults world.old) (W.file_faults world.new) }
-    ensures children { W.child_faults world.new ≡ W.child_faults world.old }
-    ensures cause { IfErr result (λ fault. cause_of fault ≢ ChildFailed) }
 {
     let place = launch_doc_place(alloc)?;
     let bytes = write_launch_doc(alloc, launch)?;
     let tree = file_tree(bytes)?;
     write_tree(alloc, world, root, &place, &tree)?;
     Ok(())
+}
+
+// Lays what an image says, where nothing stands at the root.
+fn lay_image<W: World>(
+    alloc: Global,
+    world: &mut W,
+    store: &Path,
+    root: &Path,
+    image: &ImageDoc,
+) -> Result<(), LaunchFault>
+    requires store { length store.now ≤ 4096 }
+    requires root { length root.now ≤ 4096 }
+    requires readable { IsTrue (is_image_doc image.now) }
+    ensures steps { lays_image store.now root.now image.now (seen W.World world.old) result (seen W.World world.new) }
+{
+    let absent = is_absent(alloc, world, root)?;
+    if_absent(alloc, root, absent)?;
+    lay_rows(alloc, world, store, root, image.rows.as_slice())?;
+    lay_launch(alloc, world, root, &image.launch)
 }
 
 /// Lays an image out under a root, where nothing stands: the trees of its rows in their order, and then the document
@@ -148,14 +160,7 @@ pub fn unpack<W: World>(
     requires store { length store.now ≤ 4096 }
     requires root { length root.now ≤ 4096 }
     ensures steps { unpacks store.now image.now root.now (seen W.World world.old) result (seen W.World world.new) }
-    ensures files { CountsFiles cause_of result (W.file_faults world.old) (W.file_faults world.new) }
-    ensures children { W.child_faults world.new ≡ W.child_faults world.old }
-    ensures cause { IfErr result (λ fault. cause_of fault ≢ ChildFailed) }
 {
     let doc = read_image(alloc, world, store, image)?;
-    let absent = is_absent(alloc, world, root)?;
-    if_absent(alloc, root, absent)?;
-    lay_rows(alloc, world, store, root, doc.rows.as_slice())?;
-    lay_launch(alloc, world, root, &doc.launch)?;
-    Ok(())
+    lay_image(alloc, world, store, root, &doc)
 }

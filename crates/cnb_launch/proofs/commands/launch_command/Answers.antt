@@ -4,12 +4,12 @@ use Rattle.cnb_launch.specs.Commands.{launches_command}
 use Rattle.cnb_launch.specs.declared.fault.LaunchFault.{LaunchFault}
 use Rattle.cnb_launch.proofs.commands.launch_command.Goals as goal
 
-pub returns-in_err-end-clause-steps : goal.returns-in_err-end-clause-steps
+pub returns-in_err-end : goal.returns-in_err-end
 unfolding launches_command
-returns-in_err-end-clause-steps g c =
+returns-in_err-end g c =
     let exit = err_from_is_err_and c.from_residual.result c.from_residual.ensures.1 in
-    rw (exit.1, exit.2) (ended _ _ _ _ _ c.in_err-end.ensures.steps)
+    rw (exit.1, exit.2) (record { steps = ended _ _ _ _ _ c.in_err-end.ensures.steps })
 
-pub returns-clause-steps : goal.returns-clause-steps
+pub returns : goal.returns
 unfolding launches_command
-returns-clause-steps g c = went _ _ _ _ _ _ _ c.in_ok-end.ensures.steps (yielded LaunchFault _ _)
+returns g c = record { steps = went _ _ _ _ _ _ _ c.in_ok-end.ensures.steps (yielded LaunchFault _ _) }

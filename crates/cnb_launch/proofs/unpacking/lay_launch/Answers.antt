@@ -3,43 +3,32 @@ use Rattle.std.proofs.lemmas.Result.{err_from_is_err_and}
 use Rattle.steps.proofs.StepLemmas.{ended, given, given_fault, mapped, mapped_fault, went}
 use Rattle.cnb_launch.specs.Unpacking.{lays_launch}
 use Rattle.cnb_launch.proofs.UnpackLemmas.{laid_as, made, not_made}
-use Rattle.cnb_launch.proofs.CauseLemmas.{given_unasked, store_unasked}
 use Rattle.cnb_launch.proofs.unpacking.lay_launch.Goals as goal
 
-pub returns-in_err-place-clause-step : goal.returns-in_err-place-clause-step
+pub returns-in_err-place : goal.returns-in_err-place
 unfolding lays_launch
-returns-in_err-place-clause-step g c =
+returns-in_err-place g c =
     let exit = err_from_is_err_and c.from_residual.result c.from_residual.ensures.1 in
-    rw (exit.1, exit.2) (ended _ _ _ _ _ (not_made _ _))
+    rw (exit.1, exit.2) (record { step = ended _ _ _ _ _ (not_made _ _) })
 
-pub returns-in_err-bytes-clause-step : goal.returns-in_err-bytes-clause-step
+pub returns-in_err-bytes : goal.returns-in_err-bytes
 unfolding lays_launch
-returns-in_err-bytes-clause-step g c =
+returns-in_err-bytes g c =
     let exit = err_from_is_err_and c.from_residual-in_err-bytes.result c.from_residual-in_err-bytes.ensures.1 in
-    rw (exit.1, exit.2) (ended _ _ _ _ _ (not_made _ _))
+    rw (exit.1, exit.2) (record { step = ended _ _ _ _ _ (not_made _ _) })
 
-pub returns-in_err-tree-clause-step : goal.returns-in_err-tree-clause-step
+pub returns-in_err-tree : goal.returns-in_err-tree
 unfolding lays_launch
-returns-in_err-tree-clause-step g c =
+returns-in_err-tree g c =
     let exit = err_from_is_err_and c.from_residual-in_err-tree.result c.from_residual-in_err-tree.ensures.1 in
-    rw (exit.1, exit.2) (went _ _ _ _ _ _ _ (made _ _ _ (c.in_ok-bytes.ensures.reads_back c.requires.readable)) (ended _ _ _ _ _ (given_fault _ _ _ _ c.in_err-tree.ensures.answer c.in_err-tree.ensures.given)))
+    rw (exit.1, exit.2) (record { step = went _ _ _ _ _ _ _ (made _ _ _ (c.in_ok-bytes.ensures.reads_back c.requires.readable)) (ended _ _ _ _ _ (given_fault _ _ _ _ c.in_err-tree.ensures.answer c.in_err-tree.ensures.given)) })
 
-pub returns-in_err-write_tree-clause-step : goal.returns-in_err-write_tree-clause-step
+pub returns-in_err-write_tree : goal.returns-in_err-write_tree
 unfolding lays_launch
-returns-in_err-write_tree-clause-step g c =
+returns-in_err-write_tree g c =
     let exit = err_from_is_err_and c.from_residual-in_err-write_tree.result c.from_residual-in_err-write_tree.ensures.1 in
-    rw (exit.1, exit.2) (went _ _ _ _ _ _ _ (made _ _ _ (c.in_ok-bytes.ensures.reads_back c.requires.readable)) (went _ _ _ _ _ _ _ (given _ _ _ _ c.in_ok-tree.ensures.answer) (mapped_fault _ _ _ _ _ (laid_as _ _ _ _ _ _ (Err _) c.in_ok-place.ensures.path c.in_err-write_tree.ensures.steps))))
+    rw (exit.1, exit.2) (record { step = went _ _ _ _ _ _ _ (made _ _ _ (c.in_ok-bytes.ensures.reads_back c.requires.readable)) (went _ _ _ _ _ _ _ (given _ _ _ _ c.in_ok-tree.ensures.answer) (mapped_fault _ _ _ _ _ (laid_as _ _ _ _ _ _ (Err _) c.in_ok-place.ensures.path c.in_err-write_tree.ensures.steps))) })
 
-pub returns-clause-step : goal.returns-clause-step
+pub returns : goal.returns
 unfolding lays_launch
-returns-clause-step g c = went _ _ _ _ _ _ _ (made _ _ _ (c.in_ok-bytes.ensures.reads_back c.requires.readable)) (went _ _ _ _ _ _ _ (given _ _ _ _ c.in_ok-tree.ensures.answer) (mapped _ _ _ _ _ (laid_as _ _ _ _ _ _ (Ok _) c.in_ok-place.ensures.path c.in_ok-write_tree.ensures.steps)))
-
-pub returns-in_err-tree-clause-cause : goal.returns-in_err-tree-clause-cause
-returns-in_err-tree-clause-cause g c =
-    let exit = err_from_is_err_and c.from_residual-in_err-tree.result c.from_residual-in_err-tree.ensures.1 in
-    rw (exit.1, exit.2) (given_unasked _ c.in_err-tree.ensures.given)
-
-pub returns-in_err-write_tree-clause-cause : goal.returns-in_err-write_tree-clause-cause
-returns-in_err-write_tree-clause-cause g c =
-    let exit = err_from_is_err_and c.from_residual-in_err-write_tree.result c.from_residual-in_err-write_tree.ensures.1 in
-    rw (exit.1, exit.2) (store_unasked _)
+returns g c = record { step = went _ _ _ _ _ _ _ (made _ _ _ (c.in_ok-bytes.ensures.reads_back c.requires.readable)) (went _ _ _ _ _ _ _ (given _ _ _ _ c.in_ok-tree.ensures.answer) (mapped _ _ _ _ _ (laid_as _ _ _ _ _ _ (Ok _) c.in_ok-place.ensures.path c.in_ok-write_tree.ensures.steps))) }
