@@ -1,9 +1,11 @@
 -- What the calls of the layers below say, as steps of a build.
 use Rattle.std.proofs.Common.{◌≡◌, ap, refl, sym, subst, arith, ℕ, Bool, List, Option, Some, None, Result, Ok, Err, inl, inr}
-use Rattle.std.specs.Prelude.{IfSome}
+use Rattle.std.specs.Prelude.{IfErr, IfSome}
 use Rattle.std.specs.Option.{option_map}
-use Rattle.cnb_world.specs.Calls.{LastFailed, MayMisuse, Rose}
+use Rattle.cnb_world.specs.Calls.{CountsChild, CountsFailed, LastFailed, MayMisuse, Rose}
 use Rattle.cnb_world.specs.Tree.{Tree}
+use Rattle.cnb_world.specs.declared.child.ChildFault.{ChildFault}
+use Rattle.cnb_world.specs.declared.child.ChildFault.TheVariants as child_fault
 use Rattle.cnb_world.specs.declared.world.FileFault.{FileFault}
 use Rattle.cnb_world.specs.declared.world.FileFault.TheVariants as file_fault
 use Rattle.cnb_world.specs.declared.world.World as world
@@ -15,17 +17,20 @@ use Rattle.doc_files.specs.Faults.{read_cause}
 use Rattle.doc_files.specs.Reading.{Blames}
 use Rattle.doc_files.specs.declared.fault.ReadFault.{ReadFault}
 use Rattle.doc_files.specs.declared.fault.ReadFault.TheVariants as read
-use Rattle.steps.specs.Causes.{CountsFiles, FilesBy, IsAnswer, IsGivenCause, IsReadCause, IsWriteCause}
+use Rattle.steps.specs.Causes.{Cause, CountsFiles, IsAnswer, IsGivenCause, IsReadCause, IsWriteCause}
+use Rattle.steps.specs.Counts.{AllCounts, FileCounts}
 use Rattle.steps.specs.Each.{for_each}
 use Rattle.steps.specs.Outside.{Seen, seen}
 use Rattle.steps.specs.Reading.{ReadFrame}
 use Rattle.steps.specs.Results.{with_fault}
-use Rattle.steps.specs.Steps.{LeavesSome, reads, writes}
+use Rattle.steps.specs.Steps.{LeavesSome, gives, reads, writes}
+use Rattle.steps.proofs.EndLaws.{files_rest}
+use Rattle.steps.proofs.ReadingLaws.{frame_counts}
 use Rattle.steps.proofs.StepLemmas.{allowed_by, cause_told, read_so}
 use Rattle.cnb_build.specs.declared.fault.BuildFault.{BuildFault}
 use Rattle.cnb_build.specs.declared.fault.BuildFault.TheVariants as build
 use Rattle.cnb_build.specs.Reading.{reads_files, value_at}
-use Rattle.cnb_build.specs.Refusals.{cause_of, of_read_fault}
+use Rattle.cnb_build.specs.Refusals.{cause_of, of_child_fault, of_read_fault}
 
 answer_of : {T : Type 0} (result want : Result T ReadFault) → IsAnswer read_cause result want → IsAnswer cause_of (with_fault of_read_fault result) (with_fault of_read_fault want)
 answer_of (Ok value) want h = ap (with_fault of_read_fault) h
@@ -54,18 +59,24 @@ pub read_fails : (T : Type 0) (path : List ℕ) (fault : FileFault) (refusal : R
 read_fails T path fault refusal given before now last blames is =
     subst (λ f. IsReadCause now (cause_of f)) (sym is) (is_read_cause now refusal (blamed_last T path fault refusal before now last blames))
 
+counts_told : {T : Type 0} (fault : ReadFault) (old new : Seen) → ReadFrame {A = T} read_cause (Err fault) old new → FileCounts (Some (cause_of (of_read_fault fault))) old new
+counts_told fault old new frame =
+    subst (λ (cause : Cause). FileCounts (Some cause) old new) (sym (same_cause fault)) (frame_counts read_cause (Err fault) old new frame)
+
 -- files that were read, and files whose reading was refused
 pub read_done : {W T : Type 0} (ghosts : world.Ghosts W) (fits : Tree → Bool) (want : Tree → Result T ReadFault) (value : T) (old new : W)
     → IfSome (ghosts.tree old) (λ files. IsAnswer read_cause (Ok value) (want files)) → ReadFrame read_cause (Ok value) (seen ghosts old) (seen ghosts new)
     → MayMisuse (option_map fits (ghosts.tree old)) (ghosts.misused old) (ghosts.misused new) → reads_files fits want (seen ghosts old) (Ok value) (seen ghosts new)
 read_done ghosts fits want value old new answer frame allows =
     read_so ghosts cause_of fits (λ files. with_fault of_read_fault (want files)) (Ok value) old new (answer_where (Ok value) (ghosts.tree old) want answer) tt frame.files frame.runs allows
+    (record { ends = tt; files = frame.counts; children = frame.children })
 
 pub read_refused : {W T : Type 0} (ghosts : world.Ghosts W) (fits : Tree → Bool) (want : Tree → Result T ReadFault) (fault : ReadFault) (old new : W)
     → IfSome (ghosts.tree old) (λ files. IsAnswer {A = T} read_cause (Err fault) (want files)) → ReadFrame {A = T} read_cause (Err fault) (seen ghosts old) (seen ghosts new)
     → MayMisuse (option_map fits (ghosts.tree old)) (ghosts.misused old) (ghosts.misused new) → reads_files {A = T} fits want (seen ghosts old) (Err (of_read_fault fault)) (seen ghosts new)
 read_refused ghosts fits want fault old new answer frame allows =
     read_so ghosts cause_of fits (λ files. with_fault of_read_fault (want files)) (Err (of_read_fault fault)) old new (answer_where (Err fault) (ghosts.tree old) want answer) (is_read_cause (ghosts.failed_at new) fault frame.cause) frame.files frame.runs allows
+    (counts_told fault (seen ghosts old) (seen ghosts new) frame)
 
 free_where : (o : Option Tree) → IfSome o (λ files. Unit {0})
 free_where None = tt
@@ -79,6 +90,7 @@ not_read fits want old = record {
   answer = free_where old.files;
   cause = tt;
   allows = allowed_by fits old.files old.misused old.misused refl;
+  counts = files_rest.memory old;
 }
 
 -- two spellings of what is read
@@ -94,8 +106,8 @@ more_left path Says Means means old new (inr (bytes, says, part)) = inr (bytes, 
 pub writes_as : (path : List ℕ) (Says Means : List ℕ → Type 0) → ((bytes : List ℕ) → Says bytes → Means bytes) → (result : Result (Unit {0}) BuildFault) (old new : Seen)
     → writes cause_of path Says old result new → writes cause_of path Means old result new
 unfolding writes
-writes_as path Says Means means (Ok done) old new h = record { bytes = h.bytes; says = means h.bytes h.says; files = h.files; fits = h.fits; runs = h.runs; allows = h.allows }
-writes_as path Says Means means (Err fault) old new h = (h.0, record { files = more_left path Says Means means old.files new.files h.1.files; runs = h.1.runs; allows = h.1.allows })
+writes_as path Says Means means (Ok done) old new h = record { bytes = h.bytes; says = means h.bytes h.says; files = h.files; fits = h.fits; runs = h.runs; allows = h.allows; counts = h.counts }
+writes_as path Says Means means (Err fault) old new h = (h.0, record { files = more_left path Says Means means old.files new.files h.1.files; runs = h.1.runs; allows = h.1.allows }, h.2)
 
 -- what is known of a document that was read costs no call
 no_call : (path : List ℕ) → ((n : ℕ) → CountsFiles {A = Unit {0}} read_cause (Err (read.File path)) n n) → ⊥
@@ -106,12 +118,6 @@ given_cause T (read.File path) h = no_call path h
 given_cause T (read.Document path fault) h = tt
 given_cause T (read.Limit kind) h = tt
 given_cause T read.Memory h = tt
-
-pub given_files : (T : Type 0) (fault : ReadFault) → ((n : ℕ) → CountsFiles {A = T} read_cause (Err fault) n n) → (n : ℕ) → FilesBy (cause_of (of_read_fault fault)) n n
-given_files T (read.File path) h n = h n
-given_files T (read.Document path fault) h n = h n
-given_files T (read.Limit kind) h n = h n
-given_files T read.Memory h n = h n
 
 memory_at : {T : Type 0} (path : List ℕ) (result : Result T BuildFault) → IsAnswer cause_of result (value_at {A = T} path (Err doc_fault.Memory)) → (want : Result T BuildFault) → IsAnswer cause_of result want
 memory_at path (Ok value) h want = absurd (cc)
@@ -136,6 +142,11 @@ answered_at path (Err (doc_fault.Missing text)) want result is h = subst (λ a. 
 answered_at path (Err (doc_fault.Wrong text)) want result is h = subst (λ a. IsAnswer cause_of result (value_at path a)) is h
 answered_at path (Err (doc_fault.Name text)) want result is h = subst (λ a. IsAnswer cause_of result (value_at path a)) is h
 
+-- an answer that is known, whatever it is
+pub answered : {A : Type 0} (want result : Result A BuildFault) (old : Seen) → IsAnswer cause_of result want → IfErr result (λ fault. IsGivenCause (cause_of fault)) → gives cause_of want old result old
+unfolding gives
+answered want result old answer cause = (refl, answer, cause)
+
 -- two spellings of a list
 pub all_same : {X A : Type 0} (step : X → A → Seen → Result A BuildFault → Seen → Type 0) (xs ys : List X) (value : A) (result : Result A BuildFault) (old new : Seen) → xs ≡ ys → for_each step xs value old result new → for_each step ys value old result new
 all_same step xs ys value result old new same h = subst (λ zs. for_each step zs value old result new) same h
@@ -153,3 +164,27 @@ write_cause path fault refusal given blames is = subst (λ f. IsWriteCause path 
     by file_fault.Memory read.Memory h = tt
     by file_fault.Memory (read.Document at fault) h = absurd h
     by file_fault.Memory (read.Limit kind) h = absurd h
+
+-- and counted where it failed
+pub call_counted : (T : Type 0) (path : List ℕ) (fault : FileFault) (refusal : ReadFault) (given : BuildFault) (old new : Seen) → CountsFailed {T = T} (Err fault) old.file_faults new.file_faults → new.child_faults ≡ old.child_faults
+    → Blames path fault refusal → given ≡ of_read_fault refusal → FileCounts (Some (cause_of given)) old new
+call_counted T path fault refusal given old new counts children blames is = subst (λ f. FileCounts (Some (cause_of f)) old new) (sym is) (by fault refusal counts blames)
+  where
+    by : (f : FileFault) (r : ReadFault) → CountsFailed {T = T} (Err f) old.file_faults new.file_faults → Blames path f r → FileCounts (Some (cause_of (of_read_fault r))) old new
+    by file_fault.Failed (read.File failed) k h = record { ends = tt; files = k; children = children }
+    by file_fault.Failed read.Memory k h = record { ends = tt; files = k.later; children = children }
+    by file_fault.Failed (read.Document at fault) k h = absurd h
+    by file_fault.Failed (read.Limit kind) k h = absurd h
+    by file_fault.Memory (read.File failed) k h = absurd h
+    by file_fault.Memory read.Memory k h = record { ends = tt; files = omega (arith, k); children = children }
+    by file_fault.Memory (read.Document at fault) k h = absurd h
+    by file_fault.Memory (read.Limit kind) k h = absurd h
+
+-- a child that gave no end, and is counted where it failed
+pub child_counted : (T : Type 0) (fault : ChildFault) (given : BuildFault) (old new : Seen) → new.file_faults ≡ old.file_faults → CountsChild {T = T} (Err fault) old.child_faults new.child_faults → given ≡ of_child_fault fault
+    → AllCounts (Some (cause_of given)) old new
+child_counted T fault given old new files children is = subst (λ f. AllCounts (Some (cause_of f)) old new) (sym is) (by fault children)
+  where
+    by : (f : ChildFault) → CountsChild {T = T} (Err f) old.child_faults new.child_faults → AllCounts (Some (cause_of (of_child_fault f))) old new
+    by child_fault.Failed k = record { files = files; children = k }
+    by child_fault.Memory k = record { files = omega (arith, files); children = omega (arith, k) }

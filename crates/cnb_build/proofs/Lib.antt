@@ -1,6 +1,8 @@
 pub mod BuildSteps
+pub mod CountLaws
 pub mod KeepLaws
 pub mod LayerLemmas
+pub mod ObeyLaws
 pub mod OutcomeLaws
 pub mod PlaceLemmas
 pub mod PlanLemmas

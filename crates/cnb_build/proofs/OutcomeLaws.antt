@@ -31,7 +31,7 @@ use Rattle.cnb_build.specs.declared.fault.BuildFault.{BuildFault}
 use Rattle.cnb_build.specs.declared.frame.BuildFrame.{BuildFrame}
 use Rattle.cnb_build.specs.declared.frame.Built.{Built}
 use Rattle.cnb_build.specs.declared.places.Places.{Places}
-use Rattle.cnb_build.specs.Builds.{builds, builds_one, closes, nothing_built, prepares, reads_left, runs_build, with_layers}
+use Rattle.cnb_build.specs.Builds.{builds, builds_at, builds_one, closes, ends_build, nothing_built, prepares, reads_left, runs_build, with_layers}
 use Rattle.cnb_build.specs.Descriptor.{clears_in, reads_descriptor}
 use Rattle.cnb_build.specs.Job.{build_job, files_for}
 use Rattle.layer_paths.specs.Names.{layers_among}
@@ -151,11 +151,8 @@ says_left places =
     (λ launch. reads_as store_in places.store >>= (λ store. reads_layers places.layers)) (says_as launch_in places.launch)
     (λ launch. says_then (read_as store_in places.store) (λ store. layers_at places.layers) (reads_as store_in places.store) (λ store. reads_layers places.layers) (says_as store_in places.store) (λ store. says_layers places.layers))
 
--- what is done behind a child
-abbrev behind_child : GroupRow → Places → Built → Seen → Result Built BuildFault → Seen → Type 0
-behind_child row places built = closes row places built.pending >>= (λ pending. reads_left places >>= (λ layers. gives cause_of (Ok (with_layers built.done layers pending))))
-
-says_behind : (row : GroupRow) (places : Places) (built : Built) → OnlySays (built_at row places built) (behind_child row places built)
+says_behind : (row : GroupRow) (places : Places) (built : Built) → OnlySays (built_at row places built) (ends_build row places built)
+unfolding ends_build
 says_behind row places built =
     says_then (pending_at row places built.pending) (λ pending files. results.and_then (left_at places files) (λ layers. Ok (with_layers built.done layers pending))) (closes row places built.pending)
     (λ pending. reads_left places >>= (λ layers. gives cause_of (Ok (with_layers built.done layers pending)))) (says_pending row places built.pending)
@@ -231,15 +228,11 @@ only_true : (b : Bool) (fault : BuildFault) (done : Unit {0}) → cond b (let r 
 only_true true fault done h = refl
 only_true false fault done h = absurd (cc)
 
-abbrev builds_at : BuildFrame → List Variable → GroupRow → Built → Places → Seen → Result Built BuildFault → Seen → Type 0
-builds_at frame base row built places =
-    prepares row places built.pending >>= (λ clear_env. runs_build frame base row places clear_env built.done >>= (λ passed. behind_child row places built))
-
 abbrev env_in : BuildFrame → List Variable → Built → Bool → Tree → Result (List Variable) BuildFault
 env_in frame base built clear_env files = with_fault of_read_fault (build_env built.done (files_for frame clear_env) base files)
 
 went_well : (frame : BuildFrame) (base : List Variable) (row : GroupRow) (built next : Built) (places : Places) (old new : Seen) → builds_at frame base row built places old (Ok next) new → BuiltOne frame base row places built next old new
-unfolding ◌>>=◌ runs_build runs_child gives
+unfolding ◌>>=◌ builds_at runs_build runs_child gives
 went_well frame base row built next places old new (clear_env, m1, prep, (done, m2, (env, k1, e, (end, k2, rn, p)), behind)) =
     let run : Run = record { job = build_job frame places env; end = end; found = k1.files; left = k2.files } in
     let before = prepared row places built.pending clear_env old m1 prep in
@@ -256,7 +249,7 @@ went_well frame base row built next places old new (clear_env, m1, prep, (done, 
 
 was_refused : (frame : BuildFrame) (base : List Variable) (row : GroupRow) (built : Built) (places : Places) (fault : BuildFault) (old new : Seen) → builds_at frame base row built places old (Err fault) new
     → (new.runs ≡ old.runs) ⊎ RanOne frame base row places built old new
-unfolding ◌>>=◌ runs_build runs_child gives
+unfolding ◌>>=◌ builds_at runs_build runs_child gives
 was_refused frame base row built places fault old new (inl prep) = inl (unprepared row places built.pending fault old new prep)
 was_refused frame base row built places fault old new (inr (clear_env, m1, prep, inl (inl e))) =
     inl ((says_files (λ files. are_fit_sets Build files built.done) (env_in frame base built clear_env) m1 new (Err fault) e).same.runs ∙ (prepared row places built.pending clear_env old m1 prep).runs)

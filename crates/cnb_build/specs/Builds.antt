@@ -56,15 +56,25 @@ reads_left places = do
 abbrev pub with_layers : List (List (List ℕ)) → List (List ℕ) → List PlanEntry → Built
 with_layers done layers pending = record { pending = pending; done = done ++ layers ∷ [] }
 
+-- what is done behind its child
+unfoldable pub ends_build : GroupRow → Places → Built → Seen → Result Built BuildFault → Seen → Type 0
+ends_build row places built = do
+  pending ← closes row places built.pending
+  layers ← reads_left places
+  gives cause_of (Ok (with_layers built.done layers pending))
+
+-- the build of a buildpack whose places are known
+unfoldable pub builds_at : BuildFrame → List Variable → GroupRow → Built → Places → Seen → Result Built BuildFault → Seen → Type 0
+builds_at frame base row built places = do
+  clear_env ← prepares row places built.pending
+  passed ← runs_build frame base row places clear_env built.done
+  ends_build row places built
+
 -- one buildpack is built, behind others
 unfoldable pub builds_one : BuildFrame → List Variable → GroupRow → Built → Seen → Result Built BuildFault → Seen → Type 0
 builds_one frame base row built = do
   places ← gives cause_of (Ok (places_of frame row.key))
-  clear_env ← prepares row places built.pending
-  passed ← runs_build frame base row places clear_env built.done
-  pending ← closes row places built.pending
-  layers ← reads_left places
-  gives cause_of (Ok (with_layers built.done layers pending))
+  builds_at frame base row built places
 
 -- before the first build the whole plan is pending, and no buildpack has layers
 abbrev pub nothing_built : List PlanEntry → Built

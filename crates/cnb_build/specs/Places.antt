@@ -6,11 +6,16 @@ use Rattle.cnb_toml.specs.declared.names.Key.{Key}
 use Rattle.cnb_env.specs.Buildpack.{buildpack_folder, plan_name_of}
 use Rattle.layer_paths.specs.Paths.{layers_folder}
 use Rattle.cnb_build.specs.declared.frame.BuildFrame.{BuildFrame}
+use Rattle.cnb_build.specs.declared.places.Left.{Left}
 use Rattle.cnb_build.specs.declared.places.Places.{Places}
 
 -- the file of its Buildpack Plan
 abbrev pub buildpack_plan_path : BuildFrame → Key → List ℕ
 buildpack_plan_path frame key = joined (joined frame.work (codes "plans")) (plan_name_of key)
+
+-- the documents that a child may leave in a folder of layers
+abbrev pub left_in : List ℕ → Left
+left_in layers = record { unmet = joined layers (codes "build.toml"); launch = joined layers (codes "launch.toml"); store = joined layers (codes "store.toml") }
 
 abbrev pub places_of : BuildFrame → Key → Places
 places_of frame key = record {

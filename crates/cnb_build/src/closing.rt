@@ -2,11 +2,9 @@
 ghost use Rattle.std.specs.Prelude.{IfOk, IsTrue};
 ghost use Rattle.run_docs.specs.Build.{build_in};
 ghost use Rattle.run_docs.specs.Plan.{is_plan_doc};
-ghost use Rattle.steps.specs.Causes.{CountsChildren, CountsFiles};
 ghost use Rattle.steps.specs.Outside.{seen};
 ghost use Rattle.cnb_build.specs.Builds.{closes};
 ghost use Rattle.cnb_build.specs.Reading.{reads_as};
-ghost use Rattle.cnb_build.specs.Refusals.{cause_of};
 
 use crate::fault::BuildFault;
 use crate::places::Places;
@@ -19,12 +17,9 @@ use std::alloc::Global;
 
 fn read_unmet<W: World>(alloc: Global, world: &mut W, path: &Path) -> Result<BuildToml, BuildFault>
     ensures step { reads_as build_in path.now (seen W.World world.old) result (seen W.World world.new) }
-    ensures files { CountsFiles cause_of result (W.file_faults world.old) (W.file_faults world.new) }
-    ensures children { CountsChildren cause_of result (W.child_faults world.old) (W.child_faults world.new) }
 {
     let found = read_document(alloc, world, path)?;
-    let unmet = value_at(alloc, path, read_build(alloc, bytes_of(&found)))?;
-    Ok(unmet)
+    value_at(alloc, path, read_build(alloc, bytes_of(&found)))
 }
 
 /// Closes the entries of a buildpack's plan, but for what `build.toml` leaves unmet: the entries that are still
@@ -39,10 +34,7 @@ pub(crate) fn close<W: World>(
     requires { IsTrue (is_plan_doc pending) }
     ensures step { closes row.now places.now pending (seen W.World world.old) result (seen W.World world.new) }
     ensures kept { IfOk result (λ kept. IsTrue (is_plan_doc kept)) }
-    ensures files { CountsFiles cause_of result (W.file_faults world.old) (W.file_faults world.new) }
-    ensures children { CountsChildren cause_of result (W.child_faults world.old) (W.child_faults world.new) }
 {
     let unmet = read_unmet(alloc, world, &places.unmet)?;
-    let kept = pending_after(alloc, &row.key, &unmet, pending)?;
-    Ok(kept)
+    pending_after(alloc, &row.key, &unmet, pending)
 }

@@ -1,9 +1,7 @@
 // The command `build`.
 ghost use Rattle.cnb_words.specs.Build.{KeepsLimits};
-ghost use Rattle.steps.specs.Causes.{CountsChildren, CountsFiles};
 ghost use Rattle.steps.specs.Outside.{seen};
 ghost use Rattle.cnb_build.specs.Command.{commands_build};
-ghost use Rattle.cnb_build.specs.Refusals.{cause_of};
 
 use crate::fault::BuildFault;
 use crate::given::{Given, read_given};
@@ -22,8 +20,6 @@ pub fn build_command<W: World>(
 ) -> Result<Text, BuildFault>
     requires limits { KeepsLimits options.now }
     ensures steps { commands_build options.now env.now (seen W.World world.old) result (seen W.World world.new) }
-    ensures files { CountsFiles cause_of result (W.file_faults world.old) (W.file_faults world.new) }
-    ensures children { CountsChildren cause_of result (W.child_faults world.old) (W.child_faults world.new) }
 {
     let given = read_given(alloc, options, env, world)?;
     let Given { group, plan, frame } = given;

@@ -1,6 +1,6 @@
 // The descriptor of a buildpack that is built.
-ghost use Rattle.std.specs.Prelude.{ℕ, IfErr};
-ghost use Rattle.steps.specs.Causes.{CountsChildren, CountsFiles, IsAnswer, IsGivenCause};
+ghost use Rattle.std.specs.Prelude.{IfErr};
+ghost use Rattle.steps.specs.Causes.{IsAnswer, IsGivenCause};
 ghost use Rattle.steps.specs.Outside.{seen};
 ghost use Rattle.cnb_build.specs.Descriptor.{clears_in, clears_of, reads_descriptor};
 ghost use Rattle.cnb_build.specs.Refusals.{cause_of};
@@ -15,8 +15,6 @@ use std::alloc::Global;
 fn clears_of(alloc: Global, path: &Path, body: Body) -> Result<bool, BuildFault>
     ensures answer { IsAnswer cause_of result (clears_of path.now body) }
     ensures cause { IfErr result (λ fault. IsGivenCause (cause_of fault)) }
-    ensures files { (n : ℕ) → CountsFiles cause_of result n n }
-    ensures children { (n : ℕ) → CountsChildren cause_of result n n }
 {
     match body {
         Body::Component { clear_env } => Ok(clear_env),
@@ -31,8 +29,6 @@ fn clears_of(alloc: Global, path: &Path, body: Body) -> Result<bool, BuildFault>
 fn clears_in(alloc: Global, path: &Path, found: Option<Bytes>) -> Result<bool, BuildFault>
     ensures answer { IsAnswer cause_of result (clears_in path.now found) }
     ensures cause { IfErr result (λ fault. IsGivenCause (cause_of fault)) }
-    ensures files { (n : ℕ) → CountsFiles cause_of result n n }
-    ensures children { (n : ℕ) → CountsChildren cause_of result n n }
 {
     match found {
         Some(bytes) => {
@@ -51,10 +47,7 @@ pub(crate) fn read_descriptor<W: World>(
     path: &Path,
 ) -> Result<bool, BuildFault>
     ensures step { reads_descriptor path.now (seen W.World world.old) result (seen W.World world.new) }
-    ensures files { CountsFiles cause_of result (W.file_faults world.old) (W.file_faults world.new) }
-    ensures children { CountsChildren cause_of result (W.child_faults world.old) (W.child_faults world.new) }
 {
     let found = read_document(alloc, world, path)?;
-    let clear_env = clears_in(alloc, path, found)?;
-    Ok(clear_env)
+    clears_in(alloc, path, found)
 }

@@ -1,10 +1,10 @@
 // What a build is given by files.
-ghost use Rattle.std.specs.Prelude.{◌≡◌, ◌≤◌, ℕ, IfErr, IfOk, IsTrue, length};
+ghost use Rattle.std.specs.Prelude.{◌≡◌, ◌≤◌, IfErr, IfOk, IsTrue, length};
 ghost use Rattle.cnb_words.specs.Build.{KeepsLimits as WithinLimits};
 ghost use Rattle.cnb_env.specs.Files.{is_fit_platform, platform_files_in};
 ghost use Rattle.run_docs.specs.Group.{group_in};
 ghost use Rattle.run_docs.specs.Plan.{is_plan_doc, plan_in};
-ghost use Rattle.steps.specs.Causes.{CountsChildren, CountsFiles, IsAnswer, IsGivenCause};
+ghost use Rattle.steps.specs.Causes.{IsAnswer, IsGivenCause};
 ghost use Rattle.steps.specs.Outside.{seen};
 ghost use Rattle.cnb_build.specs.Given.{documents_of, frame_of, known_apis, needed, reads_given, reads_needed};
 ghost use Rattle.cnb_build.specs.Places.{KeepsLimits};
@@ -49,8 +49,6 @@ fn documents_of(alloc: Global, work: &Path) -> Result<Documents, Memory>
 fn group_of(alloc: Global, path: &Path, found: Option<Bytes>) -> Result<GroupDoc, BuildFault>
     ensures answer { IsAnswer cause_of result (needed group_in path.now found) }
     ensures cause { IfErr result (λ fault. IsGivenCause (cause_of fault)) }
-    ensures files { (n : ℕ) → CountsFiles cause_of result n n }
-    ensures children { (n : ℕ) → CountsChildren cause_of result n n }
 {
     match found {
         Some(bytes) => value_at(alloc, path, read_group(alloc, bytes.as_slice())),
@@ -62,8 +60,6 @@ fn group_of(alloc: Global, path: &Path, found: Option<Bytes>) -> Result<GroupDoc
 fn plan_of(alloc: Global, path: &Path, found: Option<Bytes>) -> Result<PlanDoc, BuildFault>
     ensures answer { IsAnswer cause_of result (needed plan_in path.now found) }
     ensures cause { IfErr result (λ fault. IsGivenCause (cause_of fault)) }
-    ensures files { (n : ℕ) → CountsFiles cause_of result n n }
-    ensures children { (n : ℕ) → CountsChildren cause_of result n n }
     ensures kept { IfOk result (λ plan. IsTrue (is_plan_doc plan)) }
 {
     match found {
@@ -78,31 +74,23 @@ fn read_group_at<W: World>(
     path: &Path,
 ) -> Result<GroupDoc, BuildFault>
     ensures step { reads_needed group_in path.now (seen W.World world.old) result (seen W.World world.new) }
-    ensures files { CountsFiles cause_of result (W.file_faults world.old) (W.file_faults world.new) }
-    ensures children { CountsChildren cause_of result (W.child_faults world.old) (W.child_faults world.new) }
 {
     let found = read_document(alloc, world, path)?;
-    let group = group_of(alloc, path, found)?;
-    Ok(group)
+    group_of(alloc, path, found)
 }
 
 fn read_plan_at<W: World>(alloc: Global, world: &mut W, path: &Path) -> Result<PlanDoc, BuildFault>
     ensures step { reads_needed plan_in path.now (seen W.World world.old) result (seen W.World world.new) }
-    ensures files { CountsFiles cause_of result (W.file_faults world.old) (W.file_faults world.new) }
-    ensures children { CountsChildren cause_of result (W.child_faults world.old) (W.child_faults world.new) }
     ensures kept { IfOk result (λ plan. IsTrue (is_plan_doc plan)) }
 {
     let found = read_document(alloc, world, path)?;
-    let plan = plan_of(alloc, path, found)?;
-    Ok(plan)
+    plan_of(alloc, path, found)
 }
 
 // Refuses a group that has a buildpack of another Buildpack API.
 fn check_apis(alloc: Global, group: &GroupDoc) -> Result<(), BuildFault>
     ensures answer { IsAnswer cause_of result (known_apis group.now) }
     ensures cause { IfErr result (λ fault. IsGivenCause (cause_of fault)) }
-    ensures files { (n : ℕ) → CountsFiles cause_of result n n }
-    ensures children { (n : ℕ) → CountsChildren cause_of result n n }
 {
     match foreign_among(group.as_slice()) {
         Some(row) => Err(BuildFault::Api(row.api.copy(alloc)?)),
@@ -118,8 +106,6 @@ fn read_files<W: World>(
     requires { length platform.now ≤ 4096 }
     ensures step { reads_files (is_fit_platform platform.now) (platform_files_in platform.now)
         (seen W.World world.old) result (seen W.World world.new) }
-    ensures files { CountsFiles cause_of result (W.file_faults world.old) (W.file_faults world.new) }
-    ensures children { CountsChildren cause_of result (W.child_faults world.old) (W.child_faults world.new) }
 {
     let files = platform_files(alloc, world, platform)?;
     Ok(files)
@@ -156,8 +142,6 @@ pub(crate) fn read_given<W: World>(
     ensures step { reads_given options.now env.now (seen W.World world.old) result (seen W.World world.new) }
     ensures kept { IfOk result (λ given. IsTrue (is_plan_doc given.plan)) }
     ensures limits { IfOk result (λ given. KeepsLimits given.frame) }
-    ensures files { CountsFiles cause_of result (W.file_faults world.old) (W.file_faults world.new) }
-    ensures children { CountsChildren cause_of result (W.child_faults world.old) (W.child_faults world.new) }
 {
     let documents = documents_of(alloc, &options.work)?;
     let group = read_group_at(alloc, world, &documents.group)?;

@@ -3,14 +3,12 @@ ghost use Rattle.std.specs.Prelude.{◌≡◌, ℕ, List as Seq, IsTrue, true};
 ghost use Rattle.std.specs.List.{list_all};
 ghost use Rattle.cnb_env.specs.Base.{base_env};
 ghost use Rattle.run_docs.specs.Plan.{is_plan_doc};
-ghost use Rattle.steps.specs.Causes.{CountsChildren, CountsFiles};
 ghost use Rattle.steps.specs.Each.{for_each};
 ghost use Rattle.steps.specs.Frames.{Keeps};
 ghost use Rattle.steps.specs.Outside.{seen};
 ghost use Rattle.cnb_build.specs.Builds.{builds, builds_one, nothing_built};
 ghost use Rattle.cnb_build.specs.Outcome.{RunsBuilds, spares};
 ghost use Rattle.cnb_build.specs.Places.{KeepsLimits};
-ghost use Rattle.cnb_build.specs.Refusals.{cause_of};
 
 use crate::fault::BuildFault;
 use crate::frame::{BuildFrame, Built};
@@ -33,8 +31,6 @@ fn build_rows<W: World>(
     requires limits { KeepsLimits frame.now }
     ensures step { for_each (builds_one frame.now base.now) group.now (nothing_built plan)
         (seen W.World world.old) result (seen W.World world.new) }
-    ensures files { CountsFiles cause_of result (W.file_faults world.old) (W.file_faults world.new) }
-    ensures children { CountsChildren cause_of result (W.child_faults world.old) (W.child_faults world.new) }
 {
     let mut built = Built {
         pending: plan,
@@ -63,8 +59,6 @@ pub fn build<W: World>(
     // A path that no build touches stands, where the children left what stood there.
     ensures others { (path : Seq ℕ) → list_all (spares path frame.now) group.now ≡ true
         → Keeps path (seen W.World world.old) (seen W.World world.new) }
-    ensures files { CountsFiles cause_of result (W.file_faults world.old) (W.file_faults world.new) }
-    ensures children { CountsChildren cause_of result (W.child_faults world.old) (W.child_faults world.new) }
 {
     let base = base_env(alloc, &frame.env)?;
     let _built = build_rows(alloc, world, frame, &base, group.as_slice(), plan)?;

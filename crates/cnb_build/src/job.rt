@@ -1,8 +1,8 @@
 // The child that builds a buildpack.
-ghost use Rattle.std.specs.Prelude.{◌≡◌, ◌≤◌, ◌∷◌, [], ℕ, IfErr, IfOk, OnOk, codes, length};
+ghost use Rattle.std.specs.Prelude.{◌≡◌, ◌≤◌, ◌∷◌, [], IfErr, IfOk, OnOk, codes, length};
 ghost use Rattle.std.specs.Option.{option_copied};
 ghost use Rattle.cnb_world.specs.Path.{joined};
-ghost use Rattle.steps.specs.Causes.{CountsChildren, CountsFiles, IsAnswer, IsGivenCause};
+ghost use Rattle.steps.specs.Causes.{IsAnswer, IsGivenCause};
 ghost use Rattle.cnb_build.specs.Job.{build_job, files_for, passed_by, with_own};
 ghost use Rattle.cnb_build.specs.Places.{HasRoom};
 ghost use Rattle.cnb_build.specs.Refusals.{cause_of};
@@ -78,8 +78,6 @@ pub(crate) fn build_job(
 pub(crate) fn passed(alloc: Global, key: &Key, end: &End) -> Result<(), BuildFault>
     ensures answer { IsAnswer cause_of result (passed_by key.now end.now) }
     ensures cause { IfErr result (λ fault. IsGivenCause (cause_of fault)) }
-    ensures files { (n : ℕ) → CountsFiles cause_of result n n }
-    ensures children { (n : ℕ) → CountsChildren cause_of result n n }
 {
     match end.code {
         Some(0) => Ok(()),

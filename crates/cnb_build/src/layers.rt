@@ -1,12 +1,12 @@
 // The layers that a buildpack left.
-ghost use Rattle.std.specs.Prelude.{◌≡◌, ◌≤◌, [], ℕ, IfErr, IfOk, Ok, length, true};
+ghost use Rattle.std.specs.Prelude.{◌≡◌, ◌≤◌, [], IfErr, IfOk, Ok, length, true};
 ghost use Rattle.cnb_world.specs.Tree.{can_list, item_at, kind_of};
 ghost use Rattle.cnb_env.specs.Contents.{contents_of};
 ghost use Rattle.cnb_env.specs.Files.{is_absent};
 ghost use Rattle.cnb_env.specs.Layers.{AreShort};
 ghost use Rattle.doc_files.specs.Reading.{names_at};
 ghost use Rattle.layer_paths.specs.Paths.{layer_document};
-ghost use Rattle.steps.specs.Causes.{CountsChildren, CountsFiles, IsAnswer, IsGivenCause};
+ghost use Rattle.steps.specs.Causes.{IsAnswer, IsGivenCause};
 ghost use Rattle.steps.specs.Each.{for_each};
 ghost use Rattle.steps.specs.Outside.{seen};
 ghost use Rattle.cnb_build.specs.Layers.{found_with, reads_layer, reads_layers, reads_names, with_layer};
@@ -23,12 +23,10 @@ use layer_paths::{contents_path, layer_document, layers_among};
 use run_docs::{LayerDoc, read_layer};
 use std::alloc::Global;
 
-#[tactic(auto, unfolding(steps::specs::Steps::reads), using(steps::proofs::StepLemmas::allowed_by, crate::proofs::BuildSteps::read_fails))]
+#[tactic(auto, unfolding(steps::specs::Steps::reads), using(steps::proofs::StepLemmas::allowed_by, crate::proofs::BuildSteps::call_counted, crate::proofs::BuildSteps::read_fails))]
 fn kind_at<W: World>(alloc: Global, world: &mut W, path: &Path) -> Result<Kind, BuildFault>
     ensures step { reads_files (λ files. true) (λ files. Ok (kind_of (item_at files path.now)))
         (seen W.World world.old) result (seen W.World world.new) }
-    ensures files { CountsFiles cause_of result (W.file_faults world.old) (W.file_faults world.new) }
-    ensures children { CountsChildren cause_of result (W.child_faults world.old) (W.child_faults world.new) }
 {
     match world.kind(path) {
         Ok(kind) => Ok(kind),
@@ -39,8 +37,6 @@ fn kind_at<W: World>(alloc: Global, world: &mut W, path: &Path) -> Result<Kind, 
 fn names_in<W: World>(alloc: Global, world: &mut W, folder: &Path) -> Result<List<Text>, BuildFault>
     ensures step { reads_files (λ files. can_list files folder.now) (λ files. names_at files folder.now)
         (seen W.World world.old) result (seen W.World world.new) }
-    ensures files { CountsFiles cause_of result (W.file_faults world.old) (W.file_faults world.new) }
-    ensures children { CountsChildren cause_of result (W.child_faults world.old) (W.child_faults world.new) }
 {
     let names = list_names(alloc, world, folder)?;
     Ok(names)
@@ -59,15 +55,12 @@ fn read_names<W: World>(
     folder: &Path,
 ) -> Result<List<Text>, BuildFault>
     ensures step { reads_names folder.now (seen W.World world.old) result (seen W.World world.new) }
-    ensures files { CountsFiles cause_of result (W.file_faults world.old) (W.file_faults world.new) }
-    ensures children { CountsChildren cause_of result (W.child_faults world.old) (W.child_faults world.new) }
 {
     let kind = kind_at(alloc, world, folder)?;
     if is_absent(kind) {
         return Ok(List::new(alloc));
     }
-    let names = names_in(alloc, world, folder)?;
-    Ok(names)
+    names_in(alloc, world, folder)
 }
 
 #[tactic(auto, using(crate::proofs::PlaceLemmas::more_layers_short))]
@@ -102,8 +95,6 @@ fn found_with(
     requires short { AreShort found }
     ensures answer { IsAnswer cause_of result (found_with folder.now layer.now found document) }
     ensures cause { IfErr result (λ fault. IsGivenCause (cause_of fault)) }
-    ensures files { (n : ℕ) → CountsFiles cause_of result n n }
-    ensures children { (n : ℕ) → CountsChildren cause_of result n n }
     ensures short { IfOk result AreShort }
 {
     match document {
@@ -122,8 +113,6 @@ fn regular_file<W: World>(
 ) -> Result<Option<Bytes>, BuildFault>
     ensures step { reads_files (λ files. true) (λ files. contents_of (item_at files path.now))
         (seen W.World world.old) result (seen W.World world.new) }
-    ensures files { CountsFiles cause_of result (W.file_faults world.old) (W.file_faults world.new) }
-    ensures children { CountsChildren cause_of result (W.child_faults world.old) (W.child_faults world.new) }
 {
     let found = contents(alloc, world, path)?;
     Ok(found)
@@ -140,14 +129,11 @@ fn read_layer_at<W: World>(
     requires folder { length folder.now ≤ 4352 }
     requires short { AreShort found }
     ensures step { reads_layer folder.now layer.now found (seen W.World world.old) result (seen W.World world.new) }
-    ensures files { CountsFiles cause_of result (W.file_faults world.old) (W.file_faults world.new) }
-    ensures children { CountsChildren cause_of result (W.child_faults world.old) (W.child_faults world.new) }
     ensures short { IfOk result AreShort }
 {
     let path = layer_document(alloc, folder, layer)?;
     let document = regular_file(alloc, world, &path)?;
-    let all = found_with(alloc, folder, layer, found, &path, document)?;
-    Ok(all)
+    found_with(alloc, folder, layer, found, &path, document)
 }
 
 #[tactic(auto, using(crate::proofs::PlaceLemmas::no_layers_short))]
@@ -160,8 +146,6 @@ fn read_each<W: World>(
     requires { length folder.now ≤ 4352 }
     ensures step { for_each (reads_layer folder.now) layers.now [] (seen W.World world.old) result
         (seen W.World world.new) }
-    ensures files { CountsFiles cause_of result (W.file_faults world.old) (W.file_faults world.new) }
-    ensures children { CountsChildren cause_of result (W.child_faults world.old) (W.child_faults world.new) }
     ensures short { IfOk result AreShort }
 {
     let mut found = List::new(alloc);
@@ -180,12 +164,9 @@ pub(crate) fn read_layers<W: World>(
 ) -> Result<LayerSet, BuildFault>
     requires { length folder.now ≤ 4352 }
     ensures step { reads_layers folder.now (seen W.World world.old) result (seen W.World world.new) }
-    ensures files { CountsFiles cause_of result (W.file_faults world.old) (W.file_faults world.new) }
-    ensures children { CountsChildren cause_of result (W.child_faults world.old) (W.child_faults world.new) }
     ensures short { IfOk result AreShort }
 {
     let names = read_names(alloc, world, folder)?;
     let layers = layers_among(alloc, &names)?;
-    let found = read_each(alloc, world, folder, layers.as_slice())?;
-    Ok(found)
+    read_each(alloc, world, folder, layers.as_slice())
 }

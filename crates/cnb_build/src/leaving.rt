@@ -3,12 +3,10 @@ ghost use Rattle.std.specs.Prelude.{IfOk};
 ghost use Rattle.cnb_env.specs.Layers.{AreShort};
 ghost use Rattle.run_docs.specs.Launch.{launch_in};
 ghost use Rattle.run_docs.specs.Store.{store_in};
-ghost use Rattle.steps.specs.Causes.{CountsChildren, CountsFiles};
 ghost use Rattle.steps.specs.Outside.{seen};
 ghost use Rattle.cnb_build.specs.Builds.{reads_left};
 ghost use Rattle.cnb_build.specs.Places.{HasRoom};
 ghost use Rattle.cnb_build.specs.Reading.{reads_as};
-ghost use Rattle.cnb_build.specs.Refusals.{cause_of};
 
 use crate::fault::BuildFault;
 use crate::layers::read_layers;
@@ -26,12 +24,9 @@ fn read_launch_toml<W: World>(
     path: &Path,
 ) -> Result<LaunchToml, BuildFault>
     ensures step { reads_as launch_in path.now (seen W.World world.old) result (seen W.World world.new) }
-    ensures files { CountsFiles cause_of result (W.file_faults world.old) (W.file_faults world.new) }
-    ensures children { CountsChildren cause_of result (W.child_faults world.old) (W.child_faults world.new) }
 {
     let found = read_document(alloc, world, path)?;
-    let launch = value_at(alloc, path, read_launch(alloc, bytes_of(&found)))?;
-    Ok(launch)
+    value_at(alloc, path, read_launch(alloc, bytes_of(&found)))
 }
 
 fn read_store_toml<W: World>(
@@ -40,12 +35,9 @@ fn read_store_toml<W: World>(
     path: &Path,
 ) -> Result<StoreToml, BuildFault>
     ensures step { reads_as store_in path.now (seen W.World world.old) result (seen W.World world.new) }
-    ensures files { CountsFiles cause_of result (W.file_faults world.old) (W.file_faults world.new) }
-    ensures children { CountsChildren cause_of result (W.child_faults world.old) (W.child_faults world.new) }
 {
     let found = read_document(alloc, world, path)?;
-    let store = value_at(alloc, path, read_store(alloc, bytes_of(&found)))?;
-    Ok(store)
+    value_at(alloc, path, read_store(alloc, bytes_of(&found)))
 }
 
 /// Reads `launch.toml` and `store.toml` for their faults, and then the layers' documents. It answers the folders of the
@@ -57,12 +49,9 @@ pub(crate) fn read_left<W: World>(
 ) -> Result<LayerSet, BuildFault>
     requires { HasRoom places.now }
     ensures step { reads_left places.now (seen W.World world.old) result (seen W.World world.new) }
-    ensures files { CountsFiles cause_of result (W.file_faults world.old) (W.file_faults world.new) }
-    ensures children { CountsChildren cause_of result (W.child_faults world.old) (W.child_faults world.new) }
     ensures short { IfOk result AreShort }
 {
     let _launch = read_launch_toml(alloc, world, &places.launch)?;
     let _store = read_store_toml(alloc, world, &places.store)?;
-    let layers = read_layers(alloc, world, &places.layers)?;
-    Ok(layers)
+    read_layers(alloc, world, &places.layers)
 }

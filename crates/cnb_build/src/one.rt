@@ -3,17 +3,15 @@ ghost use Rattle.std.specs.Prelude.{◌≡◌, IfOk, IsTrue};
 ghost use Rattle.std.specs.List.{All};
 ghost use Rattle.cnb_env.specs.Layers.{AreShort};
 ghost use Rattle.run_docs.specs.Plan.{is_plan_doc};
-ghost use Rattle.steps.specs.Causes.{CountsChildren, CountsFiles};
 ghost use Rattle.steps.specs.Outside.{seen};
-ghost use Rattle.cnb_build.specs.Builds.{builds_one, with_layers};
-ghost use Rattle.cnb_build.specs.Places.{KeepsLimits};
-ghost use Rattle.cnb_build.specs.Refusals.{cause_of};
+ghost use Rattle.cnb_build.specs.Builds.{builds_at, builds_one, ends_build, with_layers};
+ghost use Rattle.cnb_build.specs.Places.{HasRoom, KeepsLimits};
 
 use crate::closing::close;
 use crate::fault::BuildFault;
 use crate::frame::{BuildFrame, Built};
 use crate::leaving::read_left;
-use crate::places::places_of;
+use crate::places::{Places, places_of};
 use crate::preparing::prepare;
 use crate::running::run_build;
 use cnb_env::LayerSet;
@@ -36,6 +34,58 @@ fn with_layers(
     Ok(Built { pending, done })
 }
 
+// Closes the plan's entries and reads what the child left.
+fn end_build<W: World>(
+    alloc: Global,
+    world: &mut W,
+    row: &GroupRow,
+    places: &Places,
+    built: Built,
+) -> Result<Built, BuildFault>
+    requires plan { IsTrue (is_plan_doc built.pending) }
+    requires room { HasRoom places.now }
+    requires short { All AreShort built.done }
+    ensures step { ends_build row.now places.now built (seen W.World world.old) result (seen W.World world.new) }
+    ensures kept { IfOk result (λ all. IsTrue (is_plan_doc all.pending)) }
+    ensures short { IfOk result (λ all. All AreShort all.done) }
+{
+    let Built { pending, done } = built;
+    let pending = close(alloc, world, row, places, pending)?;
+    let layers = read_left(alloc, world, places)?;
+    Ok(with_layers(done, layers, pending)?)
+}
+
+fn build_at<W: World>(
+    alloc: Global,
+    world: &mut W,
+    frame: &BuildFrame,
+    base: &Env,
+    row: &GroupRow,
+    places: &Places,
+    built: Built,
+) -> Result<Built, BuildFault>
+    requires plan { IsTrue (is_plan_doc built.pending) }
+    requires room { HasRoom places.now }
+    requires short { All AreShort built.done }
+    ensures step { builds_at frame.now base.now row.now built places.now
+        (seen W.World world.old) result (seen W.World world.new) }
+    ensures kept { IfOk result (λ all. IsTrue (is_plan_doc all.pending)) }
+    ensures short { IfOk result (λ all. All AreShort all.done) }
+{
+    let clear_env = prepare(alloc, world, row, places, &built.pending)?;
+    run_build(
+        alloc,
+        world,
+        frame,
+        base,
+        row,
+        places,
+        clear_env,
+        &built.done,
+    )?;
+    end_build(alloc, world, row, places, built)
+}
+
 /// Builds one buildpack behind others.
 pub(crate) fn build_one<W: World>(
     alloc: Global,
@@ -52,15 +102,7 @@ pub(crate) fn build_one<W: World>(
         (seen W.World world.old) result (seen W.World world.new) }
     ensures kept { IfOk result (λ all. IsTrue (is_plan_doc all.pending)) }
     ensures short { IfOk result (λ all. All AreShort all.done) }
-    ensures files { CountsFiles cause_of result (W.file_faults world.old) (W.file_faults world.new) }
-    ensures children { CountsChildren cause_of result (W.child_faults world.old) (W.child_faults world.new) }
 {
-    let Built { pending, done } = built;
     let places = places_of(alloc, frame, &row.key)?;
-    let clear_env = prepare(alloc, world, row, &places, &pending)?;
-    run_build(alloc, world, frame, base, row, &places, clear_env, &done)?;
-    let pending = close(alloc, world, row, &places, pending)?;
-    let layers = read_left(alloc, world, &places)?;
-    let all = with_layers(done, layers, pending)?;
-    Ok(all)
+    build_at(alloc, world, frame, base, row, &places, built)
 }

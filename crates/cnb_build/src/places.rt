@@ -1,8 +1,8 @@
 // Where the files of a buildpack's build stand.
-ghost use Rattle.std.specs.Prelude.{◌≡◌, IfOk, IsTrue, false};
+ghost use Rattle.std.specs.Prelude.{◌≡◌, ◌≤◌, IfOk, IsTrue, false, length};
 ghost use Rattle.cnb_world.specs.Path.{beside, is_path};
 ghost use Rattle.cnb_world.specs.Tree.{is_root};
-ghost use Rattle.cnb_build.specs.Places.{HasRoom, KeepsLimits, places_of, buildpack_plan_path};
+ghost use Rattle.cnb_build.specs.Places.{HasRoom, KeepsLimits, buildpack_plan_path, left_in, places_of};
 
 use crate::frame::BuildFrame;
 use cnb_env::{buildpack_folder, plan_name};
@@ -24,6 +24,25 @@ pub(crate) struct Places {
     pub(crate) store: Path,
 }
 
+// The documents that a buildpack's child may leave in its folder of layers.
+#[derive(Drop)]
+struct Left {
+    unmet: Path,
+    launch: Path,
+    store: Path,
+}
+
+fn left_in(alloc: Global, layers: &Path) -> Result<Left, Memory>
+    requires { length layers.now ≤ 4352 }
+    ensures { IfOk result (λ left. left ≡ left_in layers.now) }
+{
+    Ok(Left {
+        unmet: layers.below(alloc, "build.toml")?,
+        launch: layers.below(alloc, "launch.toml")?,
+        store: layers.below(alloc, "store.toml")?,
+    })
+}
+
 #[tactic(auto, using(crate::proofs::PlaceLemmas::beside_plan, crate::proofs::PlaceLemmas::no_root, cnb_world::proofs::Lengths::length_joined))]
 fn buildpack_plan_path(alloc: Global, frame: &BuildFrame, key: &Key) -> Result<Path, Memory>
     requires { KeepsLimits frame.now }
@@ -43,15 +62,17 @@ pub(crate) fn places_of(alloc: Global, frame: &BuildFrame, key: &Key) -> Result<
     ensures room { IfOk result HasRoom }
 {
     let buildpack = buildpack_folder(alloc, &frame.buildpacks, key)?;
+    let descriptor = buildpack.below(alloc, "buildpack.toml")?;
     let layers = layers_folder(alloc, &frame.layers, &key.id)?;
     let plan = buildpack_plan_path(alloc, frame, key)?;
+    let left = left_in(alloc, &layers)?;
     Ok(Places {
-        descriptor: buildpack.below(alloc, "buildpack.toml")?,
-        unmet: layers.below(alloc, "build.toml")?,
-        launch: layers.below(alloc, "launch.toml")?,
-        store: layers.below(alloc, "store.toml")?,
         buildpack,
+        descriptor,
         layers,
         plan,
+        unmet: left.unmet,
+        launch: left.launch,
+        store: left.store,
     })
 }

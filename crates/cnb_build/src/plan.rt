@@ -1,10 +1,10 @@
 // The Buildpack Plan of a buildpack, and what its build leaves pending.
-ghost use Rattle.std.specs.Prelude.{◌≡◌, ◌++◌, ℕ, IfErr, IfOk, IsTrue, OnOk, not};
+ghost use Rattle.std.specs.Prelude.{◌≡◌, ◌++◌, IfErr, IfOk, IsTrue, OnOk, not};
 ghost use Rattle.std.specs.List.{filter};
 ghost use Rattle.std.specs.Option.{option_copied};
 ghost use Rattle.run_docs.specs.BuildpackPlan.{is_bp_plan};
 ghost use Rattle.run_docs.specs.Plan.{is_plan_doc};
-ghost use Rattle.steps.specs.Causes.{CountsChildren, CountsFiles, IsAnswer, IsGivenCause};
+ghost use Rattle.steps.specs.Causes.{IsAnswer, IsGivenCause};
 ghost use Rattle.cnb_build.specs.Plan.{is_closed, is_in_plan, pending_after, plan_for, provides, unknown_among};
 ghost use Rattle.cnb_build.specs.Refusals.{cause_of};
 
@@ -98,8 +98,6 @@ pub(crate) fn pending_after(
     ensures answer { IsAnswer cause_of result (pending_after key.now unmet.now pending) }
     ensures cause { IfErr result (λ fault. IsGivenCause (cause_of fault)) }
     ensures kept { IfOk result (λ kept. IsTrue (is_plan_doc kept)) }
-    ensures files { (n : ℕ) → CountsFiles cause_of result n n }
-    ensures children { (n : ℕ) → CountsChildren cause_of result n n }
 {
     if let Some(name) = unknown_among(key, pending.as_slice(), unmet.as_slice()) {
         return Err(BuildFault::UnknownUnmet {

@@ -4,7 +4,6 @@ ghost use Rattle.cnb_world.specs.Path.{beside, is_path};
 ghost use Rattle.cnb_world.specs.Tree.{is_root};
 ghost use Rattle.run_docs.specs.BuildpackPlan.{bp_plan_in};
 ghost use Rattle.run_docs.specs.Plan.{is_plan_doc};
-ghost use Rattle.steps.specs.Causes.{CountsChildren, CountsFiles};
 ghost use Rattle.steps.specs.Outside.{seen};
 ghost use Rattle.steps.specs.Steps.{makes_folder, writes};
 ghost use Rattle.cnb_build.specs.Builds.{prepares};
@@ -21,11 +20,9 @@ use doc_files::blamed;
 use run_docs::{GroupRow, PlanDoc, write_bp_plan};
 use std::alloc::Global;
 
-#[tactic(auto, unfolding(steps::specs::Steps::makes_folder), using(steps::proofs::StepLemmas::allowed_by))]
+#[tactic(auto, unfolding(steps::specs::Steps::makes_folder), using(steps::proofs::StepLemmas::allowed_by, crate::proofs::BuildSteps::call_counted))]
 fn make_folder<W: World>(alloc: Global, world: &mut W, path: &Path) -> Result<(), BuildFault>
     ensures step { makes_folder cause_of path.now (seen W.World world.old) result (seen W.World world.new) }
-    ensures files { CountsFiles cause_of result (W.file_faults world.old) (W.file_faults world.new) }
-    ensures children { CountsChildren cause_of result (W.child_faults world.old) (W.child_faults world.new) }
 {
     match world.make_folder(path) {
         Ok(()) => Ok(()),
@@ -43,8 +40,6 @@ fn write_at<W: World>(
     requires not_root { is_root path.now ≡ false }
     ensures step { writes cause_of path.now (λ written. written ≡ bytes.now)
         (seen W.World world.old) result (seen W.World world.new) }
-    ensures files { CountsFiles cause_of result (W.file_faults world.old) (W.file_faults world.new) }
-    ensures children { CountsChildren cause_of result (W.child_faults world.old) (W.child_faults world.new) }
 {
     match write_whole(alloc, world, path, bytes) {
         Ok(()) => Ok(()),
@@ -65,13 +60,10 @@ fn write_plan<W: World>(
     ensures step { writes cause_of places.now.plan
         (λ bytes. bp_plan_in bytes ≡ Ok (plan_for row.now.key pending.now))
         (seen W.World world.old) result (seen W.World world.new) }
-    ensures files { CountsFiles cause_of result (W.file_faults world.old) (W.file_faults world.new) }
-    ensures children { CountsChildren cause_of result (W.child_faults world.old) (W.child_faults world.new) }
 {
     let needs = plan_for(alloc, &row.key, pending)?;
     let bytes = write_bp_plan(alloc, &needs)?;
-    write_at(alloc, world, &places.plan, bytes.as_slice())?;
-    Ok(())
+    write_at(alloc, world, &places.plan, bytes.as_slice())
 }
 
 /// Reads the descriptor, makes the folder of layers and writes the Buildpack Plan. It answers whether the buildpack
@@ -87,8 +79,6 @@ pub(crate) fn prepare<W: World>(
     requires room { HasRoom places.now }
     ensures step { prepares row.now places.now pending.now
         (seen W.World world.old) result (seen W.World world.new) }
-    ensures files { CountsFiles cause_of result (W.file_faults world.old) (W.file_faults world.new) }
-    ensures children { CountsChildren cause_of result (W.child_faults world.old) (W.child_faults world.new) }
 {
     let clear_env = read_descriptor(alloc, world, &places.descriptor)?;
     make_folder(alloc, world, &places.layers)?;

@@ -1,6 +1,6 @@
 // Reading documents.
-ghost use Rattle.std.specs.Prelude.{◌≡◌, ℕ, IfErr};
-ghost use Rattle.steps.specs.Causes.{CountsChildren, CountsFiles, IsAnswer, IsGivenCause};
+ghost use Rattle.std.specs.Prelude.{IfErr};
+ghost use Rattle.steps.specs.Causes.{IsAnswer, IsGivenCause};
 ghost use Rattle.steps.specs.Outside.{seen};
 ghost use Rattle.cnb_build.specs.Reading.{reads_document, value_at};
 ghost use Rattle.cnb_build.specs.Refusals.{cause_of};
@@ -17,8 +17,6 @@ pub(crate) fn read_document<W: World>(
     path: &Path,
 ) -> Result<Option<Bytes>, BuildFault>
     ensures step { reads_document path.now (seen W.World world.old) result (seen W.World world.new) }
-    ensures files { CountsFiles cause_of result (W.file_faults world.old) (W.file_faults world.new) }
-    ensures children { CountsChildren cause_of result (W.child_faults world.old) (W.child_faults world.new) }
 {
     let found = doc_files::read_document(alloc, world, path)?;
     Ok(found)
@@ -32,8 +30,6 @@ pub(crate) fn value_at<T: Drop>(
 ) -> Result<T, BuildFault>
     ensures answer { IsAnswer cause_of result (value_at path.now answer) }
     ensures cause { IfErr result (λ fault. IsGivenCause (cause_of fault)) }
-    ensures files { (n : ℕ) → CountsFiles cause_of result n n }
-    ensures children { (n : ℕ) → CountsChildren cause_of result n n }
 {
     let value = doc_files::read_at(alloc, path, answer)?;
     Ok(value)

@@ -2,7 +2,6 @@
 ghost use Rattle.std.specs.List.{All};
 ghost use Rattle.cnb_env.specs.Layers.{AreShort, are_fit_sets, build_env};
 ghost use Rattle.cnb_env.specs.declared.layers.Phase.TheVariants.{Build};
-ghost use Rattle.steps.specs.Causes.{CountsChildren, CountsFiles};
 ghost use Rattle.steps.specs.Outside.{seen};
 ghost use Rattle.steps.specs.Steps.{runs_child};
 ghost use Rattle.cnb_build.specs.Builds.{runs_build};
@@ -32,15 +31,13 @@ fn environment<W: World>(
     ensures step { reads_files (λ tree. are_fit_sets Build tree done.now)
         (build_env done.now (files_for frame.now clear_env) base.now)
         (seen W.World world.old) result (seen W.World world.new) }
-    ensures files { CountsFiles cause_of result (W.file_faults world.old) (W.file_faults world.new) }
-    ensures children { CountsChildren cause_of result (W.child_faults world.old) (W.child_faults world.new) }
 {
     let files = files_for(frame, clear_env);
     let env = build_env(alloc, world, base, done, files)?;
     Ok(env)
 }
 
-#[tactic(auto, unfolding(steps::specs::Steps::runs_child), using(steps::proofs::StepLemmas::allowed_by))]
+#[tactic(auto, unfolding(steps::specs::Steps::runs_child), using(steps::proofs::StepLemmas::allowed_by, crate::proofs::BuildSteps::child_counted))]
 fn run<W: World>(
     alloc: Global,
     world: &mut W,
@@ -51,8 +48,6 @@ fn run<W: World>(
     requires { HasRoom places.now }
     ensures step { runs_child cause_of (build_job frame.now places.now env)
         (seen W.World world.old) result (seen W.World world.new) }
-    ensures files { CountsFiles cause_of result (W.file_faults world.old) (W.file_faults world.new) }
-    ensures children { CountsChildren cause_of result (W.child_faults world.old) (W.child_faults world.new) }
 {
     let job = build_job(alloc, frame, places, env)?;
     let end = world.run(&job)?;
@@ -74,11 +69,8 @@ pub(crate) fn run_build<W: World>(
     requires short { All AreShort done.now }
     ensures step { runs_build frame.now base.now row.now places.now clear_env done.now
         (seen W.World world.old) result (seen W.World world.new) }
-    ensures files { CountsFiles cause_of result (W.file_faults world.old) (W.file_faults world.new) }
-    ensures children { CountsChildren cause_of result (W.child_faults world.old) (W.child_faults world.new) }
 {
     let env = environment(alloc, world, frame, base, clear_env, done)?;
     let end = run(alloc, world, frame, places, env)?;
-    passed(alloc, &row.key, &end)?;
-    Ok(())
+    passed(alloc, &row.key, &end)
 }

@@ -1,21 +1,15 @@
 use Rattle.std.proofs.lemmas.Result.{err_from_is_err_and}
-use Rattle.steps.proofs.StepLemmas.{ended, given, given_fault, went}
+use Rattle.steps.proofs.StepLemmas.{ended, went}
 use Rattle.cnb_build.specs.Descriptor.{reads_descriptor}
+use Rattle.cnb_build.proofs.BuildSteps.{answered}
 use Rattle.cnb_build.proofs.descriptor.read_descriptor.Goals as goal
 
-pub returns-in_err-found-clause-step : goal.returns-in_err-found-clause-step
+pub returns-in_err-found : goal.returns-in_err-found
 unfolding reads_descriptor
-returns-in_err-found-clause-step g c =
+returns-in_err-found g c =
     let exit = err_from_is_err_and c.from_residual.result c.from_residual.ensures.1 in
-    rw (exit.1, exit.2) (ended _ _ _ _ _ c.in_err-found.ensures.step)
+    rw (exit.1, exit.2) (record { step = ended _ _ _ _ _ c.in_err-found.ensures.step })
 
-pub returns-in_err-clear_env-clause-step : goal.returns-in_err-clear_env-clause-step
+pub returns : goal.returns
 unfolding reads_descriptor
-returns-in_err-clear_env-clause-step g c =
-    let exit = err_from_is_err_and c.from_residual-in_err-clear_env.result c.from_residual-in_err-clear_env.ensures.1 in
-    rw (exit.1, exit.2) (went _ _ _ _ _ _ _ c.in_ok-found.ensures.step (given_fault _ _ _ c.in_err-clear_env.field-0.0 c.in_err-clear_env.ensures.answer c.in_err-clear_env.ensures.cause))
-
-pub returns-clause-step : goal.returns-clause-step
-unfolding reads_descriptor
-returns-clause-step g c =
-    went _ _ _ _ _ _ _ c.in_ok-found.ensures.step (given _ _ _ _ c.in_ok-clear_env.ensures.answer)
+returns g c = record { step = went _ _ _ _ _ _ _ c.in_ok-found.ensures.step (answered _ _ _ c.clears_in.ensures.answer c.clears_in.ensures.cause) }

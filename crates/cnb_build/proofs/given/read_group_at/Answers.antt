@@ -1,21 +1,15 @@
 use Rattle.std.proofs.lemmas.Result.{err_from_is_err_and}
-use Rattle.steps.proofs.StepLemmas.{ended, given, given_fault, went}
+use Rattle.steps.proofs.StepLemmas.{ended, went}
 use Rattle.cnb_build.specs.Given.{reads_needed}
+use Rattle.cnb_build.proofs.BuildSteps.{answered}
 use Rattle.cnb_build.proofs.given.read_group_at.Goals as goal
 
-pub returns-in_err-found-clause-step : goal.returns-in_err-found-clause-step
+pub returns-in_err-found : goal.returns-in_err-found
 unfolding reads_needed
-returns-in_err-found-clause-step g c =
+returns-in_err-found g c =
     let exit = err_from_is_err_and c.from_residual.result c.from_residual.ensures.1 in
-    rw (exit.1, exit.2) (ended _ _ _ _ _ c.in_err-found.ensures.step)
+    rw (exit.1, exit.2) (record { step = ended _ _ _ _ _ c.in_err-found.ensures.step })
 
-pub returns-in_err-group-clause-step : goal.returns-in_err-group-clause-step
+pub returns : goal.returns
 unfolding reads_needed
-returns-in_err-group-clause-step g c =
-    let exit = err_from_is_err_and c.from_residual-in_err-group.result c.from_residual-in_err-group.ensures.1 in
-    rw (exit.1, exit.2) (went _ _ _ _ _ _ _ c.in_ok-found.ensures.step (given_fault _ _ _ c.in_err-group.field-0.0 c.in_err-group.ensures.answer c.in_err-group.ensures.cause))
-
-pub returns-clause-step : goal.returns-clause-step
-unfolding reads_needed
-returns-clause-step g c =
-    went _ _ _ _ _ _ _ c.in_ok-found.ensures.step (given _ _ _ _ c.in_ok-group.ensures.answer)
+returns g c = record { step = went _ _ _ _ _ _ _ c.in_ok-found.ensures.step (answered _ _ _ c.group_of.ensures.answer c.group_of.ensures.cause) }

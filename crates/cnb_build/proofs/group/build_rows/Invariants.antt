@@ -1,4 +1,4 @@
-use Rattle.std.proofs.Common.{◌≡◌, drop, IsTrue, Result}
+use Rattle.std.proofs.Common.{drop, IsTrue, Result}
 use Rattle.std.specs.List.{All}
 use Rattle.cnb_env.specs.Layers.{AreShort}
 use Rattle.run_docs.specs.Plan.{is_plan_doc}
@@ -16,6 +16,4 @@ invariant-loop-row g l = record {
       → for_each (builds_one l.frame l.base) l.group (nothing_built l.fn.plan) (seen g.W.World l.initial.world) result new;
   kept : IsTrue (is_plan_doc l.built.pending);
   short : All AreShort l.built.done;
-  files : g.W.World.file_faults l.world ≡ g.W.World.file_faults l.initial.world;
-  children : g.W.World.child_faults l.world ≡ g.W.World.child_faults l.initial.world;
 }

@@ -1,4 +1,4 @@
-use Rattle.std.proofs.Common.{◌≡◌, drop, ℕ, List, [], Result}
+use Rattle.std.proofs.Common.{drop, ℕ, List, [], Result}
 use Rattle.cnb_env.specs.Layers.{AreShort}
 use Rattle.steps.specs.Each.{for_each}
 use Rattle.steps.specs.Outside.{Seen, seen}
@@ -12,6 +12,4 @@ invariant-loop-layer g l = record {
   step : (result : Result (List (List ℕ)) BuildFault) (new : Seen) → for_each (reads_layer l.folder) (drop l.layer-index l.layers) l.found (seen g.W.World l.world) result new
       → for_each (reads_layer l.folder) l.layers [] (seen g.W.World l.initial.world) result new;
   short : AreShort l.found;
-  files : g.W.World.file_faults l.world ≡ g.W.World.file_faults l.initial.world;
-  children : g.W.World.child_faults l.world ≡ g.W.World.child_faults l.initial.world;
 }

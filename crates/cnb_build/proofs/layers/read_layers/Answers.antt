@@ -18,13 +18,7 @@ returns-in_err-layers-clause-step g c =
     let exit = err_from_is_err_and c.from_residual-in_err-layers.result c.from_residual-in_err-layers.ensures.1 in
     rw (exit.1, exit.2) (went _ _ _ _ _ _ _ c.in_ok-names.ensures.step (ended _ _ _ _ _ (no_memory _ _ _ Memory refl)))
 
-pub returns-in_err-found-clause-step : goal.returns-in_err-found-clause-step
-unfolding reads_layers
-returns-in_err-found-clause-step g c =
-    let exit = err_from_is_err_and c.from_residual-in_err-found.result c.from_residual-in_err-found.ensures.1 in
-    rw (exit.1, exit.2) (went _ _ _ _ _ _ _ c.in_ok-names.ensures.step (went _ _ _ _ _ _ _ (given _ _ _ _ (ap Ok (sym c.in_ok-layers.ensures))) (all_same _ _ _ _ _ _ _ c.as_slice.ensures c.in_err-found.ensures.step)))
-
 pub returns-clause-step : goal.returns-clause-step
 unfolding reads_layers
 returns-clause-step g c =
-    went _ _ _ _ _ _ _ c.in_ok-names.ensures.step (went _ _ _ _ _ _ _ (given _ _ _ _ (ap Ok (sym c.in_ok-layers.ensures))) (all_same _ _ _ _ _ _ _ c.as_slice.ensures c.in_ok-found.ensures.step))
+    went _ _ _ _ _ _ _ c.in_ok-names.ensures.step (went _ _ _ _ _ _ _ (given _ _ _ _ (ap Ok (sym c.in_ok-layers.ensures))) (all_same _ _ _ _ _ _ _ c.as_slice.ensures c.read_each.ensures.step))

@@ -15,13 +15,6 @@ returns-in_err-_store-clause-step g c =
     let exit = err_from_is_err_and c.from_residual-in_err-_store.result c.from_residual-in_err-_store.ensures.1 in
     rw (exit.1, exit.2) (went _ _ _ _ _ _ _ c.in_ok-_launch.ensures.step (ended _ _ _ _ _ c.in_err-_store.ensures.step))
 
-pub returns-in_err-layers-clause-step : goal.returns-in_err-layers-clause-step
-unfolding reads_left
-returns-in_err-layers-clause-step g c =
-    let exit = err_from_is_err_and c.from_residual-in_err-layers.result c.from_residual-in_err-layers.ensures.1 in
-    rw (exit.1, exit.2) (went _ _ _ _ _ _ _ c.in_ok-_launch.ensures.step (went _ _ _ _ _ _ _ c.in_ok-_store.ensures.step (c.in_err-layers.ensures.step)))
-
 pub returns-clause-step : goal.returns-clause-step
 unfolding reads_left
-returns-clause-step g c =
-    went _ _ _ _ _ _ _ c.in_ok-_launch.ensures.step (went _ _ _ _ _ _ _ c.in_ok-_store.ensures.step (c.in_ok-layers.ensures.step))
+returns-clause-step g c = went _ _ _ _ _ _ _ c.in_ok-_launch.ensures.step (went _ _ _ _ _ _ _ c.in_ok-_store.ensures.step c.read_layers.ensures.step)

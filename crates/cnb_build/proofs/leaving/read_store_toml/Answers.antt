@@ -1,27 +1,21 @@
-use Rattle.std.proofs.Common.{subst, Ok}
+use Rattle.std.proofs.Common.{subst, []}
 use Rattle.std.proofs.lemmas.Result.{err_from_is_err_and}
-use Rattle.steps.proofs.StepLemmas.{ended, given, given_fault, went}
-use Rattle.cnb_build.specs.Reading.{reads_as}
-use Rattle.std.proofs.Common.{[], Err}
 use Rattle.std.specs.Prelude.{unwrap_or}
 use Rattle.cnb_toml.specs.Reading.{Answers}
 use Rattle.run_docs.specs.Store.{store_in}
-use Rattle.cnb_build.proofs.BuildSteps.{answered_at}
+use Rattle.steps.proofs.StepLemmas.{ended, went}
+use Rattle.cnb_build.specs.Reading.{reads_as}
+use Rattle.cnb_build.proofs.BuildSteps.{answered, answered_at}
 use Rattle.cnb_build.proofs.leaving.read_store_toml.Goals as goal
 
-pub returns-in_err-found-clause-step : goal.returns-in_err-found-clause-step
+pub returns-in_err-found : goal.returns-in_err-found
 unfolding reads_as
-returns-in_err-found-clause-step g c =
+returns-in_err-found g c =
     let exit = err_from_is_err_and c.from_residual.result c.from_residual.ensures.1 in
-    rw (exit.1, exit.2) (ended _ _ _ _ _ c.in_err-found.ensures.step)
+    rw (exit.1, exit.2) (record { step = ended _ _ _ _ _ c.in_err-found.ensures.step })
 
-pub returns-in_err-store-clause-step : goal.returns-in_err-store-clause-step
+pub returns : goal.returns
 unfolding reads_as
-returns-in_err-store-clause-step g c =
-    let exit = err_from_is_err_and c.from_residual-in_err-store.result c.from_residual-in_err-store.ensures.1 in
-    rw (exit.1, exit.2) (went _ _ _ _ _ _ _ c.in_ok-found.ensures.step (given_fault _ _ _ c.in_err-store.field-0.0 (answered_at c.args.path.now c.read_store.result (store_in (unwrap_or c.in_ok-found.found [])) (Err c.in_err-store.field-0.0) (subst (λ bytes. Answers c.read_store.result (store_in bytes)) c.bytes_of.ensures c.read_store.ensures) c.in_err-store.ensures.answer) c.in_err-store.ensures.cause))
-
-pub returns-clause-step : goal.returns-clause-step
-unfolding reads_as
-returns-clause-step g c =
-    went _ _ _ _ _ _ _ c.in_ok-found.ensures.step (given _ _ _ _ (answered_at c.args.path.now c.read_store.result (store_in (unwrap_or c.in_ok-found.found [])) (Ok c.in_ok-store.store) (subst (λ bytes. Answers c.read_store.result (store_in bytes)) c.bytes_of.ensures c.read_store.ensures) c.in_ok-store.ensures.answer))
+returns g c =
+    let read = subst (λ bytes. Answers c.read_store.result (store_in bytes)) c.bytes_of.ensures c.read_store.ensures in
+    record { step = went _ _ _ _ _ _ _ c.in_ok-found.ensures.step (answered _ _ _ (answered_at c.args.path.now c.read_store.result (store_in (unwrap_or c.in_ok-found.found [])) c.value_at.result read c.value_at.ensures.answer) c.value_at.ensures.cause) }

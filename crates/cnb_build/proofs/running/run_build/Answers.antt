@@ -1,27 +1,22 @@
 use Rattle.std.proofs.lemmas.Result.{err_from_is_err_and}
-use Rattle.steps.proofs.StepLemmas.{ended, given, given_fault, went}
+use Rattle.steps.proofs.StepLemmas.{ended, went}
 use Rattle.cnb_build.specs.Builds.{runs_build}
+use Rattle.cnb_build.proofs.BuildSteps.{answered}
 use Rattle.cnb_build.proofs.running.run_build.Goals as goal
 
-pub returns-in_err-env-clause-step : goal.returns-in_err-env-clause-step
+pub returns-in_err-env : goal.returns-in_err-env
 unfolding runs_build
-returns-in_err-env-clause-step g c =
+returns-in_err-env g c =
     let exit = err_from_is_err_and c.from_residual.result c.from_residual.ensures.1 in
-    rw (exit.1, exit.2) (ended _ _ _ _ _ c.in_err-env.ensures.step)
+    rw (exit.1, exit.2) (record { step = ended _ _ _ _ _ c.in_err-env.ensures.step })
 
-pub returns-in_err-end-clause-step : goal.returns-in_err-end-clause-step
+pub returns-in_err-end : goal.returns-in_err-end
 unfolding runs_build
-returns-in_err-end-clause-step g c =
+returns-in_err-end g c =
     let exit = err_from_is_err_and c.from_residual-in_err-end.result c.from_residual-in_err-end.ensures.1 in
-    rw (exit.1, exit.2) (went _ _ _ _ _ _ _ c.in_ok-env.ensures.step (ended _ _ _ _ _ c.in_err-end.ensures.step))
+    rw (exit.1, exit.2) (record { step = went _ _ _ _ _ _ _ c.in_ok-env.ensures.step (ended _ _ _ _ _ c.in_err-end.ensures.step) })
 
-pub returns-in_err-passed-clause-step : goal.returns-in_err-passed-clause-step
+pub returns : goal.returns
 unfolding runs_build
-returns-in_err-passed-clause-step g c =
-    let exit = err_from_is_err_and c.from_residual-in_err-passed.result c.from_residual-in_err-passed.ensures.1 in
-    rw (exit.1, exit.2) (went _ _ _ _ _ _ _ c.in_ok-env.ensures.step (went _ _ _ _ _ _ _ c.in_ok-end.ensures.step (given_fault _ _ _ c.in_err-passed.field-0.0 c.in_err-passed.ensures.answer c.in_err-passed.ensures.cause)))
-
-pub returns-clause-step : goal.returns-clause-step
-unfolding runs_build
-returns-clause-step g c =
-    went _ _ _ _ _ _ _ c.in_ok-env.ensures.step (went _ _ _ _ _ _ _ c.in_ok-end.ensures.step (given _ _ _ _ c.in_ok-passed.ensures.answer))
+returns g c =
+    record { step = went _ _ _ _ _ _ _ c.in_ok-env.ensures.step (went _ _ _ _ _ _ _ c.in_ok-end.ensures.step (answered _ _ _ c.passed.ensures.answer c.passed.ensures.cause)) }
