@@ -19,6 +19,7 @@ use Rattle.order_expand.specs.declared.order.OrderFault.TheVariants as order
 use Rattle.steps.specs.Outside.{Outside}
 use Rattle.steps.specs.Results.{with_fault}
 use Rattle.steps.specs.Steps.{gives, map_err, reads}
+use Rattle.steps.proofs.EndLaws.{files_rest}
 use Rattle.steps.proofs.ReadingLaws.{OnlyReads, gives_known, may_as, reads_files, reads_then, reads_told}
 use Rattle.steps.proofs.StepLemmas.{allowed_by, ended, mapped_fault, within}
 use Rattle.cnb_detect.specs.declared.refusal.DetectRefusal.{DetectRefusal}
@@ -44,6 +45,7 @@ no_memory_at_once options env old =
       answer = any_files old.world.files;
       cause = tt;
       allows = allowed_by (is_fit_order_file options.order) old.world.files old.world.misused old.world.misused refl;
+      counts = files_rest.memory old.world;
     })))))
 
 -- ---- what is read

@@ -13,14 +13,14 @@ use Rattle.order_expand.specs.declared.order.OrderFault.{OrderFault}
 use Rattle.order_expand.specs.declared.order.OrderFault.TheVariants as order
 use Rattle.detect_core.specs.Answer.{build_plan, says}
 use Rattle.detect_core.specs.Detection.{Ending, FirstTrial, TooManyTrials, asked_keys, first_trial, has_erred}
-use Rattle.detect_core.specs.Search.{DetectsAs, OnDetected, RunsAsked}
+use Rattle.detect_core.specs.Search.{DetectsAs, OnDetected, RunsAsked, end_cause}
 use Rattle.detect_core.specs.declared.chosen.DetectEnd.{DetectEnd}
 use Rattle.detect_core.specs.declared.chosen.DetectEnd.TheVariants as end
 use Rattle.detect_core.specs.declared.chosen.Chosen.{Chosen}
-use Rattle.steps.specs.Asking.{AreSome, AskedBy, AsksBy, asks}
+use Rattle.steps.specs.Asking.{AreSome, AskedBy, AsksBy, SpawnersBy, asks}
 use Rattle.steps.specs.Causes.{Cause, FileFailed, ChildFailed, OutOfMemory, Decided, FilesBy, IsAnswer, WhereDecided}
 use Rattle.cnb_world.specs.declared.world.World as world
-use Rattle.steps.specs.Outside.{SpawnerSeen, seen}
+use Rattle.steps.specs.Outside.{SpawnerSeen, faults_of}
 use Rattle.steps.specs.Reading.{ReadFrame}
 use Rattle.steps.specs.Steps.{gives, reads}
 use Rattle.steps.proofs.StepLemmas.{given_fault, read_so}
@@ -28,12 +28,6 @@ use Rattle.cnb_detect.specs.declared.preparation.Prepared.{Prepared}
 use Rattle.cnb_detect.specs.Choice.{as_choice, choice_by, choice_in, choice_of, jobs_of, listed_jobs}
 use Rattle.cnb_detect.specs.declared.refusal.DetectRefusal.TheVariants.{NoGroup}
 use Rattle.cnb_detect.specs.Refusals.{cause_of, of_detect_end}
-
--- files that were read
-pub read_step : {W T : Type 0} (ghosts : world.Ghosts W) (fits : Tree → Bool) (want : Tree → Result T ReadFault) (result : Result T ReadFault) (old new : W)
-    → IfSome (ghosts.tree old) (λ files. IsAnswer read_cause result (want files)) → ReadFrame read_cause result (seen ghosts old) (seen ghosts new)
-    → MayMisuse (option_map fits (ghosts.tree old)) (ghosts.misused old) (ghosts.misused new) → reads read_cause fits want (seen ghosts old) result (seen ghosts new)
-read_step ghosts fits want result old new answer frame allows = read_so ghosts read_cause fits want result old new answer frame.cause frame.files frame.runs allows
 
 -- an order that was refused
 pub check_step : {S : Type 0} (fault : OrderFault) (want : Result ℕ OrderFault) (old : S) → IsAnswer {A = ℕ} order_cause (Err fault) want → gives order_cause want old (Err fault) old
@@ -80,27 +74,35 @@ no_file (end.NoGroup erred) n = refl
 no_file end.Child n = refl
 no_file end.Memory n = omega arith
 
+told_spawners : (end : DetectEnd) (before now : List ℕ) → SpawnersBy (end_cause end) before now → SpawnersBy (cause_of (of_detect_end end)) before now
+told_spawners end.ManyTrials before now h = h
+told_spawners (end.NoGroup erred) before now h = h
+told_spawners end.Child before now h = h
+told_spawners end.Memory before now h = h
+
 -- children that were asked, and that decided or did not
 module _ (prepared : Prepared) (old new : List SpawnerSeen) where
-  pub asked_chosen : (chosen : Chosen) → RunsAsked prepared.frame prepared.catalog prepared.order old (Ok chosen) new → ((finished : List Ran) → AskedBy finished old new
+  pub asked_chosen : (chosen : Chosen) → faults_of new ≡ faults_of old → RunsAsked prepared.frame prepared.catalog prepared.order old (Ok chosen) new → ((finished : List Ran) → AskedBy finished old new
       → DetectsAs (Ok chosen) (first_trial (says build_plan finished) prepared.catalog prepared.order) (asked_keys (says build_plan finished) prepared.catalog prepared.order) (has_erred (says build_plan finished) prepared.catalog prepared.order))
       → asks cause_of (listed_jobs prepared) (jobs_of prepared) (choice_of prepared) old (as_choice (Ok chosen)) new
   unfolding asks choice_of
-  asked_chosen chosen r detects = record {
+  asked_chosen chosen counts r detects = record {
     answers = r.answers;
     asked = r.asked;
     meets = (r.exactly, chosen_so chosen _ _ _ (detects r.answers r.asked));
+    counts = counts;
   }
 
-  pub asked_refused : (end : DetectEnd) → RunsAsked prepared.frame prepared.catalog prepared.order old (Err end) new → ((finished : List Ran) → AskedBy finished old new
+  pub asked_refused : (end : DetectEnd) → SpawnersBy (end_cause end) (faults_of old) (faults_of new) → RunsAsked prepared.frame prepared.catalog prepared.order old (Err end) new → ((finished : List Ran) → AskedBy finished old new
       → DetectsAs (Err end) (first_trial (says build_plan finished) prepared.catalog prepared.order) (asked_keys (says build_plan finished) prepared.catalog prepared.order) (has_erred (says build_plan finished) prepared.catalog prepared.order))
       → asks cause_of (listed_jobs prepared) (jobs_of prepared) (choice_of prepared) old (as_choice (Err (of_detect_end end))) new
   unfolding asks choice_of
-  asked_refused end r detects = record {
+  asked_refused end counts r detects = record {
     answers = r.answers;
     asked = r.asked;
     meets = asks_by (cause_of (of_detect_end end)) (AreSome (map (λ ran. ran.job) r.answers) (listed_jobs prepared)) (map (λ ran. ran.job) r.answers ≡ jobs_of prepared r.answers)
         (choice_by (has_erred (says build_plan r.answers) prepared.catalog prepared.order) (first_trial (says build_plan r.answers) prepared.catalog prepared.order) ≡ Err (of_detect_end end)) (no_file end) r.some
         (jobs_where end (map (λ ran. ran.job) r.answers ≡ jobs_of prepared r.answers) r.exactly)
         (refused_so end _ _ _ (detects r.answers r.asked));
+    counts = told_spawners end (faults_of old) (faults_of new) counts;
   }

@@ -1,7 +1,7 @@
+pub mod CountLaws
 pub mod DetectLaws
 pub mod DetectSteps
 pub mod DocumentLemmas
 pub mod FitLemmas
 pub mod OutcomeLaws
-pub mod QuietLemmas
 pub mod WritingLaws

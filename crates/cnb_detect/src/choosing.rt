@@ -35,10 +35,6 @@ fn choose<S: Spawner + Send, R: Threads + Sync>(
     ensures step { asks cause_of (listed_jobs prepared.now) (jobs_of prepared.now) (choice_of prepared.now)
         (spawners_seen S.Spawner spawners.old.items) (as_choice result) (spawners_seen S.Spawner spawners.new.items) }
     ensures written { IfOk result (λ chosen. IsTrue (is_group_doc chosen.group) × IsTrue (is_plan_doc chosen.plan)) }
-    ensures files { (n : ℕ) → CountsFiles cause_of result n n }
-    ensures spawners { CountsSpawners cause_of result
-        (faults_of (spawners_seen S.Spawner spawners.old.items))
-        (faults_of (spawners_seen S.Spawner spawners.new.items)) }
 {
     let chosen = detect(
         rt,
@@ -68,11 +64,6 @@ pub fn choose_group<W: World, S: Spawner + Send, R: Threads + Sync>(
         (as_choice result)
         (outside W.World S.Spawner world.new spawners.new.items) }
     ensures written { IfOk result (λ chosen. IsTrue (is_group_doc chosen.group) × IsTrue (is_plan_doc chosen.plan)) }
-    ensures files { CountsFiles cause_of result (W.file_faults world.old) (W.file_faults world.new) }
-    ensures children { W.child_faults world.new ≡ W.child_faults world.old }
-    ensures spawners { CountsSpawners cause_of result
-        (faults_of (spawners_seen S.Spawner spawners.old.items))
-        (faults_of (spawners_seen S.Spawner spawners.new.items)) }
 {
     let prepared = prepare(alloc, options, env, world)?;
     let chosen = choose(rt, alloc, &prepared, spawners, options.workers)?;

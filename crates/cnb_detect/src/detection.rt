@@ -40,11 +40,6 @@ pub fn detect<W: World, S: Spawner + Send, R: Threads + Sync>(
         (outside W.World S.Spawner world.old spawners.old.items)
         result
         (outside W.World S.Spawner world.new spawners.new.items) }
-    ensures files { CountsFiles cause_of result (W.file_faults world.old) (W.file_faults world.new) }
-    ensures children { W.child_faults world.new ≡ W.child_faults world.old }
-    ensures spawners { CountsSpawners cause_of result
-        (faults_of (spawners_seen S.Spawner spawners.old.items))
-        (faults_of (spawners_seen S.Spawner spawners.new.items)) }
 {
     // The proof takes from this call what each path keeps to.
     let _work = options.work.as_str();

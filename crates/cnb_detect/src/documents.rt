@@ -27,9 +27,6 @@ pub fn write_choice<W: World>(
     requires short { length work.now ≤ 4096 }
     ensures step { writes_choice work.now (record { group = group.now; plan = plan.now })
         (seen W.World world.old) result (seen W.World world.new) }
-    ensures files { CountsFiles cause_of result (W.file_faults world.old) (W.file_faults world.new) }
-    ensures children { W.child_faults world.new ≡ W.child_faults world.old }
-    ensures spawners { (counts : Seq ℕ) → CountsSpawners cause_of result counts counts }
 {
     let group_bytes = write_group(alloc, group)?;
     let plan_bytes = write_plan(alloc, plan)?;

@@ -56,9 +56,6 @@ pub(crate) fn prepare<W: World>(
     ensures step { prepares options.now env.now (seen W.World world.old) result (seen W.World world.new) }
     ensures checked { IfOk result (λ prepared. IsOk (checked prepared.catalog prepared.order)) }
     ensures short { IfOk result (λ prepared. IsTrue (is_short prepared.frame)) }
-    ensures files { CountsFiles cause_of result (W.file_faults world.old) (W.file_faults world.new) }
-    ensures children { W.child_faults world.new ≡ W.child_faults world.old }
-    ensures spawners { (counts : Seq ℕ) → CountsSpawners cause_of result counts counts }
 {
     let order = read_order_file(alloc, world, &options.order)?;
     let catalog = read_catalog(alloc, world, &options.buildpacks)?;

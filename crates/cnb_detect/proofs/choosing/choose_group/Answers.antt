@@ -19,13 +19,3 @@ pub returns-clause-steps : goal.returns-clause-steps
 unfolding chooses
 returns-clause-steps g c =
     went _ _ _ _ _ _ _ (within _ _ _ _ _ c.in_ok-prepared.ensures.step) (within_spawners _ _ _ _ _ c.in_ok-chosen.ensures.step)
-
-pub returns-in_err-prepared-clause-spawners : goal.returns-in_err-prepared-clause-spawners
-returns-in_err-prepared-clause-spawners g c =
-    let exit = err_from_is_err_and c.from_residual.result c.from_residual.ensures.1 in
-    rw (exit.1, exit.2) (c.in_err-prepared.ensures.spawners _)
-
-pub returns-in_err-chosen-clause-spawners : goal.returns-in_err-chosen-clause-spawners
-returns-in_err-chosen-clause-spawners g c =
-    let exit = err_from_is_err_and c.from_residual-in_err-chosen.result c.from_residual-in_err-chosen.ensures.1 in
-    rw (exit.1, exit.2) (c.in_err-chosen.ensures.spawners)

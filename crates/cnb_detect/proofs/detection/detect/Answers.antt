@@ -8,7 +8,6 @@ use Rattle.cnb_detect.specs.Choice.{choice_in}
 use Rattle.cnb_detect.specs.Detects.{detects}
 use Rattle.cnb_detect.specs.Report.{choice_text}
 use Rattle.cnb_detect.proofs.OutcomeLaws.{comes_to}
-use Rattle.cnb_detect.proofs.QuietLemmas.{files_then, memory_quiet, quiet_then}
 use Rattle.cnb_detect.proofs.detection.detect.Goals as goal
 
 pub returns-in_err-chosen-clause-steps : goal.returns-in_err-chosen-clause-steps
@@ -45,23 +44,3 @@ returns-in_err-write_choice-clause-outcome g c = comes_to c.args.options.now c.a
 
 pub returns-clause-outcome : goal.returns-clause-outcome
 returns-clause-outcome g c = comes_to c.args.options.now c.args.env.now c.as_str-work.ensures.is_path _ _ _ (returns-clause-steps g c)
-
-pub returns-in_err-chosen-clause-spawners : goal.returns-in_err-chosen-clause-spawners
-returns-in_err-chosen-clause-spawners g c =
-    let exit = err_from_is_err_and c.from_residual.result c.from_residual.ensures.1 in
-    rw (exit.1, exit.2) (c.in_err-chosen.ensures.spawners)
-
-pub returns-in_err-text-clause-spawners : goal.returns-in_err-text-clause-spawners
-returns-in_err-text-clause-spawners g c =
-    let exit = err_from_is_err_and c.from_residual-in_err-text.result c.from_residual-in_err-text.ensures.1 in
-    rw (exit.1, exit.2) (memory_quiet _ _ c.in_ok-chosen.ensures.spawners)
-
-pub returns-in_err-write_choice-clause-spawners : goal.returns-in_err-write_choice-clause-spawners
-returns-in_err-write_choice-clause-spawners g c =
-    let exit = err_from_is_err_and c.from_residual-in_err-write_choice.result c.from_residual-in_err-write_choice.ensures.1 in
-    rw (exit.1, exit.2) (quiet_then _ _ _ c.in_ok-chosen.ensures.spawners (c.in_err-write_choice.ensures.spawners _))
-
-pub returns-in_err-write_choice-clause-files : goal.returns-in_err-write_choice-clause-files
-returns-in_err-write_choice-clause-files g c =
-    let exit = err_from_is_err_and c.from_residual-in_err-write_choice.result c.from_residual-in_err-write_choice.ensures.1 in
-    rw (exit.1, exit.2) (files_then _ _ _ _ c.in_ok-chosen.ensures.files c.in_err-write_choice.ensures.files)

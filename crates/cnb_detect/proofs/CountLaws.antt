@@ -1,0 +1,61 @@
+-- What the steps of `detect` do to the counts, by what ended them.
+use Rattle.std.proofs.Common.{◌≡◌, refl, ℕ, List}
+use Rattle.cnb_words.specs.declared.detect.DetectWords.{DetectWords}
+use Rattle.cnb_world.specs.declared.env.Variable.{Variable}
+use Rattle.doc_files.specs.Faults.{read_cause}
+use Rattle.doc_files.specs.declared.fault.ReadFault.{ReadFault}
+use Rattle.doc_files.specs.declared.fault.ReadFault.TheVariants as read
+use Rattle.order_expand.specs.Check.{cause_of as order_cause}
+use Rattle.order_expand.specs.declared.order.OrderFault.{OrderFault}
+use Rattle.order_expand.specs.declared.order.OrderFault.TheVariants as order
+use Rattle.steps.specs.Counts.{FileCounts}
+use Rattle.steps.specs.EitherCounts.{OutsideCounts}
+use Rattle.steps.proofs.EndLaws.{Obeys, files_among, files_link, files_rest, obeys_bind, obeys_gives, obeys_told, obeys_yields, reads_counts, writes_counts}
+use Rattle.steps.proofs.OutsideLaws.{obeys_asks, obeys_over_world, outside_link, outside_rest}
+use Rattle.cnb_detect.specs.Choice.{Choice}
+use Rattle.cnb_detect.specs.Detects.{chooses, detects}
+use Rattle.cnb_detect.specs.Documents.{writes_choice}
+use Rattle.cnb_detect.specs.Preparation.{prepares}
+use Rattle.cnb_detect.specs.Refusals.{cause_of, of_order_fault, of_read_fault}
+
+same_read : (fault : ReadFault) → cause_of (of_read_fault fault) ≡ read_cause fault
+same_read (read.File path) = refl
+same_read (read.Document path fault) = refl
+same_read (read.Limit kind) = refl
+same_read read.Memory = refl
+
+same_order : (fault : OrderFault) → cause_of (of_order_fault fault) ≡ order_cause fault
+same_order (order.Absent id) = refl
+same_order (order.Ambiguous id) = refl
+same_order (order.Api id api) = refl
+same_order (order.Deep id) = refl
+same_order order.ManyGroups = refl
+same_order order.LongGroup = refl
+same_order order.Memory = refl
+
+prepares_counts : (options : DetectWords) (env : List Variable) → Obeys FileCounts cause_of (prepares options env)
+unfolding prepares
+prepares_counts options env =
+    obeys_bind _ _ _ _ files_link (obeys_told FileCounts read_cause cause_of of_read_fault _ same_read (reads_counts read_cause _ _))
+    (λ order. obeys_bind _ _ _ _ files_link (obeys_told FileCounts read_cause cause_of of_read_fault _ same_read (reads_counts read_cause _ _))
+    (λ catalog. obeys_bind _ _ _ _ files_link (obeys_told FileCounts order_cause cause_of of_order_fault _ same_order (obeys_gives _ _ _ files_rest))
+    (λ groups. obeys_bind _ _ _ _ files_link (obeys_told FileCounts read_cause cause_of of_read_fault _ same_read (reads_counts read_cause _ _))
+    (λ files. obeys_gives _ _ _ files_rest))))
+
+pub written_choice_counts : (work : List ℕ) (choice : Choice) → Obeys FileCounts cause_of (writes_choice work choice)
+unfolding writes_choice
+written_choice_counts work choice =
+    obeys_bind _ _ _ _ files_link (writes_counts cause_of _ _)
+    (λ group. obeys_bind _ _ _ _ files_link (writes_counts cause_of _ _) (λ plan. obeys_yields _ _ _ files_rest))
+
+pub choice_counts : (options : DetectWords) (env : List Variable) → Obeys OutsideCounts cause_of (chooses options env)
+unfolding chooses
+choice_counts options env =
+    obeys_bind _ _ _ _ outside_link (obeys_over_world cause_of _ (files_among cause_of _ (prepares_counts options env))) (λ prepared. obeys_asks cause_of _ _ _)
+
+pub detect_counts : (options : DetectWords) (env : List Variable) → Obeys OutsideCounts cause_of (detects options env)
+unfolding detects
+detect_counts options env =
+    obeys_bind _ _ _ _ outside_link (choice_counts options env)
+    (λ choice. obeys_bind _ _ _ _ outside_link (obeys_gives _ _ _ outside_rest)
+    (λ text. obeys_bind _ _ _ _ outside_link (obeys_over_world cause_of _ (files_among cause_of _ (written_choice_counts options.work choice))) (λ written. obeys_yields _ _ _ outside_rest)))
