@@ -1,4 +1,6 @@
+pub mod BlameLemmas
 pub mod CommandLemmas
+pub mod CountLaws
 pub mod LayingLemmas
 pub mod ReadLemmas
 pub mod RestoreLemmas

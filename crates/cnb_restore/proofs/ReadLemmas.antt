@@ -10,6 +10,7 @@ use Rattle.image_docs.specs.declared.image.ImageDoc.{ImageDoc}
 use Rattle.steps.specs.Causes.{IsAnswer}
 use Rattle.steps.specs.Outside.{Seen}
 use Rattle.steps.specs.Steps.{reads}
+use Rattle.steps.proofs.EndLaws.{files_rest}
 use Rattle.steps.proofs.StepLemmas.{allowed_by}
 use Rattle.cnb_restore.specs.declared.fault.RestoreFault.{RestoreFault}
 use Rattle.cnb_restore.specs.Analyzes.{analyzes, is_fit_image, previous_in}
@@ -28,7 +29,7 @@ no_image value (Some files) = refl
 
 pub read_nothing : {A : Type 0} (value : A) (old : Seen) → reads cause_of (λ files. true) (λ files. Ok value) old (Ok value) old
 unfolding reads
-read_nothing value old = record { same = record { files = refl; runs = refl }; answer = no_image value old.files; cause = tt; allows = allowed_by (λ files. true) old.files old.misused old.misused refl }
+read_nothing value old = record { same = record { files = refl; runs = refl }; answer = no_image value old.files; cause = tt; allows = allowed_by (λ files. true) old.files old.misused old.misused refl; counts = files_rest.none old }
 
 -- the same of a name that is equal
 pub previous_as : (store : List ℕ) (name want : Option (List ℕ)) (old : Seen) (result : Result (Option ImageDoc) RestoreFault) (new : Seen) → name ≡ want

@@ -1,10 +1,8 @@
 // What the run image and the previous image are.
-ghost use Rattle.std.specs.Prelude.{◌≡◌, ◌≤◌, length};
+ghost use Rattle.std.specs.Prelude.{◌≤◌, length};
 ghost use Rattle.std.specs.Option.{option_copied};
-ghost use Rattle.steps.specs.Causes.{CountsFiles};
 ghost use Rattle.steps.specs.Outside.{seen};
 ghost use Rattle.cnb_restore.specs.Analyzes.{analyzes};
-ghost use Rattle.cnb_restore.specs.Faults.{cause_of};
 
 use crate::fault::RestoreFault;
 use crate::images::{known_previous, read_run_image};
@@ -25,8 +23,6 @@ pub fn analyze<W: World>(
     requires { length store.now ≤ 4096 }
     ensures steps { analyzes store.now run.now (option_copied previous.entry)
         (seen W.World world.old) result (seen W.World world.new) }
-    ensures files { CountsFiles cause_of result (W.file_faults world.old) (W.file_faults world.new) }
-    ensures children { W.child_faults world.new ≡ W.child_faults world.old }
 {
     let image = read_run_image(alloc, world, store, run)?;
     let known = known_previous(alloc, world, store, previous)?;

@@ -1,11 +1,9 @@
 // A buildpack's folder of layers.
-ghost use Rattle.std.specs.Prelude.{◌≡◌, ◌≤◌, ◌<◌, ◌+◌, ◌^◌, ℕ, IfOk, length, map};
+ghost use Rattle.std.specs.Prelude.{◌≡◌, ◌≤◌, ◌<◌, ◌+◌, ◌^◌, IfOk, length, map};
 ghost use Rattle.shelf_set.specs.ShelfState.{state_of};
 ghost use Rattle.shelf_set.specs.Caches.{caches_of, world_and_caches};
 ghost use Rattle.shelf_set.specs.Dropping.{AreStanding};
-ghost use Rattle.steps.specs.Causes.{CountsFiles};
 ghost use Rattle.steps.specs.Outside.{seen};
-ghost use Rattle.cnb_restore.specs.Faults.{cause_of};
 ghost use Rattle.cnb_restore.specs.Restores.{prepares_folder, restores_buildpack, restores_group, restores_rows};
 
 use crate::fault::RestoreFault;
@@ -33,8 +31,6 @@ fn prepare_folder<W: World>(
 ) -> Result<(), RestoreFault>
     requires { length folder.now ≤ 4352 }
     ensures step { prepares_folder folder.now id.now kept.now (seen W.World world.old) result (seen W.World world.new) }
-    ensures files { CountsFiles cause_of result (W.file_faults world.old) (W.file_faults world.new) }
-    ensures children { W.child_faults world.new ≡ W.child_faults world.old }
 {
     remove(alloc, world, folder)?;
     make_folder(alloc, world, folder)?;
@@ -63,8 +59,6 @@ fn restore_rows<W: World>(
     ensures again { AreStanding places.new (map (λ s. state_of (held s) (rows s) (faults s)) shelves.new.items) }
     ensures count { IfOk result (λ after. length after.gone + length places.new
         ≡ length restored.gone + length places.old) }
-    ensures files { CountsFiles cause_of result (W.file_faults world.old) (W.file_faults world.new) }
-    ensures children { W.child_faults world.new ≡ W.child_faults world.old }
 {
     let app = rows_of(alloc, id, layers_of(&sources.previous))?;
     let cache = rows_of(alloc, id, sources.rows.as_slice())?;
@@ -95,8 +89,6 @@ fn restore_buildpack<W: World>(
     ensures again { AreStanding places.new (map (λ s. state_of (held s) (rows s) (faults s)) shelves.new.items) }
     ensures count { IfOk result (λ after. length after.gone + length places.new
         ≡ length restored.gone + length places.old) }
-    ensures files { CountsFiles cause_of result (W.file_faults world.old) (W.file_faults world.new) }
-    ensures children { W.child_faults world.new ≡ W.child_faults world.old }
 {
     let folder = layers_folder(alloc, layers, id)?;
     prepare_folder(alloc, world, &folder, id, store_of(&sources.previous))?;
@@ -127,8 +119,6 @@ pub(crate) fn restore_group<W: World>(
     ensures again { AreStanding places.new (map (λ s. state_of (held s) (rows s) (faults s)) shelves.new.items) }
     ensures count { IfOk result (λ after. length after.gone + length places.new
         ≡ length restored.gone + length places.old) }
-    ensures files { CountsFiles cause_of result (W.file_faults world.old) (W.file_faults world.new) }
-    ensures children { W.child_faults world.new ≡ W.child_faults world.old }
 {
     let mut so_far = restored;
     for row in group {

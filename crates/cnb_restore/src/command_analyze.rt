@@ -1,7 +1,6 @@
 // The command `analyze`.
-ghost use Rattle.std.specs.Prelude.{◌≡◌, ◌≤◌, IfOk, length};
+ghost use Rattle.std.specs.Prelude.{◌≤◌, IfOk, length};
 ghost use Rattle.cnb_words.specs.Analyze.{KeepsLimits};
-ghost use Rattle.steps.specs.Causes.{CountsFiles};
 ghost use Rattle.steps.specs.Outside.{seen};
 ghost use Rattle.steps.specs.Steps.{writes};
 ghost use Rattle.cnb_restore.specs.Commands.{ReadsAsAnalyzed, analyzed_document, analyzes_command};
@@ -32,8 +31,6 @@ pub fn write_analyzed_document<W: World>(
     requires { length work.now ≤ 4096 }
     ensures step { writes cause_of (analyzed_document work.now) (ReadsAsAnalyzed analyzed.now)
         (seen W.World world.old) result (seen W.World world.new) }
-    ensures files { CountsFiles cause_of result (W.file_faults world.old) (W.file_faults world.new) }
-    ensures children { W.child_faults world.new ≡ W.child_faults world.old }
 {
     let bytes = analyzed_bytes(alloc, analyzed)?;
     write_document::<W, RestoreFault>(alloc, world, work, "analyzed.toml", bytes.as_slice())?;
@@ -49,8 +46,6 @@ pub fn analyze_command<W: World>(
 ) -> Result<Text, RestoreFault>
     requires { KeepsLimits options.now }
     ensures steps { analyzes_command options.now (seen W.World world.old) result (seen W.World world.new) }
-    ensures files { CountsFiles cause_of result (W.file_faults world.old) (W.file_faults world.new) }
-    ensures children { W.child_faults world.new ≡ W.child_faults world.old }
 {
     let analyzed = analyze(
         alloc,

@@ -1,10 +1,10 @@
 // The command `restore`.
-ghost use Rattle.std.specs.Prelude.{◌≡◌, ◌≤◌, ◌<◌, ◌^◌, ℕ, IfErr, length, map};
+ghost use Rattle.std.specs.Prelude.{◌≤◌, ◌<◌, ◌^◌, IfErr, length, map};
 ghost use Rattle.cnb_words.specs.Restore.{KeepsLimits};
 ghost use Rattle.shelf_set.specs.ShelfState.{state_of};
 ghost use Rattle.shelf_set.specs.Caches.{caches_of, world_and_caches};
 ghost use Rattle.shelf_set.specs.Dropping.{AreStanding};
-ghost use Rattle.steps.specs.Causes.{CountsFiles, IsAnswer, IsGivenCause};
+ghost use Rattle.steps.specs.Causes.{IsAnswer, IsGivenCause};
 ghost use Rattle.steps.specs.Outside.{seen};
 ghost use Rattle.steps.specs.Steps.{reads};
 ghost use Rattle.cnb_restore.specs.Commands.{analyzed_at, analyzed_document, group_at, group_document, needed, refusal_cause, restores_analyzed, restores_command, served};
@@ -29,7 +29,6 @@ use std::alloc::Global;
 fn needed<T: Drop>(alloc: Global, path: &Path, found: Option<T>) -> Result<T, RestoreFault>
     ensures answer { IsAnswer cause_of result (needed path.now found) }
     ensures cause { IfErr result (λ fault. IsGivenCause (cause_of fault)) }
-    ensures files { (n : ℕ) → CountsFiles cause_of result n n }
 {
     match found {
         Some(value) => Ok(value),
@@ -46,8 +45,6 @@ fn read_analyzed<W: World>(
     requires { length work.now ≤ 4096 }
     ensures step { reads cause_of (is_fit_document (analyzed_document work.now))
         (analyzed_at (analyzed_document work.now)) (seen W.World world.old) result (seen W.World world.new) }
-    ensures files { CountsFiles cause_of result (W.file_faults world.old) (W.file_faults world.new) }
-    ensures children { W.child_faults world.new ≡ W.child_faults world.old }
 {
     let path = work_document(alloc, work, "analyzed.toml")?;
     let found = find_document::<W, Analyzed>(alloc, world, &path)?;
@@ -59,8 +56,6 @@ fn read_group<W: World>(alloc: Global, world: &mut W, work: &Path) -> Result<Gro
     requires { length work.now ≤ 4096 }
     ensures step { reads cause_of (is_fit_document (group_document work.now)) (group_at (group_document work.now))
         (seen W.World world.old) result (seen W.World world.new) }
-    ensures files { CountsFiles cause_of result (W.file_faults world.old) (W.file_faults world.new) }
-    ensures children { W.child_faults world.new ≡ W.child_faults world.old }
 {
     let path = work_document(alloc, work, "group.toml")?;
     let found = find_document::<W, GroupTable>(alloc, world, &path)?;
@@ -71,7 +66,6 @@ fn read_group<W: World>(alloc: Global, world: &mut W, work: &Path) -> Result<Gro
 fn served(alloc: Global, group: &[GroupRow]) -> Result<(), RestoreRefusal>
     ensures answer { IsAnswer refusal_cause result (served group.now) }
     ensures cause { IfErr result (λ refusal. IsGivenCause (refusal_cause refusal)) }
-    ensures files { (n : ℕ) → CountsFiles refusal_cause result n n }
 {
     match foreign_among(group) {
         Some(row) => Err(RestoreRefusal::BuildpackApi(row.api.copy(alloc)?)),
@@ -98,8 +92,6 @@ fn restore_analyzed<W: World>(
         (world_and_caches (seen W.World world.new)
         (caches_of (map (λ s. state_of (held s) (rows s) (faults s)) shelves.new.items) places.new)) }
     ensures again { AreStanding places.new (map (λ s. state_of (held s) (rows s) (faults s)) shelves.new.items) }
-    ensures files { CountsFiles refusal_cause result (W.file_faults world.old) (W.file_faults world.new) }
-    ensures children { W.child_faults world.new ≡ W.child_faults world.old }
 {
     served(alloc, group.as_slice())?;
     let restored = restore(
@@ -134,8 +126,6 @@ pub fn restore_command<W: World>(
         (world_and_caches (seen W.World world.new)
         (caches_of (map (λ s. state_of (held s) (rows s) (faults s)) shelves.new.items) places.new)) }
     ensures again { AreStanding places.new (map (λ s. state_of (held s) (rows s) (faults s)) shelves.new.items) }
-    ensures files { CountsFiles refusal_cause result (W.file_faults world.old) (W.file_faults world.new) }
-    ensures children { W.child_faults world.new ≡ W.child_faults world.old }
 {
     let analyzed = read_analyzed(alloc, world, &options.work)?;
     let group = read_group(alloc, world, &options.work)?;

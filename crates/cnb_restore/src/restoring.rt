@@ -1,10 +1,9 @@
 // Restoring the layers of a group.
-ghost use Rattle.std.specs.Prelude.{◌≡◌, ◌≤◌, ◌<◌, ◌+◌, ◌^◌, ℕ, IfOk, length, map};
+ghost use Rattle.std.specs.Prelude.{◌≡◌, ◌≤◌, ◌<◌, ◌+◌, ◌^◌, IfOk, length, map};
 ghost use Rattle.shelf_set.specs.ShelfState.{state_of};
 ghost use Rattle.shelf_set.specs.Caches.{caches_of, world_and_caches};
 ghost use Rattle.shelf_set.specs.CacheSteps.{gathers};
 ghost use Rattle.shelf_set.specs.Dropping.{AreStanding};
-ghost use Rattle.steps.specs.Causes.{CountsFiles};
 ghost use Rattle.steps.specs.Outside.{seen};
 ghost use Rattle.cnb_restore.specs.Faults.{cause_of};
 ghost use Rattle.cnb_restore.specs.Restores.{restores};
@@ -34,7 +33,6 @@ fn gather_rows(
         (caches_of (map (λ s. state_of (held s) (rows s) (faults s)) shelves.new.items) places.new) }
     ensures again { AreStanding places.new (map (λ s. state_of (held s) (rows s) (faults s)) shelves.new.items) }
     ensures count { IfOk result (λ gathered. length gathered.gone + length places.new ≡ length places.old) }
-    ensures files { (n : ℕ) → CountsFiles cause_of result n n }
 {
     let gathered = gather(alloc, shelves, places)?;
     Ok(gathered)
@@ -59,8 +57,6 @@ fn restore_from<W: World>(
         (world_and_caches (seen W.World world.new)
         (caches_of (map (λ s. state_of (held s) (rows s) (faults s)) shelves.new.items) places.new)) }
     ensures again { AreStanding places.new (map (λ s. state_of (held s) (rows s) (faults s)) shelves.new.items) }
-    ensures files { CountsFiles cause_of result (W.file_faults world.old) (W.file_faults world.new) }
-    ensures children { W.child_faults world.new ≡ W.child_faults world.old }
 {
     let Gathered { rows, unread, gone } = gather_rows(alloc, shelves, places)?;
     sources.rows = rows;
@@ -93,8 +89,6 @@ pub fn restore<W: World>(
         (world_and_caches (seen W.World world.new)
         (caches_of (map (λ s. state_of (held s) (rows s) (faults s)) shelves.new.items) places.new)) }
     ensures again { AreStanding places.new (map (λ s. state_of (held s) (rows s) (faults s)) shelves.new.items) }
-    ensures files { CountsFiles cause_of result (W.file_faults world.old) (W.file_faults world.new) }
-    ensures children { W.child_faults world.new ≡ W.child_faults world.old }
 {
     let previous = read_previous(alloc, world, store, analyzed.previous.as_ref())?;
     let mut sources = Sources {

@@ -18,6 +18,4 @@ invariant-loop-row g l = record {
       (world_and_caches (seen g.W.World l.fn.world) (caches_of (map (λ b. state_of ((goal.Shelf-dyn g (b.vtable, b.value)).held b.value) ((goal.Shelf-dyn g (b.vtable, b.value)).rows b.value) ((goal.Shelf-dyn g (b.vtable, b.value)).faults b.value)) l.fn.shelves.items) l.fn.places)) result new;
   standing : AreStanding l.places (map (λ b. state_of ((goal.Shelf-dyn g (b.vtable, b.value)).held b.value) ((goal.Shelf-dyn g (b.vtable, b.value)).rows b.value) ((goal.Shelf-dyn g (b.vtable, b.value)).faults b.value)) l.shelves.items);
   count : length l.so_far.gone + length l.places ≡ length l.fn.restored.gone + length l.fn.places;
-  files : g.W.World.file_faults l.world ≡ g.W.World.file_faults l.fn.world;
-  children : g.W.World.child_faults l.world ≡ g.W.World.child_faults l.fn.world;
 }
