@@ -1,5 +1,6 @@
 pub mod AscendingLemmas
 pub mod CommandLaws
+pub mod CountLaws
 pub mod DecidedLaws
 pub mod DistinctLaws
 pub mod ExportSteps

@@ -1,8 +1,9 @@
 -- What the calls of the layers below say, as steps of an export.
-use Rattle.std.proofs.Common.{◌≡◌, refl, sym, subst, arith, ℕ, List, Option, Result, Ok, Err}
+use Rattle.std.proofs.Common.{◌≡◌, refl, subst, arith, ℕ, List, Option, Some, Result, Ok, Err}
 use Rattle.std.specs.Prelude.{IfErr}
-use Rattle.cnb_world.specs.Calls.{LastFailed, Rose}
+use Rattle.cnb_world.specs.Calls.{CountsFailed, LastFailed, Rose}
 use Rattle.cnb_world.specs.declared.world.FileFault.{FileFault}
+use Rattle.cnb_world.specs.declared.world.FileFault.TheVariants as file_fault
 use Rattle.cnb_toml.specs.Reading.{Answers}
 use Rattle.cnb_toml.specs.declared.fault.DocFault.{DocFault}
 use Rattle.cnb_toml.specs.declared.fault.DocFault.TheVariants as doc_fault
@@ -11,7 +12,8 @@ use Rattle.doc_files.specs.Reading as reading
 use Rattle.doc_files.specs.declared.fault.ReadFault.{ReadFault}
 use Rattle.doc_files.specs.declared.fault.ReadFault.TheVariants as read
 use Rattle.doc_files.proofs.Blame.{blamed_last}
-use Rattle.steps.specs.Causes.{CountsFiles, FilesBy, IsAnswer, IsGivenCause, IsReadCause}
+use Rattle.steps.specs.Causes.{CountsFiles, IsAnswer, IsGivenCause, IsReadCause}
+use Rattle.steps.specs.Counts.{FileCounts}
 use Rattle.steps.specs.Each.{for_each}
 use Rattle.steps.specs.Outside.{Seen}
 use Rattle.steps.specs.Steps.{gives}
@@ -32,6 +34,18 @@ same_cause read.Memory = refl
 pub blamed_so : (T : Type 0) (path : List ℕ) (fault : FileFault) (refusal : ReadFault) (before now : Option (List ℕ)) → LastFailed {T = T} path (Err fault) before now → reading.Blames path fault refusal → IsReadCause now (cause_of (of_read_fault refusal))
 blamed_so T path fault refusal before now last blames = cause_told read_cause cause_of of_read_fault now refusal (same_cause refusal) (blamed_last T path fault refusal before now last blames)
 
+-- and counted so
+pub counted_so : (T : Type 0) (path : List ℕ) (fault : FileFault) (refusal : ReadFault) (old new : Seen) → CountsFailed {T = T} (Err fault) old.file_faults new.file_faults → new.child_faults ≡ old.child_faults
+    → reading.Blames path fault refusal → FileCounts (Some (cause_of (of_read_fault refusal))) old new
+counted_so T path file_fault.Failed (read.File blamed) old new files children blames = record { ends = tt; files = files; children = children }
+counted_so T path file_fault.Failed read.Memory old new files children blames = record { ends = tt; files = files.later; children = children }
+counted_so T path file_fault.Memory read.Memory old new files children blames = record { ends = tt; files = omega (arith, files); children = children }
+counted_so T path file_fault.Memory (read.File blamed) old new files children blames = absurd blames
+counted_so T path file_fault.Failed (read.Document blamed why) old new files children blames = absurd blames
+counted_so T path file_fault.Memory (read.Document blamed why) old new files children blames = absurd blames
+counted_so T path file_fault.Failed (read.Limit kind) old new files children blames = absurd blames
+counted_so T path file_fault.Memory (read.Limit kind) old new files children blames = absurd blames
+
 -- what is known of a document that was read costs no call
 no_call : (path : List ℕ) → ((n : ℕ) → CountsFiles {A = Unit {0}} read_cause (Err (read.File path)) n n) → ⊥
 no_call path h = let rose : Rose 0 0 = h 0 in let up = rose.up in omega arith
@@ -41,9 +55,6 @@ given_cause T (read.File path) h = no_call path h
 given_cause T (read.Document path fault) h = tt
 given_cause T (read.Limit kind) h = tt
 given_cause T read.Memory h = tt
-
-pub given_files : (T : Type 0) (fault : ReadFault) → ((n : ℕ) → CountsFiles {A = T} read_cause (Err fault) n n) → (n : ℕ) → FilesBy (cause_of (of_read_fault fault)) n n
-given_files T fault h n = subst (λ cause. FilesBy cause n n) (sym (same_cause fault)) (h n)
 
 memory_at : {T : Type 0} (path : List ℕ) (result : Result T ExportFault) → IsAnswer cause_of result (value_at {A = T} path (Err doc_fault.Memory)) → (want : Result T ExportFault) → IsAnswer cause_of result want
 memory_at path (Ok value) h want = absurd (cc)

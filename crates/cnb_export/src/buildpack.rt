@@ -1,6 +1,6 @@
 // What one buildpack left.
-ghost use Rattle.std.specs.Prelude.{◌≡◌, ◌++◌, ◌≤◌, ℕ, IfErr, IfOk, OnOk, length};
-ghost use Rattle.steps.specs.Causes.{CountsChildren, CountsFiles, IsAnswer, IsGivenCause};
+ghost use Rattle.std.specs.Prelude.{◌≡◌, ◌++◌, ◌≤◌, IfErr, IfOk, OnOk, length};
+ghost use Rattle.steps.specs.Causes.{IsAnswer, IsGivenCause};
 ghost use Rattle.steps.specs.Each.{for_each};
 ghost use Rattle.steps.specs.Outside.{seen};
 ghost use Rattle.cnb_export.specs.Buildpack.{defaults_of, exports_buildpack, exports_documents, exports_group, exports_layers, one_default, reads_launch, reads_store, with_documents, with_store};
@@ -36,8 +36,6 @@ fn count_defaults(launch: &LaunchToml) -> usize
 fn one_default(alloc: Global, id: &BpId, launch: LaunchToml) -> Result<LaunchToml, ExportFault>
     ensures answer { IsAnswer cause_of result (one_default id.now launch) }
     ensures cause { IfErr result (λ fault. IsGivenCause (cause_of fault)) }
-    ensures files { (n : ℕ) → CountsFiles cause_of result n n }
-    ensures children { (n : ℕ) → CountsChildren cause_of result n n }
 {
     if count_defaults(&launch) > 1 {
         return Err(ExportFault::TwoDefaults(id.copy(alloc)?));
@@ -53,8 +51,6 @@ fn read_launch<W: World>(
 ) -> Result<LaunchToml, ExportFault>
     requires { length folder.now ≤ 4352 }
     ensures step { reads_launch folder.now id.now (seen W.World world.old) result (seen W.World world.new) }
-    ensures files { CountsFiles cause_of result (W.file_faults world.old) (W.file_faults world.new) }
-    ensures children { CountsChildren cause_of result (W.child_faults world.old) (W.child_faults world.new) }
 {
     let path = folder.below(alloc, "launch.toml")?;
     let launch = read_launch_toml(alloc, world, &path)?;
@@ -68,8 +64,6 @@ fn read_store<W: World>(
 ) -> Result<Option<StoreToml>, ExportFault>
     requires { length folder.now ≤ 4352 }
     ensures step { reads_store folder.now (seen W.World world.old) result (seen W.World world.new) }
-    ensures files { CountsFiles cause_of result (W.file_faults world.old) (W.file_faults world.new) }
-    ensures children { CountsChildren cause_of result (W.child_faults world.old) (W.child_faults world.new) }
 {
     let path = folder.below(alloc, "store.toml")?;
     read_store_toml(alloc, world, &path)
@@ -143,8 +137,6 @@ fn export_documents<W: World>(
     ensures step { exports_documents folder.now id.now gathered (seen W.World world.old) result
         (seen W.World world.new) }
     ensures matched { IfOk result AreMatched }
-    ensures files { CountsFiles cause_of result (W.file_faults world.old) (W.file_faults world.new) }
-    ensures children { CountsChildren cause_of result (W.child_faults world.old) (W.child_faults world.new) }
 {
     let launch = read_launch(alloc, world, folder, id)?;
     let store = read_store(alloc, world, folder)?;
@@ -168,8 +160,6 @@ fn export_each<W: World>(
     ensures step { for_each (exports_layer store.now previous.now id.now folder.now) layers.now gathered
         (seen W.World world.old) result (seen W.World world.new) }
     ensures matched { IfOk result AreMatched }
-    ensures files { CountsFiles cause_of result (W.file_faults world.old) (W.file_faults world.new) }
-    ensures children { CountsChildren cause_of result (W.child_faults world.old) (W.child_faults world.new) }
 {
     let mut all = gathered;
     for layer in layers {
@@ -193,8 +183,6 @@ fn export_layers<W: World>(
     ensures step { exports_layers store.now previous.now id.now folder.now gathered
         (seen W.World world.old) result (seen W.World world.new) }
     ensures matched { IfOk result AreMatched }
-    ensures files { CountsFiles cause_of result (W.file_faults world.old) (W.file_faults world.new) }
-    ensures children { CountsChildren cause_of result (W.child_faults world.old) (W.child_faults world.new) }
 {
     let names = read_layer_names(alloc, world, folder)?;
     export_each(
@@ -222,8 +210,6 @@ fn export_buildpack<W: World>(
     ensures step { exports_buildpack frame.now previous.now row.now gathered
         (seen W.World world.old) result (seen W.World world.new) }
     ensures matched { IfOk result AreMatched }
-    ensures files { CountsFiles cause_of result (W.file_faults world.old) (W.file_faults world.new) }
-    ensures children { CountsChildren cause_of result (W.child_faults world.old) (W.child_faults world.new) }
 {
     let id = &row.key.id;
     let folder = layers_folder(alloc, &frame.layers, id)?;
@@ -243,8 +229,6 @@ pub(crate) fn export_group<W: World>(
     ensures step { exports_group frame.now previous.now group.now (seen W.World world.old) result
         (seen W.World world.new) }
     ensures matched { IfOk result AreMatched }
-    ensures files { CountsFiles cause_of result (W.file_faults world.old) (W.file_faults world.new) }
-    ensures children { CountsChildren cause_of result (W.child_faults world.old) (W.child_faults world.new) }
 {
     let mut all = nothing_gathered(alloc);
     for row in group {

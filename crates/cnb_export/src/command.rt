@@ -1,5 +1,5 @@
 // The command `export`.
-ghost use Rattle.std.specs.Prelude.{◌≡◌, ◌≤◌, IsTrue, OnOk, length, map};
+ghost use Rattle.std.specs.Prelude.{◌≤◌, IsTrue, OnOk, length, map};
 ghost use Rattle.cnb_words.specs.Export as words;
 ghost use Rattle.image_docs.specs.Image.{is_image_doc};
 ghost use Rattle.image_files.specs.Images.{ImageStands};
@@ -7,12 +7,9 @@ ghost use Rattle.run_docs.specs.Group.{is_group_doc};
 ghost use Rattle.shelf_set.specs.Caches.{Caches, caches_of, world_and_caches};
 ghost use Rattle.shelf_set.specs.Dropping.{AreStanding};
 ghost use Rattle.shelf_set.specs.ShelfState.{state_of};
-ghost use Rattle.steps.specs.Causes.{CountsChildren, CountsFiles};
 ghost use Rattle.steps.specs.Outside.{seen};
 ghost use Rattle.cnb_export.specs.Command.{exports_command, exports_given, finishes_export, saves_image};
 ghost use Rattle.cnb_export.specs.Frame as frames;
-ghost use Rattle.cnb_export.specs.Given.{refusal_cause};
-ghost use Rattle.cnb_export.specs.Refusals.{cause_of};
 
 use crate::exported::Exported;
 use crate::exporting::export;
@@ -37,8 +34,6 @@ pub fn save_image<W: World>(
 ) -> Result<(), ExportFault>
     requires { length store.now ≤ 4096 }
     ensures step { saves_image store.now name.now image.now (seen W.World world.old) result (seen W.World world.new) }
-    ensures files { CountsFiles cause_of result (W.file_faults world.old) (W.file_faults world.new) }
-    ensures children { CountsChildren cause_of result (W.child_faults world.old) (W.child_faults world.new) }
 {
     image_files::save_image(alloc, world, store, name, image)?;
     Ok(())
@@ -55,8 +50,6 @@ fn finish_export<W: World>(
     requires readable { IsTrue (is_image_doc exported.now.image) }
     ensures steps { (caches : Caches) → finishes_export options.now exported.now
         (world_and_caches (seen W.World world.old) caches) result (world_and_caches (seen W.World world.new) caches) }
-    ensures files { CountsFiles refusal_cause result (W.file_faults world.old) (W.file_faults world.new) }
-    ensures children { CountsChildren refusal_cause result (W.child_faults world.old) (W.child_faults world.new) }
 {
     let text = exported_text(alloc, &options.image, exported)?;
     save_image(
@@ -90,8 +83,6 @@ fn export_given<W: World>(
         (world_and_caches (seen W.World world.new)
         (caches_of (map (λ s. state_of (held s) (rows s) (faults s)) shelves.new.items) places.new)) }
     ensures again { AreStanding places.new (map (λ s. state_of (held s) (rows s) (faults s)) shelves.new.items) }
-    ensures files { CountsFiles refusal_cause result (W.file_faults world.old) (W.file_faults world.new) }
-    ensures children { CountsChildren refusal_cause result (W.child_faults world.old) (W.child_faults world.new) }
 {
     let exported = export(
         alloc,
@@ -125,8 +116,6 @@ pub fn export_command<W: World>(
         (caches_of (map (λ s. state_of (held s) (rows s) (faults s)) shelves.new.items) places.new)) }
     ensures stands { OnOk result (ImageStands options.now.store options.now.image (W.tree world.new)) }
     ensures again { AreStanding places.new (map (λ s. state_of (held s) (rows s) (faults s)) shelves.new.items) }
-    ensures files { CountsFiles refusal_cause result (W.file_faults world.old) (W.file_faults world.new) }
-    ensures children { CountsChildren refusal_cause result (W.child_faults world.old) (W.child_faults world.new) }
 {
     let given = read_given(alloc, world, options)?;
     export_given(alloc, options, world, shelves, places, &given)

@@ -11,13 +11,11 @@ ghost use Rattle.shelf_set.specs.Caches.{caches_of, world_and_caches};
 ghost use Rattle.shelf_set.specs.Caching.{digest_of_row, digest_of_tree};
 ghost use Rattle.shelf_set.specs.Dropping.{AreStanding};
 ghost use Rattle.shelf_set.specs.ShelfState.{state_of};
-ghost use Rattle.steps.specs.Causes.{CountsChildren, CountsFiles};
 ghost use Rattle.steps.specs.Outside.{seen};
 ghost use Rattle.cnb_export.specs.Exports.{exported_row, exports, gained_of, gains, gains_over};
 ghost use Rattle.cnb_export.specs.Frame.{KeepsLimits};
 ghost use Rattle.cnb_export.specs.OneImage.{IsOneImage};
 ghost use Rattle.cnb_export.specs.Processes as processes;
-ghost use Rattle.cnb_export.specs.Refusals.{cause_of};
 ghost use Rattle.cnb_export.specs.Rows.{layer_row};
 
 use crate::buildpack::export_group;
@@ -98,8 +96,6 @@ fn gain_over<W: World>(
     ensures readable { IsTrue (is_group_doc group.now) → IfOk result (λ gained. IsTrue (is_image_doc gained.image)) }
     ensures cacheable { IsTrue (is_group_doc group.now) → IfOk result (λ gained. IsTrue (is_cache_doc gained.cached)) }
     ensures matched { IfOk result (λ gained. map digest_of_row gained.cached ≡ map digest_of_tree gained.trees) }
-    ensures files { CountsFiles cause_of result (W.file_faults world.old) (W.file_faults world.new) }
-    ensures children { CountsChildren cause_of result (W.child_faults world.old) (W.child_faults world.new) }
 {
     let gathered = export_group(alloc, world, frame, previous, group.as_slice())?;
     let digests = put_trees(alloc, world, frame, gathered.processes.as_slice())?;
@@ -119,8 +115,6 @@ fn gain<W: World>(
     ensures readable { IsTrue (is_group_doc group.now) → IfOk result (λ gained. IsTrue (is_image_doc gained.image)) }
     ensures cacheable { IsTrue (is_group_doc group.now) → IfOk result (λ gained. IsTrue (is_cache_doc gained.cached)) }
     ensures matched { IfOk result (λ gained. map digest_of_row gained.cached ≡ map digest_of_tree gained.trees) }
-    ensures files { CountsFiles cause_of result (W.file_faults world.old) (W.file_faults world.new) }
-    ensures children { CountsChildren cause_of result (W.child_faults world.old) (W.child_faults world.new) }
 {
     let run = read_run_image(alloc, world, &frame.store, &analyzed.run)?;
     let previous = read_previous(alloc, world, &frame.store, &analyzed.previous)?;
@@ -160,8 +154,6 @@ pub fn export<W: World>(
     ensures readable { IsTrue (is_group_doc group.now)
         → IfOk result (λ exported. IsTrue (is_image_doc exported.image)) }
     ensures again { AreStanding places.new (map (λ s. state_of (held s) (rows s) (faults s)) shelves.new.items) }
-    ensures files { CountsFiles cause_of result (W.file_faults world.old) (W.file_faults world.new) }
-    ensures children { CountsChildren cause_of result (W.child_faults world.old) (W.child_faults world.new) }
 {
     let gained = gain(alloc, world, frame, group, analyzed)?;
     let gone = store_all(alloc, shelves, places, &gained.cached, &gained.trees)?;

@@ -1,11 +1,9 @@
 // What a group left, gathered.
 ghost use Rattle.std.specs.Prelude.{◌≡◌, ◌≤◌, IfOk, IfSome, OnOk, length, map};
 ghost use Rattle.shelf_set.specs.Caching.{digest_of_row, digest_of_tree};
-ghost use Rattle.steps.specs.Causes.{CountsChildren, CountsFiles};
 ghost use Rattle.steps.specs.Outside.{seen};
 ghost use Rattle.cnb_export.specs.Gathering.{AreMatched, exports_found, exports_layer, exports_some, nothing_gathered, with_image, with_kept, with_layer, with_row, with_tree};
 ghost use Rattle.cnb_export.specs.Layer.{IsMatched};
-ghost use Rattle.cnb_export.specs.Refusals.{cause_of};
 ghost use Rattle.cnb_export.specs.Settling.{IsKeptRight};
 
 use crate::exported::{Gathered, ImageLayer};
@@ -112,8 +110,6 @@ fn export_some<W: World>(
     ensures step { exports_some store.now previous.now id.now layer.now gathered found
         (seen W.World world.old) result (seen W.World world.new) }
     ensures matched { IfOk result AreMatched }
-    ensures files { CountsFiles cause_of result (W.file_faults world.old) (W.file_faults world.new) }
-    ensures children { CountsChildren cause_of result (W.child_faults world.old) (W.child_faults world.new) }
 {
     let kept = settle(alloc, world, store, previous, id, layer, found)?;
     let all = with_kept(alloc, gathered, kept)?;
@@ -137,8 +133,6 @@ fn export_found<W: World>(
     ensures step { exports_found store.now previous.now id.now layer.now gathered found
         (seen W.World world.old) result (seen W.World world.new) }
     ensures matched { IfOk result AreMatched }
-    ensures files { CountsFiles cause_of result (W.file_faults world.old) (W.file_faults world.new) }
-    ensures children { CountsChildren cause_of result (W.child_faults world.old) (W.child_faults world.new) }
 {
     match found {
         Some(found) => export_some(alloc, world, store, previous, id, layer, gathered, found),
@@ -163,8 +157,6 @@ pub(crate) fn export_layer<W: World>(
     ensures step { exports_layer store.now previous.now id.now folder.now layer.now gathered
         (seen W.World world.old) result (seen W.World world.new) }
     ensures matched { IfOk result AreMatched }
-    ensures files { CountsFiles cause_of result (W.file_faults world.old) (W.file_faults world.new) }
-    ensures children { CountsChildren cause_of result (W.child_faults world.old) (W.child_faults world.new) }
 {
     let found = find_layer(alloc, world, store, folder, layer)?;
     export_found(alloc, world, store, previous, id, layer, gathered, found)

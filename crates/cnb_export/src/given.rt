@@ -1,9 +1,9 @@
 // What is exported.
-ghost use Rattle.std.specs.Prelude.{◌≡◌, ◌≤◌, ℕ, IfErr, IfOk, codes, length};
+ghost use Rattle.std.specs.Prelude.{◌≡◌, ◌≤◌, IfErr, IfOk, codes, length};
 ghost use Rattle.cnb_words.specs.Export as words;
 ghost use Rattle.image_docs.specs.Analyzed.{analyzed_in};
 ghost use Rattle.run_docs.specs.Group.{group_in};
-ghost use Rattle.steps.specs.Causes.{CountsChildren, CountsFiles, IsAnswer, IsGivenCause};
+ghost use Rattle.steps.specs.Causes.{IsAnswer, IsGivenCause};
 ghost use Rattle.steps.specs.Outside.{seen};
 ghost use Rattle.cnb_export.specs.Frame.{KeepsLimits};
 ghost use Rattle.cnb_export.specs.Given.{frame_of, needed_at, reads_given, reads_group, reads_needed, refusal_cause, served};
@@ -31,8 +31,6 @@ pub(crate) struct ExportGiven {
 fn group_at(alloc: Global, path: &Path, found: Option<Bytes>) -> Result<GroupDoc, ExportFault>
     ensures answer { IsAnswer cause_of result (needed_at group_in path.now found) }
     ensures cause { IfErr result (λ fault. IsGivenCause (cause_of fault)) }
-    ensures files { (n : ℕ) → CountsFiles cause_of result n n }
-    ensures children { (n : ℕ) → CountsChildren cause_of result n n }
 {
     match found {
         Some(bytes) => value_at(alloc, path, read_group(alloc, bytes.as_slice())),
@@ -43,8 +41,6 @@ fn group_at(alloc: Global, path: &Path, found: Option<Bytes>) -> Result<GroupDoc
 fn analyzed_at(alloc: Global, path: &Path, found: Option<Bytes>) -> Result<Analyzed, ExportFault>
     ensures answer { IsAnswer cause_of result (needed_at analyzed_in path.now found) }
     ensures cause { IfErr result (λ fault. IsGivenCause (cause_of fault)) }
-    ensures files { (n : ℕ) → CountsFiles cause_of result n n }
-    ensures children { (n : ℕ) → CountsChildren cause_of result n n }
 {
     match found {
         Some(bytes) => value_at(alloc, path, read_analyzed(alloc, bytes.as_slice())),
@@ -57,8 +53,6 @@ fn find_group<W: World>(alloc: Global, world: &mut W, work: &Path) -> Result<Gro
     requires { length work.now ≤ 4096 }
     ensures step { reads_needed group_in work.now (codes "group.toml") (seen W.World world.old) result
         (seen W.World world.new) }
-    ensures files { CountsFiles cause_of result (W.file_faults world.old) (W.file_faults world.new) }
-    ensures children { CountsChildren cause_of result (W.child_faults world.old) (W.child_faults world.new) }
 {
     let path = work.below(alloc, "group.toml")?;
     let found = read_document(alloc, world, &path)?;
@@ -74,8 +68,6 @@ fn find_analyzed<W: World>(
     requires { length work.now ≤ 4096 }
     ensures step { reads_needed analyzed_in work.now (codes "analyzed.toml") (seen W.World world.old) result
         (seen W.World world.new) }
-    ensures files { CountsFiles cause_of result (W.file_faults world.old) (W.file_faults world.new) }
-    ensures children { CountsChildren cause_of result (W.child_faults world.old) (W.child_faults world.new) }
 {
     let path = work.below(alloc, "analyzed.toml")?;
     let found = read_document(alloc, world, &path)?;
@@ -86,8 +78,6 @@ fn find_analyzed<W: World>(
 fn served(alloc: Global, group: &GroupDoc) -> Result<(), ExportRefusal>
     ensures answer { IsAnswer refusal_cause result (served group.now) }
     ensures cause { IfErr result (λ refusal. IsGivenCause (refusal_cause refusal)) }
-    ensures files { (n : ℕ) → CountsFiles refusal_cause result n n }
-    ensures children { (n : ℕ) → CountsChildren refusal_cause result n n }
 {
     match foreign_among(group.as_slice()) {
         Some(row) => Err(ExportRefusal::BuildpackApi(row.api.copy(alloc)?)),
@@ -102,8 +92,6 @@ fn find_served_group<W: World>(
 ) -> Result<GroupDoc, ExportRefusal>
     requires { length work.now ≤ 4096 }
     ensures step { reads_group work.now (seen W.World world.old) result (seen W.World world.new) }
-    ensures files { CountsFiles refusal_cause result (W.file_faults world.old) (W.file_faults world.new) }
-    ensures children { CountsChildren refusal_cause result (W.child_faults world.old) (W.child_faults world.new) }
 {
     let group = find_group(alloc, world, work)?;
     served(alloc, &group)?;
@@ -132,8 +120,6 @@ pub(crate) fn read_given<W: World>(
     requires { words.KeepsLimits options.now }
     ensures step { reads_given options.now (seen W.World world.old) result (seen W.World world.new) }
     ensures limits { IfOk result (λ given. KeepsLimits given.frame) }
-    ensures files { CountsFiles refusal_cause result (W.file_faults world.old) (W.file_faults world.new) }
-    ensures children { CountsChildren refusal_cause result (W.child_faults world.old) (W.child_faults world.new) }
 {
     let group = find_served_group(alloc, world, &options.work)?;
     let analyzed = find_analyzed(alloc, world, &options.work)?;

@@ -1,10 +1,8 @@
 // The run image, and the layers of the previous image.
 ghost use Rattle.std.specs.Prelude.{◌≤◌, IfOk, IsTrue, length};
 ghost use Rattle.image_docs.specs.RunImage.{is_run_doc};
-ghost use Rattle.steps.specs.Causes.{CountsChildren, CountsFiles};
 ghost use Rattle.steps.specs.Outside.{seen};
 ghost use Rattle.cnb_export.specs.Images.{reads_layers, reads_previous, reads_run_image};
-ghost use Rattle.cnb_export.specs.Refusals.{cause_of};
 
 use crate::fault::ExportFault;
 use cnb_toml::ImageName;
@@ -22,8 +20,6 @@ pub(crate) fn read_run_image<W: World>(
     requires { length store.now ≤ 4096 }
     ensures step { reads_run_image store.now name.now (seen W.World world.old) result (seen W.World world.new) }
     ensures readable { IfOk result (λ run. IsTrue (is_run_doc run)) }
-    ensures files { CountsFiles cause_of result (W.file_faults world.old) (W.file_faults world.new) }
-    ensures children { CountsChildren cause_of result (W.child_faults world.old) (W.child_faults world.new) }
 {
     let run = image_files::read_run_image(alloc, world, store, name)?;
     Ok(run)
@@ -37,8 +33,6 @@ fn read_layers<W: World>(
 ) -> Result<List<LayerRow>, ExportFault>
     requires { length store.now ≤ 4096 }
     ensures step { reads_layers store.now name.now (seen W.World world.old) result (seen W.World world.new) }
-    ensures files { CountsFiles cause_of result (W.file_faults world.old) (W.file_faults world.new) }
-    ensures children { CountsChildren cause_of result (W.child_faults world.old) (W.child_faults world.new) }
 {
     let image = image_files::read_image(alloc, world, store, name)?;
     Ok(image.layers)
@@ -54,8 +48,6 @@ pub(crate) fn read_previous<W: World>(
 ) -> Result<List<LayerRow>, ExportFault>
     requires { length store.now ≤ 4096 }
     ensures step { reads_previous store.now name.now (seen W.World world.old) result (seen W.World world.new) }
-    ensures files { CountsFiles cause_of result (W.file_faults world.old) (W.file_faults world.new) }
-    ensures children { CountsChildren cause_of result (W.child_faults world.old) (W.child_faults world.new) }
 {
     match name {
         Some(name) => read_layers(alloc, world, store, name),

@@ -1,7 +1,7 @@
 // What a buildpack left of one layer.
-ghost use Rattle.std.specs.Prelude.{◌≡◌, ◌≤◌, ◌&&◌, ◌||◌, Err, IfErr, IfOk, IfSome, Ok, length, true, ℕ};
+ghost use Rattle.std.specs.Prelude.{◌≡◌, ◌≤◌, ◌&&◌, ◌||◌, Err, IfErr, IfOk, IfSome, Ok, length, true};
 ghost use Rattle.shelf_set.specs.Caching.{digest_of_tree};
-ghost use Rattle.steps.specs.Causes.{CountsChildren, CountsFiles, IsAnswer, IsGivenCause};
+ghost use Rattle.steps.specs.Causes.{IsAnswer, IsGivenCause};
 ghost use Rattle.steps.specs.Outside.{seen};
 ghost use Rattle.run_docs.specs.Layer.{layer_in};
 ghost use Rattle.cnb_export.specs.Layer.{IsMatched, finds_contents, finds_layer, finds_some, keeps_tree, looks_for_contents, reads_layer, reads_regular, some_of, takes_contents, takes_found, takes_if, takes_tree, there_by};
@@ -45,8 +45,6 @@ fn layer_value(
 ) -> Result<Option<LayerDoc>, ExportFault>
     ensures answer { IsAnswer cause_of result (some_value_at layer_in path.now found) }
     ensures cause { IfErr result (λ fault. IsGivenCause (cause_of fault)) }
-    ensures files { (n : ℕ) → CountsFiles cause_of result n n }
-    ensures children { (n : ℕ) → CountsChildren cause_of result n n }
 {
     match found {
         Some(bytes) => {
@@ -64,8 +62,6 @@ fn read_layer_document<W: World>(
     path: &Path,
 ) -> Result<Option<LayerDoc>, ExportFault>
     ensures step { reads_layer path.now (seen W.World world.old) result (seen W.World world.new) }
-    ensures files { CountsFiles cause_of result (W.file_faults world.old) (W.file_faults world.new) }
-    ensures children { CountsChildren cause_of result (W.child_faults world.old) (W.child_faults world.new) }
 {
     let found = regular_file(alloc, world, path)?;
     layer_value(alloc, path, found)
@@ -77,8 +73,6 @@ fn regular_file<W: World>(
     path: &Path,
 ) -> Result<Option<Bytes>, ExportFault>
     ensures step { reads_regular path.now (seen W.World world.old) result (seen W.World world.new) }
-    ensures files { CountsFiles cause_of result (W.file_faults world.old) (W.file_faults world.new) }
-    ensures children { CountsChildren cause_of result (W.child_faults world.old) (W.child_faults world.new) }
 {
     let found = cnb_env::contents(alloc, world, path)?;
     Ok(found)
@@ -87,8 +81,6 @@ fn regular_file<W: World>(
 fn there_by(alloc: Global, path: &Path, kind: Kind) -> Result<bool, ExportFault>
     ensures answer { IsAnswer cause_of result (there_by path.now kind) }
     ensures cause { IfErr result (λ fault. IsGivenCause (cause_of fault)) }
-    ensures files { (n : ℕ) → CountsFiles cause_of result n n }
-    ensures children { (n : ℕ) → CountsChildren cause_of result n n }
 {
     match kind {
         Kind::Folder => Ok(true),
@@ -102,8 +94,6 @@ fn there_by(alloc: Global, path: &Path, kind: Kind) -> Result<bool, ExportFault>
 fn odd(alloc: Global, path: &Path) -> Result<bool, ExportFault>
     ensures answer { IsAnswer cause_of result (Err (fault.Store (stored.OddFile path.now))) }
     ensures cause { IfErr result (λ fault. IsGivenCause (cause_of fault)) }
-    ensures files { (n : ℕ) → CountsFiles cause_of result n n }
-    ensures children { (n : ℕ) → CountsChildren cause_of result n n }
 {
     Err(ExportFault::Store(StoreFault::OddFile(path.copy(alloc)?)))
 }
@@ -115,8 +105,6 @@ fn look_for_contents<W: World>(
     path: &Path,
 ) -> Result<bool, ExportFault>
     ensures step { looks_for_contents path.now (seen W.World world.old) result (seen W.World world.new) }
-    ensures files { CountsFiles cause_of result (W.file_faults world.old) (W.file_faults world.new) }
-    ensures children { CountsChildren cause_of result (W.child_faults world.old) (W.child_faults world.new) }
 {
     let kind = kind_at(alloc, world, path)?;
     there_by(alloc, path, kind)
@@ -131,8 +119,6 @@ fn put_tree<W: World>(
     requires { length store.now ≤ 4096 }
     ensures step { keeps_tree store.now true tree.now (seen W.World world.old) result (seen W.World world.new) }
     ensures digest { IfOk result (λ digest. digest ≡ digest_of_tree tree.now) }
-    ensures files { CountsFiles cause_of result (W.file_faults world.old) (W.file_faults world.new) }
-    ensures children { CountsChildren cause_of result (W.child_faults world.old) (W.child_faults world.new) }
 {
     let digest = put(alloc, world, store, tree)?;
     Ok(digest)
@@ -142,8 +128,6 @@ fn digest_of(alloc: Global, tree: &Tree) -> Result<Digest, ExportFault>
     ensures answer { IsAnswer cause_of result (Ok (digest_of_tree tree.now)) }
     ensures cause { IfErr result (λ fault. IsGivenCause (cause_of fault)) }
     ensures digest { IfOk result (λ digest. digest ≡ digest_of_tree tree.now) }
-    ensures files { (n : ℕ) → CountsFiles cause_of result n n }
-    ensures children { (n : ℕ) → CountsChildren cause_of result n n }
 {
     let bytes = encode(alloc, tree)?;
     Ok(Digest::of(bytes.as_slice()))
@@ -161,8 +145,6 @@ fn keep_tree<W: World>(
     requires { length store.now ≤ 4096 }
     ensures step { keeps_tree store.now launch tree.now (seen W.World world.old) result (seen W.World world.new) }
     ensures digest { IfOk result (λ digest. digest ≡ digest_of_tree tree.now) }
-    ensures files { CountsFiles cause_of result (W.file_faults world.old) (W.file_faults world.new) }
-    ensures children { CountsChildren cause_of result (W.child_faults world.old) (W.child_faults world.new) }
 {
     if launch {
         put_tree(alloc, world, store, tree)
@@ -182,8 +164,6 @@ fn take_tree<W: World>(
     requires path { length path.now ≤ 8192 }
     ensures step { takes_tree store.now launch path.now (seen W.World world.old) result (seen W.World world.new) }
     ensures matched { IfOk result (λ contents. contents.digest ≡ digest_of_tree contents.tree) }
-    ensures files { CountsFiles cause_of result (W.file_faults world.old) (W.file_faults world.new) }
-    ensures children { CountsChildren cause_of result (W.child_faults world.old) (W.child_faults world.new) }
 {
     let tree = read_tree(alloc, world, path)?;
     let digest = keep_tree(alloc, world, store, launch, &tree)?;
@@ -202,8 +182,6 @@ fn take_some<W: World>(
     ensures step { some_of (takes_tree store.now launch path.now) (seen W.World world.old) result
         (seen W.World world.new) }
     ensures matched { IfOk result (λ found. IfSome found (λ tree. tree.digest ≡ digest_of_tree tree.tree)) }
-    ensures files { CountsFiles cause_of result (W.file_faults world.old) (W.file_faults world.new) }
-    ensures children { CountsChildren cause_of result (W.child_faults world.old) (W.child_faults world.new) }
 {
     let tree = take_tree(alloc, world, store, launch, path)?;
     Ok(Some(tree))
@@ -222,8 +200,6 @@ fn take_if<W: World>(
     requires path { length path.now ≤ 8192 }
     ensures step { takes_if taken store.now launch path.now (seen W.World world.old) result (seen W.World world.new) }
     ensures matched { IfOk result (λ found. IfSome found (λ tree. tree.digest ≡ digest_of_tree tree.tree)) }
-    ensures files { CountsFiles cause_of result (W.file_faults world.old) (W.file_faults world.new) }
-    ensures children { CountsChildren cause_of result (W.child_faults world.old) (W.child_faults world.new) }
 {
     if taken {
         take_some(alloc, world, store, launch, path)
@@ -252,8 +228,6 @@ fn take_contents<W: World>(
     ensures step { takes_contents store.now doc.now path.now there (seen W.World world.old) result
         (seen W.World world.new) }
     ensures matched { IfOk result (λ found. IfSome found (λ tree. tree.digest ≡ digest_of_tree tree.tree)) }
-    ensures files { CountsFiles cause_of result (W.file_faults world.old) (W.file_faults world.new) }
-    ensures children { CountsChildren cause_of result (W.child_faults world.old) (W.child_faults world.new) }
 {
     take_if(alloc, world, is_taken(there, doc), store, doc.launch, path)
 }
@@ -269,8 +243,6 @@ fn take_found<W: World>(
     requires path { length path.now ≤ 8192 }
     ensures step { takes_found store.now path.now doc (seen W.World world.old) result (seen W.World world.new) }
     ensures matched { IfOk result IsMatched }
-    ensures files { CountsFiles cause_of result (W.file_faults world.old) (W.file_faults world.new) }
-    ensures children { CountsChildren cause_of result (W.child_faults world.old) (W.child_faults world.new) }
 {
     let there = look_for_contents(alloc, world, path)?;
     let contents = take_contents(alloc, world, store, &doc, path, there)?;
@@ -305,8 +277,6 @@ fn find_some<W: World>(
     ensures step { finds_some store.now folder.now layer.now doc (seen W.World world.old) result
         (seen W.World world.new) }
     ensures matched { IfOk result (λ found. IfSome found IsMatched) }
-    ensures files { CountsFiles cause_of result (W.file_faults world.old) (W.file_faults world.new) }
-    ensures children { CountsChildren cause_of result (W.child_faults world.old) (W.child_faults world.new) }
 {
     let path = contents_path(alloc, folder, layer)?;
     let found = take_found(alloc, world, store, &path, doc)?;
@@ -327,8 +297,6 @@ fn find_contents<W: World>(
     ensures step { finds_contents store.now folder.now layer.now doc
         (seen W.World world.old) result (seen W.World world.new) }
     ensures matched { IfOk result (λ found. IfSome found IsMatched) }
-    ensures files { CountsFiles cause_of result (W.file_faults world.old) (W.file_faults world.new) }
-    ensures children { CountsChildren cause_of result (W.child_faults world.old) (W.child_faults world.new) }
 {
     match doc {
         Some(doc) => find_some(alloc, world, store, folder, layer, doc),
@@ -349,8 +317,6 @@ pub(crate) fn find_layer<W: World>(
     requires folder { length folder.now ≤ 4352 }
     ensures step { finds_layer store.now folder.now layer.now (seen W.World world.old) result (seen W.World world.new) }
     ensures matched { IfOk result (λ found. IfSome found IsMatched) }
-    ensures files { CountsFiles cause_of result (W.file_faults world.old) (W.file_faults world.new) }
-    ensures children { CountsChildren cause_of result (W.child_faults world.old) (W.child_faults world.new) }
 {
     let document = layer_document(alloc, folder, layer)?;
     let doc = read_layer_document(alloc, world, &document)?;

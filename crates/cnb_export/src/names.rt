@@ -1,10 +1,8 @@
 // The names of the layers in a folder.
 ghost use Rattle.std.specs.Prelude.{◌≡◌};
 ghost use Rattle.cnb_env.specs.Files.{is_absent};
-ghost use Rattle.steps.specs.Causes.{CountsChildren, CountsFiles};
 ghost use Rattle.steps.specs.Outside.{seen};
 ghost use Rattle.cnb_export.specs.Names.{lists, lists_unless, reads_layer_names, reads_names};
-ghost use Rattle.cnb_export.specs.Refusals.{cause_of};
 
 use crate::fault::ExportFault;
 use crate::reading::kind_at;
@@ -16,8 +14,6 @@ use std::alloc::Global;
 
 fn list<W: World>(alloc: Global, world: &mut W, folder: &Path) -> Result<List<Text>, ExportFault>
     ensures step { lists folder.now (seen W.World world.old) result (seen W.World world.new) }
-    ensures files { CountsFiles cause_of result (W.file_faults world.old) (W.file_faults world.new) }
-    ensures children { CountsChildren cause_of result (W.child_faults world.old) (W.child_faults world.new) }
 {
     let names = list_names(alloc, world, folder)?;
     Ok(names)
@@ -31,8 +27,6 @@ fn list_unless<W: World>(
     folder: &Path,
 ) -> Result<List<Text>, ExportFault>
     ensures step { lists_unless absent folder.now (seen W.World world.old) result (seen W.World world.new) }
-    ensures files { CountsFiles cause_of result (W.file_faults world.old) (W.file_faults world.new) }
-    ensures children { CountsChildren cause_of result (W.child_faults world.old) (W.child_faults world.new) }
 {
     if absent {
         Ok(List::new(alloc))
@@ -60,8 +54,6 @@ fn read_names<W: World>(
     folder: &Path,
 ) -> Result<List<Text>, ExportFault>
     ensures step { reads_names folder.now (seen W.World world.old) result (seen W.World world.new) }
-    ensures files { CountsFiles cause_of result (W.file_faults world.old) (W.file_faults world.new) }
-    ensures children { CountsChildren cause_of result (W.child_faults world.old) (W.child_faults world.new) }
 {
     let kind = kind_at(alloc, world, folder)?;
     list_unless(alloc, world, is_absent(kind), folder)
@@ -74,8 +66,6 @@ pub(crate) fn read_layer_names<W: World>(
     folder: &Path,
 ) -> Result<List<LayerName>, ExportFault>
     ensures step { reads_layer_names folder.now (seen W.World world.old) result (seen W.World world.new) }
-    ensures files { CountsFiles cause_of result (W.file_faults world.old) (W.file_faults world.new) }
-    ensures children { CountsChildren cause_of result (W.child_faults world.old) (W.child_faults world.new) }
 {
     let names = read_names(alloc, world, folder)?;
     let layers = layers_among(alloc, &names)?;

@@ -1,8 +1,8 @@
 // Reading documents.
-ghost use Rattle.std.specs.Prelude.{◌≡◌, ℕ, IfErr};
+ghost use Rattle.std.specs.Prelude.{IfErr};
 ghost use Rattle.run_docs.specs.Launch.{launch_in};
 ghost use Rattle.run_docs.specs.Store.{store_in};
-ghost use Rattle.steps.specs.Causes.{CountsChildren, CountsFiles, IsAnswer, IsGivenCause};
+ghost use Rattle.steps.specs.Causes.{IsAnswer, IsGivenCause};
 ghost use Rattle.steps.specs.Outside.{seen};
 ghost use Rattle.cnb_export.specs.Reading.{reads_as, reads_document, reads_kind, reads_some, some_value_at, value_at};
 ghost use Rattle.cnb_export.specs.Refusals.{cause_of};
@@ -15,15 +15,13 @@ use run_docs::{LaunchToml, StoreToml, read_launch, read_store};
 use std::alloc::Global;
 
 /// What stands at a path.
-#[tactic(auto, unfolding(steps::specs::Steps::reads), using(steps::proofs::StepLemmas::allowed_by, crate::proofs::ReadSteps::blamed_so))]
+#[tactic(auto, unfolding(steps::specs::Steps::reads), using(steps::proofs::StepLemmas::allowed_by, crate::proofs::ReadSteps::blamed_so, crate::proofs::ReadSteps::counted_so))]
 pub(crate) fn kind_at<W: World>(
     alloc: Global,
     world: &mut W,
     path: &Path,
 ) -> Result<Kind, ExportFault>
     ensures step { reads_kind path.now (seen W.World world.old) result (seen W.World world.new) }
-    ensures files { CountsFiles cause_of result (W.file_faults world.old) (W.file_faults world.new) }
-    ensures children { CountsChildren cause_of result (W.child_faults world.old) (W.child_faults world.new) }
 {
     match world.kind(path) {
         Ok(kind) => Ok(kind),
@@ -38,8 +36,6 @@ pub(crate) fn read_document<W: World>(
     path: &Path,
 ) -> Result<Option<Bytes>, ExportFault>
     ensures step { reads_document path.now (seen W.World world.old) result (seen W.World world.new) }
-    ensures files { CountsFiles cause_of result (W.file_faults world.old) (W.file_faults world.new) }
-    ensures children { CountsChildren cause_of result (W.child_faults world.old) (W.child_faults world.new) }
 {
     let found = doc_files::read_document(alloc, world, path)?;
     Ok(found)
@@ -53,8 +49,6 @@ pub(crate) fn value_at<T: Drop>(
 ) -> Result<T, ExportFault>
     ensures answer { IsAnswer cause_of result (value_at path.now answer) }
     ensures cause { IfErr result (λ fault. IsGivenCause (cause_of fault)) }
-    ensures files { (n : ℕ) → CountsFiles cause_of result n n }
-    ensures children { (n : ℕ) → CountsChildren cause_of result n n }
 {
     let value = doc_files::read_at(alloc, path, answer)?;
     Ok(value)
@@ -67,8 +61,6 @@ pub(crate) fn read_launch_toml<W: World>(
     path: &Path,
 ) -> Result<LaunchToml, ExportFault>
     ensures step { reads_as launch_in path.now (seen W.World world.old) result (seen W.World world.new) }
-    ensures files { CountsFiles cause_of result (W.file_faults world.old) (W.file_faults world.new) }
-    ensures children { CountsChildren cause_of result (W.child_faults world.old) (W.child_faults world.new) }
 {
     let found = read_document(alloc, world, path)?;
     value_at(alloc, path, read_launch(alloc, bytes_of(&found)))
@@ -81,8 +73,6 @@ fn store_value(
 ) -> Result<Option<StoreToml>, ExportFault>
     ensures answer { IsAnswer cause_of result (some_value_at store_in path.now found) }
     ensures cause { IfErr result (λ fault. IsGivenCause (cause_of fault)) }
-    ensures files { (n : ℕ) → CountsFiles cause_of result n n }
-    ensures children { (n : ℕ) → CountsChildren cause_of result n n }
 {
     match found {
         Some(bytes) => {
@@ -100,8 +90,6 @@ pub(crate) fn read_store_toml<W: World>(
     path: &Path,
 ) -> Result<Option<StoreToml>, ExportFault>
     ensures step { reads_some store_in path.now (seen W.World world.old) result (seen W.World world.new) }
-    ensures files { CountsFiles cause_of result (W.file_faults world.old) (W.file_faults world.new) }
-    ensures children { CountsChildren cause_of result (W.child_faults world.old) (W.child_faults world.new) }
 {
     let found = read_document(alloc, world, path)?;
     store_value(alloc, path, found)

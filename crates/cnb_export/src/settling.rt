@@ -1,7 +1,7 @@
 // What becomes of a layer.
-ghost use Rattle.std.specs.Prelude.{◌≡◌, ◌≤◌, ℕ, Err, IfErr, IfOk, IfSome, None, Ok, Some, length};
+ghost use Rattle.std.specs.Prelude.{◌≡◌, ◌≤◌, Err, IfErr, IfOk, IfSome, None, Ok, Some, length};
 ghost use Rattle.std.specs.Option.{option_copied};
-ghost use Rattle.steps.specs.Causes.{CountsChildren, CountsFiles, IsAnswer, IsGivenCause};
+ghost use Rattle.steps.specs.Causes.{IsAnswer, IsGivenCause};
 ghost use Rattle.steps.specs.Outside.{seen};
 ghost use Rattle.cnb_export.specs.Layer.{IsMatched};
 ghost use Rattle.cnb_export.specs.declared.fault.ExportFault.TheVariants as fault;
@@ -131,8 +131,6 @@ fn kept_of(
 fn if_stored(digest: &Digest, stored: bool) -> Result<(), ExportFault>
     ensures answer { IsAnswer cause_of result (if_stored digest.now stored) }
     ensures cause { IfErr result (λ fault. IsGivenCause (cause_of fault)) }
-    ensures files { (n : ℕ) → CountsFiles cause_of result n n }
-    ensures children { (n : ℕ) → CountsChildren cause_of result n n }
 {
     if stored {
         Ok(())
@@ -149,8 +147,6 @@ fn look_for_stored<W: World>(
 ) -> Result<(), ExportFault>
     requires { length store.now ≤ 4096 }
     ensures step { looks_for_stored store.now digest.now (seen W.World world.old) result (seen W.World world.new) }
-    ensures files { CountsFiles cause_of result (W.file_faults world.old) (W.file_faults world.new) }
-    ensures children { CountsChildren cause_of result (W.child_faults world.old) (W.child_faults world.new) }
 {
     let stored = has(alloc, world, store, digest)?;
     if_stored(digest, stored)?;
@@ -168,8 +164,6 @@ fn check_reused<W: World>(
     requires { length store.now ≤ 4096 }
     ensures step { checks_reused store.now contents.now (option_copied before.entry)
         (seen W.World world.old) result (seen W.World world.new) }
-    ensures files { CountsFiles cause_of result (W.file_faults world.old) (W.file_faults world.new) }
-    ensures children { CountsChildren cause_of result (W.child_faults world.old) (W.child_faults world.new) }
 {
     match (contents, before) {
         (Some(_), _) => Ok(()),
@@ -192,8 +186,6 @@ fn reuse<W: World>(
     ensures step { reuses store.now id.now layer.now found (option_copied before.entry)
         (seen W.World world.old) result (seen W.World world.new) }
     ensures right { IfOk result (λ kept. IfSome kept IsKeptRight) }
-    ensures files { CountsFiles cause_of result (W.file_faults world.old) (W.file_faults world.new) }
-    ensures children { CountsChildren cause_of result (W.child_faults world.old) (W.child_faults world.new) }
 {
     check_reused(alloc, world, store, &found.contents, before)?;
     let digest = digest_or(digest_of(&found.contents), before);
@@ -205,8 +197,6 @@ fn no_contents(alloc: Global, id: &BpId, layer: &LayerName) -> Result<Option<Kep
     ensures answer { IsAnswer cause_of result (Err (fault.NoContents id.now layer.now)) }
     ensures cause { IfErr result (λ fault. IsGivenCause (cause_of fault)) }
     ensures right { IfOk result (λ kept. IfSome kept IsKeptRight) }
-    ensures files { (n : ℕ) → CountsFiles cause_of result n n }
-    ensures children { (n : ℕ) → CountsChildren cause_of result n n }
 {
     Err(ExportFault::NoContents(id.copy(alloc)?, layer.copy(alloc)?))
 }
@@ -215,8 +205,6 @@ fn no_previous(alloc: Global, id: &BpId, layer: &LayerName) -> Result<Option<Kep
     ensures answer { IsAnswer cause_of result (Err (fault.NoPrevious id.now layer.now)) }
     ensures cause { IfErr result (λ fault. IsGivenCause (cause_of fault)) }
     ensures right { IfOk result (λ kept. IfSome kept IsKeptRight) }
-    ensures files { (n : ℕ) → CountsFiles cause_of result n n }
-    ensures children { (n : ℕ) → CountsChildren cause_of result n n }
 {
     Err(ExportFault::NoPrevious(id.copy(alloc)?, layer.copy(alloc)?))
 }
@@ -234,8 +222,6 @@ fn keep(
         (Ok (kept_of id.now layer.now found reused (digest_of_contents found.contents))) }
     ensures cause { IfErr result (λ fault. IsGivenCause (cause_of fault)) }
     ensures right { IfOk result (λ kept. IfSome kept IsKeptRight) }
-    ensures files { (n : ℕ) → CountsFiles cause_of result n n }
-    ensures children { (n : ℕ) → CountsChildren cause_of result n n }
 {
     let digest = digest_of(&found.contents);
     let kept = kept_of(alloc, id, layer, found, reused, digest)?;
@@ -258,8 +244,6 @@ fn settle_by<W: World>(
     ensures step { settles_by decision store.now id.now layer.now found (option_copied before.entry)
         (seen W.World world.old) result (seen W.World world.new) }
     ensures right { IfOk result (λ kept. IfSome kept IsKeptRight) }
-    ensures files { CountsFiles cause_of result (W.file_faults world.old) (W.file_faults world.new) }
-    ensures children { CountsChildren cause_of result (W.child_faults world.old) (W.child_faults world.new) }
 {
     match decision {
         ExportRow::Skip => keep(alloc, id, layer, found, None),
@@ -285,8 +269,6 @@ pub(crate) fn settle<W: World>(
     ensures step { settles store.now previous.now id.now layer.now found
         (seen W.World world.old) result (seen W.World world.new) }
     ensures right { IfOk result (λ kept. IfSome kept IsKeptRight) }
-    ensures files { CountsFiles cause_of result (W.file_faults world.old) (W.file_faults world.new) }
-    ensures children { CountsChildren cause_of result (W.child_faults world.old) (W.child_faults world.new) }
 {
     let before = row_of(previous, id, layer);
     let decision = decision_of(&found, before);

@@ -1,6 +1,6 @@
 // The trees above the layers.
-ghost use Rattle.std.specs.Prelude.{◌≡◌, ◌∷◌, ◌≤◌, [], ℕ, IfErr, IfOk, length};
-ghost use Rattle.steps.specs.Causes.{CountsChildren, CountsFiles, IsAnswer, IsGivenCause};
+ghost use Rattle.std.specs.Prelude.{◌≡◌, ◌∷◌, ◌≤◌, [], IfErr, IfOk, length};
+ghost use Rattle.steps.specs.Causes.{IsAnswer, IsGivenCause};
 ghost use Rattle.steps.specs.Outside.{seen};
 ghost use Rattle.cnb_export.specs.Frame.{KeepsLimits};
 ghost use Rattle.cnb_export.specs.Refusals.{cause_of};
@@ -19,8 +19,6 @@ use tree_store::{StoreFault, put, put_folder};
 fn links_tree(alloc: Global, processes: &[Process]) -> Result<Tree, ExportFault>
     ensures answer { IsAnswer cause_of result (links_tree processes.now) }
     ensures cause { IfErr result (λ fault. IsGivenCause (cause_of fault)) }
-    ensures files { (n : ℕ) → CountsFiles cause_of result n n }
-    ensures children { (n : ℕ) → CountsChildren cause_of result n n }
 {
     match Tree::new(links(alloc, processes)?) {
         Ok(tree) => Ok(tree),
@@ -36,8 +34,6 @@ fn put_links<W: World>(
 ) -> Result<Option<Digest>, ExportFault>
     requires { length store.now ≤ 4096 }
     ensures step { puts_links store.now processes.now (seen W.World world.old) result (seen W.World world.new) }
-    ensures files { CountsFiles cause_of result (W.file_faults world.old) (W.file_faults world.new) }
-    ensures children { CountsChildren cause_of result (W.child_faults world.old) (W.child_faults world.new) }
 {
     let tree = links_tree(alloc, processes)?;
     let digest = put(alloc, world, store, &tree)?;
@@ -53,8 +49,6 @@ fn put_process<W: World>(
 ) -> Result<Option<Digest>, ExportFault>
     requires { length store.now ≤ 4096 }
     ensures step { puts_process store.now processes.now (seen W.World world.old) result (seen W.World world.new) }
-    ensures files { CountsFiles cause_of result (W.file_faults world.old) (W.file_faults world.new) }
-    ensures children { CountsChildren cause_of result (W.child_faults world.old) (W.child_faults world.new) }
 {
     match processes {
         [] => Ok(None),
@@ -79,8 +73,6 @@ pub(crate) fn put_trees<W: World>(
 ) -> Result<Digests, ExportFault>
     requires { KeepsLimits frame.now }
     ensures step { puts_trees frame.now processes.now (seen W.World world.old) result (seen W.World world.new) }
-    ensures files { CountsFiles cause_of result (W.file_faults world.old) (W.file_faults world.new) }
-    ensures children { CountsChildren cause_of result (W.child_faults world.old) (W.child_faults world.new) }
 {
     let app = put_folder(alloc, world, &frame.store, &frame.app)?;
     let launcher = put_folder(alloc, world, &frame.store, &frame.launcher)?;

@@ -1,4 +1,3 @@
-use Rattle.std.proofs.Common.{◌∙◌}
 use Rattle.std.proofs.lemmas.Result.{err_from_is_err_and}
 use Rattle.steps.proofs.EachLemmas.{goes_on, over, stops}
 use Rattle.cnb_export.proofs.buildpack.export_each.Goals as goal
@@ -12,8 +11,6 @@ pub loop-layer-preserved : goal.loop-layer-preserved
 loop-layer-preserved g c = record {
   step = λ result new h. c.loop-layer.invariant.step result new (goes_on _ _ _ c.layer-item.result _ _ _ _ c.loop-layer-test.true c.layer-item.is c.in_ok-all.ensures.step result new h);
   matched = c.in_ok-all.ensures.matched;
-  files = c.in_ok-all.ensures.files ∙ c.loop-layer.invariant.files;
-  children = c.in_ok-all.ensures.children ∙ c.loop-layer.invariant.children;
 }
 
 pub returns-clause-step : goal.returns-clause-step

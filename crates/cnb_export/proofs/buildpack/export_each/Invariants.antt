@@ -1,4 +1,4 @@
-use Rattle.std.proofs.Common.{◌≡◌, drop, Result}
+use Rattle.std.proofs.Common.{drop, Result}
 use Rattle.steps.specs.Each.{for_each}
 use Rattle.steps.specs.Outside.{Seen, seen}
 use Rattle.cnb_export.specs.declared.exported.Gathered.{Gathered}
@@ -12,6 +12,4 @@ invariant-loop-layer g l = record {
   step : (result : Result Gathered ExportFault) (new : Seen) → for_each (exports_layer l.store l.previous l.id l.folder) (drop l.layer-index l.layers) l.all (seen g.W.World l.world) result new
       → for_each (exports_layer l.store l.previous l.id l.folder) l.layers l.fn.gathered (seen g.W.World l.initial.world) result new;
   matched : AreMatched l.all;
-  files : g.W.World.file_faults l.world ≡ g.W.World.file_faults l.initial.world;
-  children : g.W.World.child_faults l.world ≡ g.W.World.child_faults l.initial.world;
 }

@@ -1,4 +1,3 @@
-use Rattle.std.proofs.Common.{◌∙◌}
 use Rattle.std.proofs.lemmas.Result.{err_from_is_err_and}
 use Rattle.steps.proofs.EachLemmas.{goes_on, over, stops}
 use Rattle.cnb_export.proofs.buildpack.export_group.Goals as goal
@@ -12,8 +11,6 @@ pub loop-row-preserved : goal.loop-row-preserved
 loop-row-preserved g c = record {
   step = λ result new h. c.loop-row.invariant.step result new (goes_on _ _ _ c.row-item.result _ _ _ _ c.loop-row-test.true c.row-item.is c.in_ok-all.ensures.step result new h);
   matched = c.in_ok-all.ensures.matched;
-  files = c.in_ok-all.ensures.files ∙ c.loop-row.invariant.files;
-  children = c.in_ok-all.ensures.children ∙ c.loop-row.invariant.children;
 }
 
 pub returns-clause-step : goal.returns-clause-step

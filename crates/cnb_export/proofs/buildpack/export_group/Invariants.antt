@@ -1,4 +1,4 @@
-use Rattle.std.proofs.Common.{◌≡◌, drop, Result}
+use Rattle.std.proofs.Common.{drop, Result}
 use Rattle.steps.specs.Each.{for_each}
 use Rattle.steps.specs.Outside.{Seen, seen}
 use Rattle.cnb_export.specs.declared.exported.Gathered.{Gathered}
@@ -13,6 +13,4 @@ invariant-loop-row g l = record {
   step : (result : Result Gathered ExportFault) (new : Seen) → for_each (exports_buildpack l.frame l.previous) (drop l.row-index l.group) l.all (seen g.W.World l.world) result new
       → for_each (exports_buildpack l.frame l.previous) l.group nothing_gathered (seen g.W.World l.initial.world) result new;
   matched : AreMatched l.all;
-  files : g.W.World.file_faults l.world ≡ g.W.World.file_faults l.initial.world;
-  children : g.W.World.child_faults l.world ≡ g.W.World.child_faults l.initial.world;
 }

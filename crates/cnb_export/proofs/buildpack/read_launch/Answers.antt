@@ -7,19 +7,19 @@ use Rattle.cnb_export.specs.Buildpack.{reads_launch}
 use Rattle.cnb_export.proofs.ReadSteps.{given_answer}
 use Rattle.cnb_export.proofs.buildpack.read_launch.Goals as goal
 
-pub returns-in_err-path-clause-step : goal.returns-in_err-path-clause-step
+pub returns-in_err-path : goal.returns-in_err-path
 unfolding reads_launch
-returns-in_err-path-clause-step g c =
+returns-in_err-path g c =
     let exit = err_from_is_err_and c.from_residual.result c.from_residual.ensures.1 in
-    rw (exit.1, exit.2) (ended _ _ _ _ _ (no_memory _ _ _ (Store stored.Memory) refl))
+    rw (exit.1, exit.2) (record { step = ended _ _ _ _ _ (no_memory _ _ _ (Store stored.Memory) refl) })
 
-pub returns-in_err-launch-clause-step : goal.returns-in_err-launch-clause-step
+pub returns-in_err-launch : goal.returns-in_err-launch
 unfolding reads_launch
-returns-in_err-launch-clause-step g c =
+returns-in_err-launch g c =
     let exit = err_from_is_err_and c.from_residual-in_err-launch.result c.from_residual-in_err-launch.ensures.1 in
-    rw (exit.1, exit.2) (went _ _ _ _ _ _ _ (given _ _ _ _ (ap Ok (sym c.in_ok-path.ensures.0))) (ended _ _ _ _ _ c.in_err-launch.ensures.step))
+    rw (exit.1, exit.2) (record { step = went _ _ _ _ _ _ _ (given _ _ _ _ (ap Ok (sym c.in_ok-path.ensures.0))) (ended _ _ _ _ _ c.in_err-launch.ensures.step) })
 
-pub returns-clause-step : goal.returns-clause-step
+pub returns : goal.returns
 unfolding reads_launch
-returns-clause-step g c =
-    went _ _ _ _ _ _ _ (given _ _ _ _ (ap Ok (sym c.in_ok-path.ensures.0))) (went _ _ _ _ _ _ _ c.in_ok-launch.ensures.step (given_answer _ _ _ c.one_default.ensures.answer c.one_default.ensures.cause))
+returns g c =
+    record { step = went _ _ _ _ _ _ _ (given _ _ _ _ (ap Ok (sym c.in_ok-path.ensures.0))) (went _ _ _ _ _ _ _ c.in_ok-launch.ensures.step (given_answer _ _ _ c.one_default.ensures.answer c.one_default.ensures.cause)) }

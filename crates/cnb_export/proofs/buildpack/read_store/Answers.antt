@@ -6,13 +6,13 @@ use Rattle.cnb_export.specs.declared.fault.ExportFault.TheVariants.{Store}
 use Rattle.cnb_export.specs.Buildpack.{reads_store}
 use Rattle.cnb_export.proofs.buildpack.read_store.Goals as goal
 
-pub returns-in_err-path-clause-step : goal.returns-in_err-path-clause-step
+pub returns-in_err-path : goal.returns-in_err-path
 unfolding reads_store
-returns-in_err-path-clause-step g c =
+returns-in_err-path g c =
     let exit = err_from_is_err_and c.from_residual.result c.from_residual.ensures.1 in
-    rw (exit.1, exit.2) (ended _ _ _ _ _ (no_memory _ _ _ (Store stored.Memory) refl))
+    rw (exit.1, exit.2) (record { step = ended _ _ _ _ _ (no_memory _ _ _ (Store stored.Memory) refl) })
 
-pub returns-clause-step : goal.returns-clause-step
+pub returns : goal.returns
 unfolding reads_store
-returns-clause-step g c =
-    went _ _ _ _ _ _ _ (given _ _ _ _ (ap Ok (sym c.in_ok-path.ensures.0))) c.read_store_toml.ensures.step
+returns g c =
+    record { step = went _ _ _ _ _ _ _ (given _ _ _ _ (ap Ok (sym c.in_ok-path.ensures.0))) c.read_store_toml.ensures.step }

@@ -1,10 +1,7 @@
-use Rattle.std.proofs.Common.{subst}
 use Rattle.std.proofs.lemmas.Result.{err_from_is_err_and}
 use Rattle.steps.proofs.StepLemmas.{ended, went}
-use Rattle.steps.specs.Causes.{CountsChildren, CountsFiles}
 use Rattle.shelf_set.proofs.CacheLemmas.{within}
 use Rattle.cnb_export.specs.Command.{exports_command}
-use Rattle.cnb_export.specs.Given.{refusal_cause}
 use Rattle.cnb_export.proofs.CommandLaws.{given_distinct}
 use Rattle.cnb_export.proofs.StandLaws.{stands_where_done}
 use Rattle.cnb_export.proofs.command.export_command.Goals as goal
@@ -21,12 +18,6 @@ export_given-requires-clause-group g c = given_distinct _ _ _ _ c.in_ok-given.en
 pub returns-clause-steps : goal.returns-clause-steps
 unfolding exports_command
 returns-clause-steps g c = went _ _ _ _ _ _ _ (within _ _ _ _ _ c.in_ok-given.ensures.step) c.export_given.ensures.steps
-
-pub returns-clause-files : goal.returns-clause-files
-returns-clause-files g c = subst (λ n. CountsFiles refusal_cause c.export_given.result n (g.W.World.file_faults c.export_given.new.world)) c.in_ok-given.ensures.files c.export_given.ensures.files
-
-pub returns-clause-children : goal.returns-clause-children
-returns-clause-children g c = subst (λ n. CountsChildren refusal_cause c.export_given.result n (g.W.World.child_faults c.export_given.new.world)) c.in_ok-given.ensures.children c.export_given.ensures.children
 
 pub returns-clause-stands : goal.returns-clause-stands
 returns-clause-stands g c = stands_where_done _ _ _ _ (returns-clause-steps g c)

@@ -1,4 +1,4 @@
-use Rattle.std.proofs.Common.{◌≡◌, ◌∙◌, ap, map, refl, subst, sym, arith, IsTrue, Ok}
+use Rattle.std.proofs.Common.{◌≡◌, ◌∙◌, ap, map, refl, subst, sym, IsTrue, Ok}
 use Rattle.std.proofs.lemmas.Result.{err_from_is_err_and}
 use Rattle.steps.proofs.StepLemmas.{ended, given, no_memory, went, yielded}
 use Rattle.tree_store.specs.declared.fault.StoreFault.TheVariants as stored
@@ -35,16 +35,6 @@ unfolding gains_over
 returns-in_err-gained-clause-step g c =
     let exit = err_from_is_err_and c.from_residual-in_err-gained.result c.from_residual-in_err-gained.ensures.1 in
     rw (exit.1, exit.2) (went _ _ _ _ _ _ _ (same_for (exports_group c.args.frame.now c.args.previous.now) _ _ _ _ _ c.as_slice.ensures c.in_ok-gathered.ensures.step) (went _ _ _ _ _ _ _ (same_for (puts_trees c.args.frame.now) _ _ _ _ _ c.as_slice-2.ensures c.in_ok-digests.ensures.step) (ended _ _ _ _ _ (no_memory _ _ _ (Store stored.Memory) refl))))
-
-pub returns-in_err-gained-clause-files : goal.returns-in_err-gained-clause-files
-returns-in_err-gained-clause-files g c =
-    let exit = err_from_is_err_and c.from_residual-in_err-gained.result c.from_residual-in_err-gained.ensures.1 in
-    rw (exit.1, exit.2) (omega (arith, c.in_ok-gathered.ensures.files, c.in_ok-digests.ensures.files))
-
-pub returns-in_err-gained-clause-children : goal.returns-in_err-gained-clause-children
-returns-in_err-gained-clause-children g c =
-    let exit = err_from_is_err_and c.from_residual-in_err-gained.result c.from_residual-in_err-gained.ensures.1 in
-    rw (exit.1, exit.2) (omega (arith, c.in_ok-gathered.ensures.children, c.in_ok-digests.ensures.children))
 
 pub returns-clause-step : goal.returns-clause-step
 unfolding gains_over

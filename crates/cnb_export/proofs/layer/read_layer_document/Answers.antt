@@ -4,13 +4,13 @@ use Rattle.cnb_export.specs.Layer.{reads_layer}
 use Rattle.cnb_export.proofs.ReadSteps.{given_answer}
 use Rattle.cnb_export.proofs.layer.read_layer_document.Goals as goal
 
-pub returns-in_err-found-clause-step : goal.returns-in_err-found-clause-step
+pub returns-in_err-found : goal.returns-in_err-found
 unfolding reads_layer
-returns-in_err-found-clause-step g c =
+returns-in_err-found g c =
     let exit = err_from_is_err_and c.from_residual.result c.from_residual.ensures.1 in
-    rw (exit.1, exit.2) (ended _ _ _ _ _ c.in_err-found.ensures.step)
+    rw (exit.1, exit.2) (record { step = ended _ _ _ _ _ c.in_err-found.ensures.step })
 
-pub returns-clause-step : goal.returns-clause-step
+pub returns : goal.returns
 unfolding reads_layer
-returns-clause-step g c =
-    went _ _ _ _ _ _ _ c.in_ok-found.ensures.step (given_answer _ _ _ c.layer_value.ensures.answer c.layer_value.ensures.cause)
+returns g c =
+    record { step = went _ _ _ _ _ _ _ c.in_ok-found.ensures.step (given_answer _ _ _ c.layer_value.ensures.answer c.layer_value.ensures.cause) }

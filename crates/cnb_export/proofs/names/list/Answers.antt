@@ -4,11 +4,11 @@ use Rattle.cnb_export.specs.Refusals.{cause_of, of_read_fault}
 use Rattle.cnb_export.proofs.ReadSteps.{same_cause}
 use Rattle.cnb_export.proofs.names.list.Goals as goal
 
-pub returns-in_err-names-clause-step : goal.returns-in_err-names-clause-step
-returns-in_err-names-clause-step g c =
+pub returns-in_err-names : goal.returns-in_err-names
+returns-in_err-names g c =
     let exit = err_from_is_err_and c.from_residual.result c.from_residual.ensures.1 in
-    rw (exit.1, exit.2) (files_refused cause_of of_read_fault same_cause _ _ c.in_err-names.field-0.0 c.in_err-names.ensures.reads c.in_err-names.ensures.frame c.in_err-names.ensures.misused)
+    rw (exit.1, exit.2) (record { step = files_refused cause_of of_read_fault same_cause _ _ c.in_err-names.field-0.0 c.in_err-names.ensures.reads c.in_err-names.ensures.frame c.in_err-names.ensures.misused })
 
-pub returns-clause-step : goal.returns-clause-step
-returns-clause-step g c =
-    files_read cause_of of_read_fault same_cause _ _ c.in_ok-names.names c.in_ok-names.ensures.reads c.in_ok-names.ensures.frame c.in_ok-names.ensures.misused
+pub returns : goal.returns
+returns g c =
+    record { step = files_read cause_of of_read_fault same_cause _ _ c.in_ok-names.names c.in_ok-names.ensures.reads c.in_ok-names.ensures.frame c.in_ok-names.ensures.misused }

@@ -6,19 +6,19 @@ use Rattle.cnb_export.specs.declared.fault.ExportFault.TheVariants.{Store}
 use Rattle.cnb_export.specs.Names.{reads_layer_names}
 use Rattle.cnb_export.proofs.names.read_layer_names.Goals as goal
 
-pub returns-in_err-names-clause-step : goal.returns-in_err-names-clause-step
+pub returns-in_err-names : goal.returns-in_err-names
 unfolding reads_layer_names
-returns-in_err-names-clause-step g c =
+returns-in_err-names g c =
     let exit = err_from_is_err_and c.from_residual.result c.from_residual.ensures.1 in
-    rw (exit.1, exit.2) (ended _ _ _ _ _ c.in_err-names.ensures.step)
+    rw (exit.1, exit.2) (record { step = ended _ _ _ _ _ c.in_err-names.ensures.step })
 
-pub returns-in_err-layers-clause-step : goal.returns-in_err-layers-clause-step
+pub returns-in_err-layers : goal.returns-in_err-layers
 unfolding reads_layer_names
-returns-in_err-layers-clause-step g c =
+returns-in_err-layers g c =
     let exit = err_from_is_err_and c.from_residual-in_err-layers.result c.from_residual-in_err-layers.ensures.1 in
-    rw (exit.1, exit.2) (went _ _ _ _ _ _ _ c.in_ok-names.ensures.step ((no_memory _ _ _ (Store stored.Memory) refl)))
+    rw (exit.1, exit.2) (record { step = went _ _ _ _ _ _ _ c.in_ok-names.ensures.step ((no_memory _ _ _ (Store stored.Memory) refl)) })
 
-pub returns-clause-step : goal.returns-clause-step
+pub returns : goal.returns
 unfolding reads_layer_names
-returns-clause-step g c =
-    went _ _ _ _ _ _ _ c.in_ok-names.ensures.step ((given _ _ _ _ (ap Ok (sym c.in_ok-layers.ensures))))
+returns g c =
+    record { step = went _ _ _ _ _ _ _ c.in_ok-names.ensures.step ((given _ _ _ _ (ap Ok (sym c.in_ok-layers.ensures)))) }

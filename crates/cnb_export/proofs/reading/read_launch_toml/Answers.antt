@@ -8,13 +8,13 @@ use Rattle.steps.proofs.StepLemmas.{ended, went}
 use Rattle.cnb_export.specs.Reading.{reads_as}
 use Rattle.cnb_export.proofs.reading.read_launch_toml.Goals as goal
 
-pub returns-in_err-found-clause-step : goal.returns-in_err-found-clause-step
+pub returns-in_err-found : goal.returns-in_err-found
 unfolding reads_as
-returns-in_err-found-clause-step g c =
+returns-in_err-found g c =
     let exit = err_from_is_err_and c.from_residual.result c.from_residual.ensures.1 in
-    rw (exit.1, exit.2) (ended _ _ _ _ _ c.in_err-found.ensures.step)
+    rw (exit.1, exit.2) (record { step = ended _ _ _ _ _ c.in_err-found.ensures.step })
 
-pub returns-clause-step : goal.returns-clause-step
+pub returns : goal.returns
 unfolding reads_as
-returns-clause-step g c =
-    went _ _ _ _ _ _ _ c.in_ok-found.ensures.step (given_answer _ _ _ (answered_at c.args.path.now c.read_launch.result (launch_in (unwrap_or c.in_ok-found.found [])) c.value_at.result (subst (λ bytes. Answers c.read_launch.result (launch_in bytes)) c.bytes_of.ensures c.read_launch.ensures) c.value_at.ensures.answer) c.value_at.ensures.cause)
+returns g c =
+    record { step = went _ _ _ _ _ _ _ c.in_ok-found.ensures.step (given_answer _ _ _ (answered_at c.args.path.now c.read_launch.result (launch_in (unwrap_or c.in_ok-found.found [])) c.value_at.result (subst (λ bytes. Answers c.read_launch.result (launch_in bytes)) c.bytes_of.ensures c.read_launch.ensures) c.value_at.ensures.answer) c.value_at.ensures.cause) }

@@ -4,13 +4,13 @@ use Rattle.cnb_export.specs.Reading.{reads_some}
 use Rattle.cnb_export.proofs.ReadSteps.{given_answer}
 use Rattle.cnb_export.proofs.reading.read_store_toml.Goals as goal
 
-pub returns-in_err-found-clause-step : goal.returns-in_err-found-clause-step
+pub returns-in_err-found : goal.returns-in_err-found
 unfolding reads_some
-returns-in_err-found-clause-step g c =
+returns-in_err-found g c =
     let exit = err_from_is_err_and c.from_residual.result c.from_residual.ensures.1 in
-    rw (exit.1, exit.2) (ended _ _ _ _ _ c.in_err-found.ensures.step)
+    rw (exit.1, exit.2) (record { step = ended _ _ _ _ _ c.in_err-found.ensures.step })
 
-pub returns-clause-step : goal.returns-clause-step
+pub returns : goal.returns
 unfolding reads_some
-returns-clause-step g c =
-    went _ _ _ _ _ _ _ c.in_ok-found.ensures.step (given_answer _ _ _ c.store_value.ensures.answer c.store_value.ensures.cause)
+returns g c =
+    record { step = went _ _ _ _ _ _ _ c.in_ok-found.ensures.step (given_answer _ _ _ c.store_value.ensures.answer c.store_value.ensures.cause) }
