@@ -1,9 +1,9 @@
 pub mod ApartLemmas
-pub mod CountLemmas
+pub mod CountLaws
 pub mod CreateLaws
 pub mod ExportLaws
 pub mod KeepLemmas
-pub mod OutcomeLaws
+pub mod HeadlineLaws
 pub mod PutLemmas
 pub mod RestoreLaws
 pub mod StandLaws

@@ -1,7 +1,6 @@
 pub mod Apart
-pub mod Counts
 pub mod Creates
-pub mod Outcome
+pub mod Headline
 pub mod Refusals
 pub mod Report
 pub mod Surroundings

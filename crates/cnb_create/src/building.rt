@@ -6,12 +6,9 @@ ghost use Rattle.cnb_build.specs.Refusals as building;
 ghost use Rattle.cnb_env.specs.Files.{is_fit_platform, platform_files_in};
 ghost use Rattle.cnb_words.specs.Create.{KeepsLimits};
 ghost use Rattle.run_docs.specs.Plan.{is_plan_doc};
-ghost use Rattle.steps.specs.Causes.{CountsChildren, CountsFiles};
 ghost use Rattle.steps.specs.Outside.{seen};
 ghost use Rattle.steps.specs.Steps.{map_err};
-ghost use Rattle.cnb_create.specs.Counts.{CountsEither};
 ghost use Rattle.cnb_create.specs.Creates.{build_frame, builds_group};
-ghost use Rattle.cnb_create.specs.Refusals.{cause_of};
 ghost use Rattle.cnb_create.specs.declared.refusal.CreateRefusal.TheVariants as refused;
 
 use crate::refusal::CreateRefusal;
@@ -30,8 +27,6 @@ fn read_files<W: World>(
     requires { length platform.now ≤ 4096 }
     ensures step { reads_files (is_fit_platform platform.now) (platform_files_in platform.now)
         (seen W.World world.old) result (seen W.World world.new) }
-    ensures files { CountsFiles building.cause_of result (W.file_faults world.old) (W.file_faults world.new) }
-    ensures children { CountsChildren building.cause_of result (W.child_faults world.old) (W.child_faults world.new) }
 {
     let files = platform_files(alloc, world, platform)?;
     Ok(files)
@@ -70,8 +65,6 @@ fn build_all<W: World>(
     requires plan { IsTrue (is_plan_doc plan) }
     ensures steps { builds_group options.now env.now (record { group = group.now; plan = plan })
         (seen W.World world.old) result (seen W.World world.new) }
-    ensures files { CountsFiles building.cause_of result (W.file_faults world.old) (W.file_faults world.new) }
-    ensures children { CountsChildren building.cause_of result (W.child_faults world.old) (W.child_faults world.new) }
 {
     let files = read_files(alloc, world, &options.detect.platform)?;
     let frame = build_frame(alloc, options, env, files)?;
@@ -92,9 +85,6 @@ pub(crate) fn build_group<W: World>(
     requires plan { IsTrue (is_plan_doc plan) }
     ensures steps { map_err refused.Build (builds_group options.now env.now (record { group = group.now; plan = plan }))
         (seen W.World world.old) result (seen W.World world.new) }
-    ensures files { CountsFiles cause_of result (W.file_faults world.old) (W.file_faults world.new) }
-    ensures children { (counts : Seq ℕ) →
-        CountsEither cause_of result (W.child_faults world.old) (W.child_faults world.new) counts counts }
 {
     build_all(alloc, options, env, world, group, plan)?;
     Ok(())

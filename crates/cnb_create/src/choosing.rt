@@ -4,12 +4,9 @@ ghost use Rattle.cnb_detect.specs.Choice.{as_choice};
 ghost use Rattle.cnb_words.specs.Detect.{KeepsLimits};
 ghost use Rattle.run_docs.specs.Group.{is_group_doc};
 ghost use Rattle.run_docs.specs.Plan.{is_plan_doc};
-ghost use Rattle.steps.specs.Causes.{CountsFiles};
-ghost use Rattle.steps.specs.Outside.{faults_of, outside, spawners_seen};
+ghost use Rattle.steps.specs.Outside.{outside};
 ghost use Rattle.steps.specs.Steps.{map_err};
-ghost use Rattle.cnb_create.specs.Counts.{CountsEither};
 ghost use Rattle.cnb_create.specs.Creates.{chooses_group};
-ghost use Rattle.cnb_create.specs.Refusals.{cause_of};
 ghost use Rattle.cnb_create.specs.declared.refusal.CreateRefusal.TheVariants as refused;
 
 use crate::refusal::CreateRefusal;
@@ -37,11 +34,6 @@ pub(crate) fn choose<W: World, S: Spawner + Send, R: Threads + Sync>(
         (outside W.World S.Spawner world.new spawners.new.items) }
     ensures group { IfOk result (λ chosen. IsTrue (is_group_doc chosen.group)) }
     ensures plan { IfOk result (λ chosen. IsTrue (is_plan_doc chosen.plan)) }
-    ensures files { CountsFiles cause_of result (W.file_faults world.old) (W.file_faults world.new) }
-    ensures children { CountsEither cause_of result
-        (W.child_faults world.old) (W.child_faults world.new)
-        (faults_of (spawners_seen S.Spawner spawners.old.items))
-        (faults_of (spawners_seen S.Spawner spawners.new.items)) }
 {
     let chosen = choose_group(rt, alloc, options, env, world, spawners)?;
     write_choice(alloc, world, &options.work, &chosen.group, &chosen.plan)?;

@@ -4,14 +4,11 @@ ghost use Rattle.cnb_words.specs.Create.{KeepsLimits};
 ghost use Rattle.image_files.specs.Images.{ImageStands};
 ghost use Rattle.shelf_set.specs.Caches.{caches_of};
 ghost use Rattle.shelf_set.specs.Dropping.{AreStanding};
-ghost use Rattle.steps.specs.Causes.{CountsFiles};
 ghost use Rattle.steps.specs.Frames.{Keeps};
-ghost use Rattle.steps.specs.Outside.{faults_of, outside, seen, spawners_seen};
+ghost use Rattle.steps.specs.Outside.{outside, seen};
 ghost use Rattle.cnb_create.specs.Apart.{image_document, is_image_apart};
-ghost use Rattle.cnb_create.specs.Counts.{CountsEither};
 ghost use Rattle.cnb_create.specs.Creates.{creates};
-ghost use Rattle.cnb_create.specs.Outcome.{ComesToChoice};
-ghost use Rattle.cnb_create.specs.Refusals.{cause_of};
+ghost use Rattle.cnb_create.specs.Headline.{ComesToImage};
 ghost use Rattle.cnb_create.specs.Surroundings.{shelf_seen, surroundings};
 
 use crate::building::build_group;
@@ -55,7 +52,7 @@ pub fn create_command<W: World, S: Spawner + Send, R: Threads + Sync>(
         (caches_of (map (λ s. shelf_seen (⟦<dyn Shelf as Shelf>⟧ s.vtable) s.value) shelves.new.items) places.new)) }
     // So what it chooses is the first trial that passes, by the files and by what its children answered, however many
     // workers ran them and in whatever order they finished.
-    ensures outcome { ComesToChoice options.now env.now
+    ensures headline { ComesToImage options.now env.now
         (surroundings (outside W.World S.Spawner world.old spawners.old.items)
         (caches_of (map (λ s. shelf_seen (⟦<dyn Shelf as Shelf>⟧ s.vtable) s.value) shelves.old.items) places.old))
         result
@@ -69,11 +66,6 @@ pub fn create_command<W: World, S: Spawner + Send, R: Threads + Sync>(
     ensures stands { OnOk result (ImageStands options.now.store options.now.image (W.tree world.new)) }
     ensures again { AreStanding places.new
         (map (λ s. shelf_seen (⟦<dyn Shelf as Shelf>⟧ s.vtable) s.value) shelves.new.items) }
-    ensures files { CountsFiles cause_of result (W.file_faults world.old) (W.file_faults world.new) }
-    ensures children { CountsEither cause_of result
-        (W.child_faults world.old) (W.child_faults world.new)
-        (faults_of (spawners_seen S.Spawner spawners.old.items))
-        (faults_of (spawners_seen S.Spawner spawners.new.items)) }
 {
     // The proof takes from this call what each path keeps to.
     let _layers = options.layers.as_str();

@@ -8,12 +8,9 @@ ghost use Rattle.run_docs.specs.Group.{is_group_doc};
 ghost use Rattle.shelf_set.specs.Caches.{caches_of, world_and_caches};
 ghost use Rattle.shelf_set.specs.Dropping.{AreStanding};
 ghost use Rattle.shelf_set.specs.ShelfState.{state_of};
-ghost use Rattle.steps.specs.Causes.{CountsChildren, CountsFiles};
 ghost use Rattle.steps.specs.Outside.{seen};
 ghost use Rattle.steps.specs.Steps.{map_err};
-ghost use Rattle.cnb_create.specs.Counts.{CountsEither};
 ghost use Rattle.cnb_create.specs.Creates.{export_frame, exports_image, leaves_image};
-ghost use Rattle.cnb_create.specs.Refusals.{cause_of};
 ghost use Rattle.cnb_create.specs.declared.refusal.CreateRefusal.TheVariants as refused;
 
 use crate::phases::Phases;
@@ -57,8 +54,6 @@ fn export_image<W: World>(
     ensures readable { IsTrue (is_group_doc phases.now.group)
         → IfOk result (λ exported. IsTrue (is_image_doc exported.image)) }
     ensures again { AreStanding places.new (map (λ s. state_of (held s) (rows s) (faults s)) shelves.new.items) }
-    ensures files { CountsFiles exporting.cause_of result (W.file_faults world.old) (W.file_faults world.new) }
-    ensures children { CountsChildren exporting.cause_of result (W.child_faults world.old) (W.child_faults world.new) }
 {
     let frame = export_frame(alloc, options)?;
     let exported = export(
@@ -91,9 +86,6 @@ pub(crate) fn leave_image<W: World>(
         (world_and_caches (seen W.World world.new)
         (caches_of (map (λ s. state_of (held s) (rows s) (faults s)) shelves.new.items) places.new)) }
     ensures again { AreStanding places.new (map (λ s. state_of (held s) (rows s) (faults s)) shelves.new.items) }
-    ensures files { CountsFiles cause_of result (W.file_faults world.old) (W.file_faults world.new) }
-    ensures children { (counts : Seq ℕ) →
-        CountsEither cause_of result (W.child_faults world.old) (W.child_faults world.new) counts counts }
 {
     let exported = export_image(alloc, options, world, shelves, places, phases)?;
     let text = created_text(alloc, &options.image, phases, &exported)?;

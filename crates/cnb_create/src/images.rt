@@ -1,12 +1,9 @@
 // The run image and the previous image.
 ghost use Rattle.std.specs.Prelude.{◌≡◌, ℕ, List as Seq};
 ghost use Rattle.cnb_words.specs.Create.{KeepsLimits};
-ghost use Rattle.steps.specs.Causes.{CountsFiles};
 ghost use Rattle.steps.specs.Outside.{seen};
 ghost use Rattle.steps.specs.Steps.{map_err};
-ghost use Rattle.cnb_create.specs.Counts.{CountsEither};
 ghost use Rattle.cnb_create.specs.Creates.{looks_at_images, previous_name};
-ghost use Rattle.cnb_create.specs.Refusals.{cause_of};
 ghost use Rattle.cnb_create.specs.declared.refusal.CreateRefusal.TheVariants as refused;
 
 use crate::refusal::CreateRefusal;
@@ -35,9 +32,6 @@ pub(crate) fn look_at_images<W: World>(
     requires { KeepsLimits options.now }
     ensures steps { map_err refused.Restore (looks_at_images options.now)
         (seen W.World world.old) result (seen W.World world.new) }
-    ensures files { CountsFiles cause_of result (W.file_faults world.old) (W.file_faults world.new) }
-    ensures children { (counts : Seq ℕ) →
-        CountsEither cause_of result (W.child_faults world.old) (W.child_faults world.new) counts counts }
 {
     let previous = previous_name(options);
     let analyzed = analyze(alloc, world, &options.store, &options.run, Some(previous))?;

@@ -4,12 +4,9 @@ ghost use Rattle.cnb_words.specs.Create.{KeepsLimits};
 ghost use Rattle.shelf_set.specs.Caches.{caches_of, world_and_caches};
 ghost use Rattle.shelf_set.specs.Dropping.{AreStanding};
 ghost use Rattle.shelf_set.specs.ShelfState.{state_of};
-ghost use Rattle.steps.specs.Causes.{CountsFiles};
 ghost use Rattle.steps.specs.Outside.{seen};
 ghost use Rattle.steps.specs.Steps.{map_err};
-ghost use Rattle.cnb_create.specs.Counts.{CountsEither};
 ghost use Rattle.cnb_create.specs.Creates.{restores_layers};
-ghost use Rattle.cnb_create.specs.Refusals.{cause_of};
 ghost use Rattle.cnb_create.specs.declared.refusal.CreateRefusal.TheVariants as refused;
 
 use crate::refusal::CreateRefusal;
@@ -40,9 +37,6 @@ pub(crate) fn restore_layers<W: World>(
         (world_and_caches (seen W.World world.new)
         (caches_of (map (λ s. state_of (held s) (rows s) (faults s)) shelves.new.items) places.new)) }
     ensures again { AreStanding places.new (map (λ s. state_of (held s) (rows s) (faults s)) shelves.new.items) }
-    ensures files { CountsFiles cause_of result (W.file_faults world.old) (W.file_faults world.new) }
-    ensures children { (counts : Seq ℕ) →
-        CountsEither cause_of result (W.child_faults world.old) (W.child_faults world.new) counts counts }
 {
     let restored = restore(
         alloc,

@@ -3,7 +3,6 @@ use Rattle.std.proofs.lemmas.Result.{err_from_is_err_and}
 use Rattle.steps.proofs.StepLemmas.{ended, given, mapped, mapped_fault, no_memory, went, yielded}
 use Rattle.shelf_set.proofs.CacheLemmas.{within}
 use Rattle.cnb_export.proofs.CommandLaws.{saved_readable}
-use Rattle.cnb_export.specs.Refusals as exporting
 use Rattle.cnb_export.specs.declared.exported.Exported.{Exported}
 use Rattle.cnb_export.specs.declared.fault.ExportFault.{ExportFault}
 use Rattle.cnb_words.specs.declared.create.CreateWords.{CreateWords}
@@ -14,7 +13,6 @@ use Rattle.shelf_set.specs.Caches.{WorldAndCaches}
 use Rattle.cnb_create.specs.Creates.{exports_image, leaves_image}
 use Rattle.cnb_create.specs.declared.refusal.CreateRefusal.{CreateRefusal}
 use Rattle.cnb_create.specs.declared.refusal.CreateRefusal.TheVariants.{Export, Memory}
-use Rattle.cnb_create.proofs.CountLemmas.{children_after, memory_quiet, ran_in_world}
 use Rattle.cnb_create.proofs.exporting.leave_image.Goals as goal
 
 -- where no buildpack of the group stands twice, the caches' documents read as their rows
@@ -44,19 +42,3 @@ pub returns-clause-steps : goal.returns-clause-steps
 unfolding leaves_image
 returns-clause-steps g c =
     went _ _ _ _ _ _ _ (mapped Export _ _ _ _ (exported_readable _ _ _ _ _ _ c.requires.group c.in_ok-exported.ensures.steps)) (went _ _ _ _ _ _ _ (given _ _ _ _ (ap Ok (sym c.in_ok-text.ensures))) (went _ _ _ _ _ _ _ (within _ _ _ _ _ (mapped Export _ _ _ _ (saved_readable _ _ _ _ _ _ (c.in_ok-exported.ensures.readable c.requires.group) c.in_ok-save_image.ensures.step))) (yielded CreateRefusal _ _)))
-
-pub returns-in_err-exported-clause-children : goal.returns-in_err-exported-clause-children
-returns-in_err-exported-clause-children g c =
-    let exit = err_from_is_err_and c.from_residual.result c.from_residual.ensures.1 in
-    rw (exit.1, exit.2) (λ counts. ran_in_world (exporting.cause_of c.in_err-exported.field-0.0) _ _ counts c.in_err-exported.ensures.children)
-
-pub returns-in_err-text-clause-children : goal.returns-in_err-text-clause-children
-returns-in_err-text-clause-children g c =
-    let exit = err_from_is_err_and c.from_residual-in_err-text.result c.from_residual-in_err-text.ensures.1 in
-    rw (exit.1, exit.2) (λ counts. memory_quiet _ _ counts c.in_ok-exported.ensures.children)
-
-pub returns-in_err-save_image-clause-children : goal.returns-in_err-save_image-clause-children
-returns-in_err-save_image-clause-children g c =
-    let exit = err_from_is_err_and c.from_residual-in_err-save_image.result c.from_residual-in_err-save_image.ensures.1 in
-    let cause = exporting.cause_of c.in_err-save_image.field-0.0 in
-    rw (exit.1, exit.2) (λ counts. ran_in_world cause _ _ counts (children_after cause _ _ _ c.in_ok-exported.ensures.children c.in_err-save_image.ensures.children))

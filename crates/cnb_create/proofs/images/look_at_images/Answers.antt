@@ -1,36 +1,24 @@
-use Rattle.std.proofs.Common.{◌∙◌, ap, Some}
+use Rattle.std.proofs.Common.{ap, Some}
 use Rattle.std.proofs.lemmas.Result.{err_from_is_err_and}
 use Rattle.steps.proofs.StepLemmas.{ended, mapped, mapped_fault, went, yielded}
 use Rattle.cnb_restore.proofs.ReadLemmas.{analyzes_as}
 use Rattle.cnb_restore.specs.declared.fault.RestoreFault.{RestoreFault}
 use Rattle.cnb_create.specs.Creates.{looks_at_images}
 use Rattle.cnb_create.specs.declared.refusal.CreateRefusal.TheVariants.{Restore}
-use Rattle.cnb_create.proofs.CountLemmas.{restore_quiet}
 use Rattle.cnb_create.proofs.images.look_at_images.Goals as goal
 
-pub returns-in_err-analyzed-clause-steps : goal.returns-in_err-analyzed-clause-steps
+pub returns-in_err-analyzed : goal.returns-in_err-analyzed
 unfolding looks_at_images
-returns-in_err-analyzed-clause-steps g c =
+returns-in_err-analyzed g c =
     let exit = err_from_is_err_and c.from_residual.result c.from_residual.ensures.1 in
-    rw (exit.1, exit.2) (mapped_fault Restore _ _ _ _ (ended _ _ _ _ _ (analyzes_as _ _ _ _ _ _ _ (ap Some c.previous_name-previous.ensures) c.in_err-analyzed.ensures.steps)))
+    rw (exit.1, exit.2) (record { steps = mapped_fault Restore _ _ _ _ (ended _ _ _ _ _ (analyzes_as _ _ _ _ _ _ _ (ap Some c.previous_name-previous.ensures) c.in_err-analyzed.ensures.steps)) })
 
-pub returns-in_err-write_analyzed_document-clause-steps : goal.returns-in_err-write_analyzed_document-clause-steps
+pub returns-in_err-write_analyzed_document : goal.returns-in_err-write_analyzed_document
 unfolding looks_at_images
-returns-in_err-write_analyzed_document-clause-steps g c =
+returns-in_err-write_analyzed_document g c =
     let exit = err_from_is_err_and c.from_residual-in_err-write_analyzed_document.result c.from_residual-in_err-write_analyzed_document.ensures.1 in
-    rw (exit.1, exit.2) (mapped_fault Restore _ _ _ _ (went _ _ _ _ _ _ _ (analyzes_as _ _ _ _ _ _ _ (ap Some c.previous_name-previous.ensures) c.in_ok-analyzed.ensures.steps) (ended _ _ _ _ _ c.in_err-write_analyzed_document.ensures.step)))
+    rw (exit.1, exit.2) (record { steps = mapped_fault Restore _ _ _ _ (went _ _ _ _ _ _ _ (analyzes_as _ _ _ _ _ _ _ (ap Some c.previous_name-previous.ensures) c.in_ok-analyzed.ensures.steps) (ended _ _ _ _ _ c.in_err-write_analyzed_document.ensures.step)) })
 
-pub returns-clause-steps : goal.returns-clause-steps
+pub returns : goal.returns
 unfolding looks_at_images
-returns-clause-steps g c =
-    mapped Restore _ _ _ _ (went _ _ _ _ _ _ _ (analyzes_as _ _ _ _ _ _ _ (ap Some c.previous_name-previous.ensures) c.in_ok-analyzed.ensures.steps) (went _ _ _ _ _ _ _ c.in_ok-write_analyzed_document.ensures.step (yielded RestoreFault _ _)))
-
-pub returns-in_err-analyzed-clause-children : goal.returns-in_err-analyzed-clause-children
-returns-in_err-analyzed-clause-children g c =
-    let exit = err_from_is_err_and c.from_residual.result c.from_residual.ensures.1 in
-    rw (exit.1, exit.2) (λ counts. restore_quiet c.in_err-analyzed.field-0.0 _ _ counts c.in_err-analyzed.ensures.children)
-
-pub returns-in_err-write_analyzed_document-clause-children : goal.returns-in_err-write_analyzed_document-clause-children
-returns-in_err-write_analyzed_document-clause-children g c =
-    let exit = err_from_is_err_and c.from_residual-in_err-write_analyzed_document.result c.from_residual-in_err-write_analyzed_document.ensures.1 in
-    rw (exit.1, exit.2) (λ counts. restore_quiet c.in_err-write_analyzed_document.field-0.0 _ _ counts (c.in_err-write_analyzed_document.ensures.children ∙ c.in_ok-analyzed.ensures.children))
+returns g c = record { steps = mapped Restore _ _ _ _ (went _ _ _ _ _ _ _ (analyzes_as _ _ _ _ _ _ _ (ap Some c.previous_name-previous.ensures) c.in_ok-analyzed.ensures.steps) (went _ _ _ _ _ _ _ c.in_ok-write_analyzed_document.ensures.step (yielded RestoreFault _ _))) }

@@ -1,7 +1,6 @@
 use Rattle.std.proofs.lemmas.Result.{err_from_is_err_and}
 use Rattle.steps.proofs.StepLemmas.{mapped, mapped_fault}
 use Rattle.cnb_create.specs.declared.refusal.CreateRefusal.TheVariants.{Restore}
-use Rattle.cnb_create.proofs.CountLemmas.{restore_quiet}
 use Rattle.cnb_create.proofs.restoring.restore_layers.Goals as goal
 
 pub returns-in_err-restored-clause-steps : goal.returns-in_err-restored-clause-steps
@@ -11,8 +10,3 @@ returns-in_err-restored-clause-steps g c =
 
 pub returns-clause-steps : goal.returns-clause-steps
 returns-clause-steps g c = mapped Restore _ _ _ _ c.in_ok-restored.ensures.steps
-
-pub returns-in_err-restored-clause-children : goal.returns-in_err-restored-clause-children
-returns-in_err-restored-clause-children g c =
-    let exit = err_from_is_err_and c.from_residual.result c.from_residual.ensures.1 in
-    rw (exit.1, exit.2) (λ counts. restore_quiet c.in_err-restored.field-0.0 _ _ counts c.in_err-restored.ensures.children)
