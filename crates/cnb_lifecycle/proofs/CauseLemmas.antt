@@ -14,29 +14,10 @@ use Rattle.cnb_lifecycle.specs.declared.refusal.Refusal.{Refusal}
 use Rattle.cnb_lifecycle.specs.declared.refusal.Refusal.TheVariants.{File, Memory, Child}
 use Rattle.cnb_lifecycle.specs.declared.status.Status.{Status}
 use Rattle.cnb_lifecycle.specs.declared.status.Status.TheVariants.{Done, Output, Refused, Launched}
-use Rattle.cnb_create.specs.Counts.{EitherBy}
+use Rattle.steps.specs.EitherCounts.{EitherBy}
 use Rattle.cnb_lifecycle.specs.Ends.{CauseOfChild, CauseOfFile, CountsChild}
 use Rattle.cnb_lifecycle.specs.Faults.{cause_of, of_detect}
 use Rattle.cnb_lifecycle.specs.Printing.{Finishes}
-
--- where nothing was called
-pub given_files : (cause : Cause) (count : ℕ) → IsGivenCause cause → FilesBy cause count count
-given_files (FileFailed path) count h = absurd h
-given_files ChildFailed count h = absurd h
-given_files OutOfMemory count h = omega arith
-given_files Decided count h = refl
-
-pub given_child : (cause : Cause) (count : ℕ) (counts : List ℕ) → IsGivenCause cause → EitherBy cause count count counts counts
-given_child (FileFailed path) count counts h = absurd h
-given_child ChildFailed count counts h = absurd h
-given_child OutOfMemory count counts h = (omega arith, none_fell counts)
-given_child Decided count counts h = (refl, refl)
-
--- no child is counted where nothing but want of memory is refused
-pub known_children : {A : Type 0} (result : Result A Refusal) (count : ℕ) (counts : List ℕ) → IfErr result (λ refusal. refusal ≡ Memory) → CountsChild result count count counts counts
-known_children (Ok answer) count counts memory = (refl, refl)
-known_children (Err refusal) count counts memory =
-    subst (λ cause. EitherBy cause count count counts counts) (sym (ap cause_of memory)) (given_child OutOfMemory count counts tt)
 
 -- a refusal of `detect` has the same cause as what it is told as
 pub same_cause : (refusal : DetectRefusal) → cause_of (of_detect refusal) ≡ detect_refusal.cause_of refusal
@@ -48,21 +29,6 @@ same_cause (detect.Limit kind) = refl
 same_cause (detect.BuildpackApi text) = refl
 same_cause (detect.Order id ambiguous) = refl
 same_cause (detect.NoGroup erred) = refl
-
-pub detect_files : (refusal : DetectRefusal) (before now : ℕ) → FilesBy (detect_refusal.cause_of refusal) before now → FilesBy (cause_of (of_detect refusal)) before now
-detect_files refusal before now h = subst (λ cause. FilesBy cause before now) (sym (same_cause refusal)) h
-
--- the spawners' counts, where no child ran in the world
-spawned : (cause : Cause) (before now : ℕ) (befores nows : List ℕ) → now ≡ before → SpawnersBy cause befores nows → EitherBy cause before now befores nows
-spawned (FileFailed path) before now befores nows same h = (same, h)
-spawned ChildFailed before now befores nows same h = inr (omega (arith, same), h)
-spawned OutOfMemory before now befores nows same h = (omega (arith, same), h)
-spawned Decided before now befores nows same h = (same, h)
-
-pub detect_child : (refusal : DetectRefusal) (before now : ℕ) (befores nows : List ℕ) → now ≡ before → SpawnersBy (detect_refusal.cause_of refusal) befores nows
-    → EitherBy (cause_of (of_detect refusal)) before now befores nows
-detect_child refusal before now befores nows same h =
-    subst (λ cause. EitherBy cause before now befores nows) (sym (same_cause refusal)) (spawned (detect_refusal.cause_of refusal) before now befores nows same h)
 
 -- a count of files
 files_later : (cause : Cause) (before now : ℕ) → FilesBy cause before now → before ≤ now

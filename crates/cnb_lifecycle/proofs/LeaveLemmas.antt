@@ -25,7 +25,7 @@ image_left : (asked : Asked) (env : List Variable) (answer : Answer) (old new : 
 unfolding over_caches over_world tells
 image_left (Export options) env answer old new ((text, is, steps), spawners) = exported_stands options text (caches_beside old) (caches_beside new) steps
 image_left (Create options) env answer old new (text, is, steps) = created_stands options env (Ok text) old new steps
-image_left (Rebase options) env answer old new ((text, is, steps), spawners, caches) = rebased_stands options text old.world new.world steps
+image_left (Rebase options) env answer old new ((text, is, steps), spawners, caches) = rebased_stands options (Ok text) old.world new.world steps
 image_left (Base options) env answer old new ((text, is, steps), spawners, caches) = based_stands options text old.world new.world steps
 image_left (Detect options) env answer old new h = tt
 image_left (Analyze options) env answer old new h = tt

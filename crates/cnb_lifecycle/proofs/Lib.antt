@@ -1,5 +1,6 @@
 pub mod CauseLemmas
 pub mod CommandLemmas
+pub mod CountLaws
 pub mod EndLemmas
 pub mod KeepLemmas
 pub mod SinkLemmas

@@ -1,4 +1,4 @@
--- The counts of failures of the phases, as the lifecycle's refusals tell them.
+-- The refusals of the phases keep their causes, as the lifecycle's refusals tell them.
 use Rattle.std.proofs.Common.{◌≡◌, ◌≢◌, refl, sym, subst, ℕ, List, inl, arith}
 use Rattle.steps.specs.Causes.{Cause, FileFailed, ChildFailed, OutOfMemory, Decided, ChildrenBy, FilesBy}
 use Rattle.steps.proofs.AskingLemmas.{none_fell}
@@ -35,28 +35,10 @@ use Rattle.cnb_rebase.specs.declared.refusal.BaseFault.TheVariants as base
 use Rattle.cnb_rebase.specs.declared.refusal.RebaseFault.{RebaseFault}
 use Rattle.cnb_rebase.specs.declared.refusal.RebaseFault.TheVariants as rebase
 use Rattle.cnb_lifecycle.specs.declared.refusal.Refusal.{Refusal}
-use Rattle.cnb_create.specs.Counts.{EitherBy}
+use Rattle.steps.specs.EitherCounts.{EitherBy}
 use Rattle.cnb_lifecycle.specs.Faults.{cause_of}
 use Rattle.cnb_lifecycle.proofs.CauseLemmas.{same_cause}
 use Rattle.cnb_lifecycle.specs.PhaseFaults.{of_base, of_build, of_create, of_export, of_export_fault, of_image, of_launch, of_rebase, of_restore, of_restore_refusal, of_store}
-
--- children that ran in the world, where no spawner was asked
-in_world : (cause : Cause) (before now : ℕ) (counts : List ℕ) → ChildrenBy cause before now → EitherBy cause before now counts counts
-in_world (FileFailed path) before now counts h = (h, refl)
-in_world ChildFailed before now counts h = inl (h, none_fell counts)
-in_world OutOfMemory before now counts h = (h, none_fell counts)
-in_world Decided before now counts h = (h, refl)
-
--- a fault that is told with the same cause
-module _ {F : Type 0} (of : F → Refusal) (cause : F → Cause) (same : (fault : F) → cause_of (of fault) ≡ cause fault) where
-  pub files_as : (fault : F) (before now : ℕ) → FilesBy (cause fault) before now → FilesBy (cause_of (of fault)) before now
-  files_as fault before now h = subst (λ c. FilesBy c before now) (sym (same fault)) h
-
-  pub child_as : (fault : F) (before now : ℕ) (counts : List ℕ) → ChildrenBy (cause fault) before now → EitherBy (cause_of (of fault)) before now counts counts
-  child_as fault before now counts h = subst (λ c. EitherBy c before now counts counts) (sym (same fault)) (in_world (cause fault) before now counts h)
-
-  pub either_as : (fault : F) (before now : ℕ) (befores nows : List ℕ) → EitherBy (cause fault) before now befores nows → EitherBy (cause_of (of fault)) before now befores nows
-  either_as fault before now befores nows h = subst (λ c. EitherBy c before now befores nows) (sym (same fault)) h
 
 pub build_cause : (fault : BuildFault) → cause_of (of_build fault) ≡ building.cause_of fault
 build_cause (build.BuildFailed id code) = refl
@@ -97,36 +79,6 @@ pub base_cause : (fault : BaseFault) → cause_of (of_base fault) ≡ rebasing.b
 base_cause (base.Store fault) = store_cause fault
 base_cause (base.Image fault) = image_cause fault
 
--- where no child ran, no such fault tells of one
-pub rebase_quiet : (fault : RebaseFault) (before now : ℕ) → now ≡ before → ChildrenBy (rebasing.cause_of fault) before now
-rebase_quiet (rebase.NoImage name) before now same = same
-rebase_quiet (rebase.TopDiffers recorded found) before now same = same
-rebase_quiet (rebase.TargetDiffers old new) before now same = same
-rebase_quiet (rebase.Document path fault) before now same = same
-rebase_quiet (rebase.Limit kind) before now same = same
-rebase_quiet (rebase.File path) before now same = same
-rebase_quiet rebase.Memory before now same = omega (arith, same)
-
-pub image_quiet : (fault : ImageFault) (before now : ℕ) → now ≡ before → ChildrenBy (image_files.cause_of fault) before now
-image_quiet (image.NoImage name) before now same = same
-image_quiet (image.Document path fault) before now same = same
-image_quiet (image.Limit kind) before now same = same
-image_quiet (image.File path) before now same = same
-image_quiet image.Memory before now same = omega (arith, same)
-
-pub store_quiet : (fault : StoreFault) (before now : ℕ) → now ≡ before → ChildrenBy (tree_store.cause_of fault) before now
-store_quiet (store.OddFile path) before now same = same
-store_quiet (store.Limit kind) before now same = same
-store_quiet (store.File path) before now same = same
-store_quiet (store.NoTree digest) before now same = same
-store_quiet (store.Damaged asked found bad) before now same = same
-store_quiet (store.Clash digest) before now same = same
-store_quiet store.Memory before now same = omega (arith, same)
-
-pub base_quiet : (fault : BaseFault) (before now : ℕ) → now ≡ before → ChildrenBy (rebasing.base_cause fault) before now
-base_quiet (base.Store fault) before now same = store_quiet fault before now same
-base_quiet (base.Image fault) before now same = image_quiet fault before now same
-
 pub restore_cause : (fault : RestoreFault) → cause_of (of_restore fault) ≡ restoring.cause_of fault
 restore_cause (restore.NoImage name) = refl
 restore_cause (restore.Document path fault) = refl
@@ -135,21 +87,9 @@ restore_cause (restore.Limit kind) = refl
 restore_cause (restore.File path) = refl
 restore_cause restore.Memory = refl
 
-pub restore_quiet : (fault : RestoreFault) (before now : ℕ) → now ≡ before → ChildrenBy (restoring.cause_of fault) before now
-restore_quiet (restore.NoImage name) before now same = same
-restore_quiet (restore.Document path fault) before now same = same
-restore_quiet (restore.Damaged asked found bad) before now same = same
-restore_quiet (restore.Limit kind) before now same = same
-restore_quiet (restore.File path) before now same = same
-restore_quiet restore.Memory before now same = omega (arith, same)
-
 pub refused_restore : (refusal : RestoreRefusal) → cause_of (of_restore_refusal refusal) ≡ restore_command.refusal_cause refusal
 refused_restore (restore_refusal.BuildpackApi text) = refl
 refused_restore (restore_refusal.Fault fault) = restore_cause fault
-
-pub quiet_restore : (refusal : RestoreRefusal) (before now : ℕ) → now ≡ before → ChildrenBy (restore_command.refusal_cause refusal) before now
-quiet_restore (restore_refusal.BuildpackApi text) before now same = same
-quiet_restore (restore_refusal.Fault fault) before now same = restore_quiet fault before now same
 
 export_cause : (fault : ExportFault) → cause_of (of_export_fault fault) ≡ export_faults.cause_of fault
 export_cause (export_fault.NoContents id layer) = refl
@@ -174,13 +114,6 @@ launch_cause launch.Child = refl
 launch_cause (launch.Document path fault) = refl
 launch_cause (launch.Store fault) = store_cause fault
 launch_cause launch.Memory = refl
-
--- where no child is the cause
-pub unasked : (cause : Cause) (before now : ℕ) → cause ≢ ChildFailed → now ≡ before → ChildrenBy cause before now
-unasked (FileFailed path) before now other same = same
-unasked ChildFailed before now other same = absurd (other refl)
-unasked OutOfMemory before now other same = omega (arith, same)
-unasked Decided before now other same = same
 
 pub create_cause : (refusal : CreateRefusal) → cause_of (of_create refusal) ≡ creating.cause_of refusal
 create_cause (create.Detect refusal) = same_cause refusal

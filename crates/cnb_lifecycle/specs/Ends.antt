@@ -3,7 +3,7 @@ use Rattle.std.specs.Prelude.{ℕ, ℤ, pos, negsuc, ◌≡◌, ◌≤◌, List,
 use Rattle.steps.specs.Asking.{NoneFell}
 use Rattle.steps.specs.Causes.{CountsFiles, FilesBy}
 use Rattle.steps.specs.Outside.{Outside, faults_of}
-use Rattle.cnb_create.specs.Counts.{CountsEither, EitherBy}
+use Rattle.steps.specs.EitherCounts.{CountsEither, EitherBy}
 use Rattle.cnb_lifecycle.specs.declared.answer.Answer.{Answer}
 use Rattle.cnb_lifecycle.specs.declared.refusal.Refusal.{Refusal}
 use Rattle.cnb_lifecycle.specs.declared.status.Status.{Status}

@@ -2,7 +2,6 @@
 ghost use Rattle.std.specs.Prelude.{List as Seq, ℕ};
 ghost use Rattle.cnb_words.specs.Launch as launch_words;
 ghost use Rattle.cnb_words.specs.Unpack as unpack_words;
-ghost use Rattle.steps.specs.Causes.{CountsFiles};
 ghost use Rattle.steps.specs.Outside.{seen};
 ghost use Rattle.cnb_launch.specs.Commands.{launches_command, unpacks_command};
 ghost use Rattle.cnb_lifecycle.specs.Ends.{CountsChild};
@@ -26,9 +25,6 @@ pub(crate) fn run_unpack<W: World>(
     requires limits { unpack_words.KeepsLimits options.now }
     ensures steps { tells Answer.Printed of_launch (unpacks_command options.now)
         (seen W.World world.old) result (seen W.World world.new) }
-    ensures files { CountsFiles cause_of result (W.file_faults world.old) (W.file_faults world.new) }
-    ensures children { (counts : Seq ℕ) →
-        CountsChild result (W.child_faults world.old) (W.child_faults world.new) counts counts }
 {
     let text = unpack_command(alloc, options, world)?;
     Ok(Answer::Printed(text))
@@ -44,9 +40,6 @@ pub(crate) fn run_launch<W: World>(
     requires limits { launch_words.KeepsLimits options.now }
     ensures steps { tells Answer.Launched of_launch (launches_command options.now env.now)
         (seen W.World world.old) result (seen W.World world.new) }
-    ensures files { CountsFiles cause_of result (W.file_faults world.old) (W.file_faults world.new) }
-    ensures children { (counts : Seq ℕ) →
-        CountsChild result (W.child_faults world.old) (W.child_faults world.new) counts counts }
 {
     let code = launch_command(alloc, options, env, world)?;
     Ok(Answer::Launched(code))

@@ -6,10 +6,9 @@ ghost use Rattle.cnb_words.specs.Restore as restore_words;
 ghost use Rattle.shelf_set.specs.Caches.{caches_of, world_and_caches};
 ghost use Rattle.shelf_set.specs.Dropping.{AreStanding};
 ghost use Rattle.shelf_set.specs.ShelfState.{state_of};
-ghost use Rattle.steps.specs.Causes.{CountsFiles};
 ghost use Rattle.steps.specs.Outside.{faults_of, outside, seen, spawners_seen};
 ghost use Rattle.cnb_create.specs.Creates.{creates};
-ghost use Rattle.cnb_create.specs.Outcome.{ComesToChoice};
+ghost use Rattle.cnb_create.specs.Headline.{ComesToImage};
 ghost use Rattle.cnb_create.specs.Surroundings.{shelf_seen, surroundings};
 ghost use Rattle.cnb_export.specs.Command.{exports_command};
 ghost use Rattle.cnb_restore.specs.Commands.{restores_command};
@@ -46,9 +45,6 @@ pub(crate) fn run_restore<W: World>(
         (caches_of (map (λ s. state_of (held s) (rows s) (faults s)) shelves.old.items) places.old)) result
         (world_and_caches (seen W.World world.new)
         (caches_of (map (λ s. state_of (held s) (rows s) (faults s)) shelves.new.items) places.new)) }
-    ensures files { CountsFiles cause_of result (W.file_faults world.old) (W.file_faults world.new) }
-    ensures children { (counts : Seq ℕ) →
-        CountsChild result (W.child_faults world.old) (W.child_faults world.new) counts counts }
 {
     let text = restore_command(alloc, options, world, shelves, places)?;
     Ok(Answer::Printed(text))
@@ -69,9 +65,6 @@ pub(crate) fn run_export<W: World>(
         (caches_of (map (λ s. state_of (held s) (rows s) (faults s)) shelves.old.items) places.old)) result
         (world_and_caches (seen W.World world.new)
         (caches_of (map (λ s. state_of (held s) (rows s) (faults s)) shelves.new.items) places.new)) }
-    ensures files { CountsFiles cause_of result (W.file_faults world.old) (W.file_faults world.new) }
-    ensures children { (counts : Seq ℕ) →
-        CountsChild result (W.child_faults world.old) (W.child_faults world.new) counts counts }
 {
     let text = export_command(alloc, options, world, shelves, places)?;
     Ok(Answer::Printed(text))
@@ -99,18 +92,13 @@ pub(crate) fn run_create<W: World, S: Spawner + Send, R: Threads + Sync>(
         result
         (surroundings (outside W.World S.Spawner world.new spawners.new.items)
         (caches_of (map (λ s. shelf_seen (⟦<dyn Shelf as Shelf>⟧ s.vtable) s.value) shelves.new.items) places.new)) }
-    ensures chosen { tells Answer.Printed of_create (ComesToChoice options.now env.now)
+    ensures headline { tells Answer.Printed of_create (ComesToImage options.now env.now)
         (surroundings (outside W.World S.Spawner world.old spawners.old.items)
         (caches_of (map (λ s. shelf_seen (⟦<dyn Shelf as Shelf>⟧ s.vtable) s.value) shelves.old.items) places.old))
         result
         (surroundings (outside W.World S.Spawner world.new spawners.new.items)
         (caches_of (map (λ s. shelf_seen (⟦<dyn Shelf as Shelf>⟧ s.vtable) s.value) shelves.new.items) places.new)) }
     ensures image { OnErr result (KeepsCreated options.now (seen W.World world.old) (seen W.World world.new)) }
-    ensures files { CountsFiles cause_of result (W.file_faults world.old) (W.file_faults world.new) }
-    ensures children { CountsChild result
-        (W.child_faults world.old) (W.child_faults world.new)
-        (faults_of (spawners_seen S.Spawner spawners.old.items))
-        (faults_of (spawners_seen S.Spawner spawners.new.items)) }
 {
     let text = create_command(rt, alloc, options, env, world, spawners, shelves, places)?;
     Ok(Answer::Printed(text))

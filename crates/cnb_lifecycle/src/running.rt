@@ -6,7 +6,6 @@ ghost use Rattle.cnb_words.specs.Build as build_words;
 ghost use Rattle.cnb_words.specs.Detect.{KeepsLimits};
 ghost use Rattle.cnb_words.specs.Rebase as rebase_words;
 ghost use Rattle.cnb_words.specs.Show as show_words;
-ghost use Rattle.steps.specs.Causes.{CountsFiles};
 ghost use Rattle.steps.specs.Outside.{faults_of, outside, seen, spawners_seen};
 ghost use Rattle.cnb_build.specs.Command.{commands_build};
 ghost use Rattle.cnb_detect.specs.Detects.{detects};
@@ -50,11 +49,6 @@ pub(crate) fn run_detect<W: World, S: Spawner + Send, R: Threads + Sync>(
         (outside W.World S.Spawner world.old spawners.old.items)
         result
         (outside W.World S.Spawner world.new spawners.new.items) }
-    ensures files { CountsFiles cause_of result (W.file_faults world.old) (W.file_faults world.new) }
-    ensures children { CountsChild result
-        (W.child_faults world.old) (W.child_faults world.new)
-        (faults_of (spawners_seen S.Spawner spawners.old.items))
-        (faults_of (spawners_seen S.Spawner spawners.new.items)) }
 {
     let text = detect(rt, alloc, options, env, world, spawners)?;
     Ok(Answer::Printed(text))
@@ -70,9 +64,6 @@ pub(crate) fn run_build<W: World>(
     requires limits { build_words.KeepsLimits options.now }
     ensures steps { tells Answer.Printed of_build (commands_build options.now env.now)
         (seen W.World world.old) result (seen W.World world.new) }
-    ensures files { CountsFiles cause_of result (W.file_faults world.old) (W.file_faults world.new) }
-    ensures children { (counts : Seq ℕ) →
-        CountsChild result (W.child_faults world.old) (W.child_faults world.new) counts counts }
 {
     let text = build_command(alloc, options, env, world)?;
     Ok(Answer::Printed(text))
@@ -87,9 +78,6 @@ pub(crate) fn run_rebase<W: World>(
     requires limits { rebase_words.KeepsLimits options.now }
     ensures steps { tells Answer.Printed of_rebase (rebases_command options.now)
         (seen W.World world.old) result (seen W.World world.new) }
-    ensures files { CountsFiles cause_of result (W.file_faults world.old) (W.file_faults world.new) }
-    ensures children { (counts : Seq ℕ) →
-        CountsChild result (W.child_faults world.old) (W.child_faults world.new) counts counts }
 {
     let text = rebase_command(alloc, options, world)?;
     Ok(Answer::Printed(text))
@@ -104,9 +92,6 @@ pub(crate) fn run_base<W: World>(
     requires limits { base_words.KeepsLimits options.now }
     ensures steps { tells Answer.Printed of_base (bases_command options.now)
         (seen W.World world.old) result (seen W.World world.new) }
-    ensures files { CountsFiles cause_of result (W.file_faults world.old) (W.file_faults world.new) }
-    ensures children { (counts : Seq ℕ) →
-        CountsChild result (W.child_faults world.old) (W.child_faults world.new) counts counts }
 {
     let text = base_command(alloc, options, world)?;
     Ok(Answer::Printed(text))
@@ -121,9 +106,6 @@ pub(crate) fn run_show<W: World>(
     requires limits { show_words.KeepsLimits options.now }
     ensures steps { tells Answer.Printed of_image (shows_command options.now)
         (seen W.World world.old) result (seen W.World world.new) }
-    ensures files { CountsFiles cause_of result (W.file_faults world.old) (W.file_faults world.new) }
-    ensures children { (counts : Seq ℕ) →
-        CountsChild result (W.child_faults world.old) (W.child_faults world.new) counts counts }
 {
     let text = show_command(alloc, options, world)?;
     Ok(Answer::Printed(text))
@@ -138,9 +120,6 @@ pub(crate) fn run_analyze<W: World>(
     requires limits { analyze_words.KeepsLimits options.now }
     ensures steps { tells Answer.Printed of_restore (analyzes_command options.now)
         (seen W.World world.old) result (seen W.World world.new) }
-    ensures files { CountsFiles cause_of result (W.file_faults world.old) (W.file_faults world.new) }
-    ensures children { (counts : Seq ℕ) →
-        CountsChild result (W.child_faults world.old) (W.child_faults world.new) counts counts }
 {
     let text = analyze_command(alloc, options, world)?;
     Ok(Answer::Printed(text))

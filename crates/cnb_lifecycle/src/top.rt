@@ -2,19 +2,18 @@
 ghost use Rattle.std.specs.Prelude.{◌≡◌, ◌<◌, ◌^◌, false, Err, List as Seq, ℕ, OnErr, length, map, string_bytes};
 ghost use Rattle.std.specs.List.{range_with_len};
 ghost use Rattle.cnb_words.specs.Words.{AsksWithinLimits};
-ghost use Rattle.steps.specs.Causes.{CountsFiles};
 ghost use Rattle.steps.specs.Outside.{faults_of, outside, seen, spawners_seen};
 ghost use Rattle.steps.specs.Steps.{gives};
 ghost use Rattle.shelf_set.specs.Caches.{caches_of};
 ghost use Rattle.shelf_set.specs.Dropping.{AreStanding};
 ghost use Rattle.cnb_detect.specs.Outcome.{ComesTo};
 ghost use Rattle.cnb_lifecycle.specs.Commands.{after_words, asked_of, command_in, does, options_in, options_of_create, options_of_detect, refusal_of, uses_caches, On};
-ghost use Rattle.cnb_lifecycle.specs.Ends.{CauseOfChild, CauseOfFile, CountsChild, Ends};
+ghost use Rattle.cnb_lifecycle.specs.Ends.{CauseOfChild, CauseOfFile, Ends};
 ghost use Rattle.cnb_lifecycle.specs.Faults.{cause_of, of_detect};
 ghost use Rattle.cnb_lifecycle.specs.Keeping.{KeepsCreated, OnRefusal};
 ghost use Rattle.cnb_lifecycle.specs.Leaving.{LeavesImage, OnDone};
 ghost use Rattle.cnb_lifecycle.specs.Printing.{CountsOutput};
-ghost use Rattle.cnb_create.specs.Outcome.{ComesToChoice};
+ghost use Rattle.cnb_create.specs.Headline.{ComesToImage};
 ghost use Rattle.cnb_create.specs.Surroundings.{over_outside, shelf_seen, surroundings};
 ghost use Rattle.cnb_lifecycle.specs.PhaseFaults.{of_create};
 ghost use Rattle.cnb_lifecycle.specs.Telling.{tells};
@@ -64,8 +63,8 @@ fn run_asked<W: World, S: Spawner + Send, R: Threads + Sync>(
         result
         (surroundings (outside W.World S.Spawner world.new spawners.new.items)
         (caches_of (map (λ s. shelf_seen (⟦<dyn Shelf as Shelf>⟧ s.vtable) s.value) shelves.new.items) places.new))) }
-    ensures chosen { On (options_of_create asked.now) (λ options.
-        tells Answer.Printed of_create (ComesToChoice options env.now)
+    ensures headline { On (options_of_create asked.now) (λ options.
+        tells Answer.Printed of_create (ComesToImage options env.now)
         (surroundings (outside W.World S.Spawner world.old spawners.old.items)
         (caches_of (map (λ s. shelf_seen (⟦<dyn Shelf as Shelf>⟧ s.vtable) s.value) shelves.old.items) places.old))
         result
@@ -74,11 +73,6 @@ fn run_asked<W: World, S: Spawner + Send, R: Threads + Sync>(
     ensures image { On (options_of_create asked.now) (λ options.
         OnErr result (KeepsCreated options (seen W.World world.old) (seen W.World world.new))) }
     ensures shelves { (uses_caches asked.now ≡ false) → (shelves.new.items ≡ shelves.old.items) }
-    ensures files { CountsFiles cause_of result (W.file_faults world.old) (W.file_faults world.new) }
-    ensures children { CountsChild result
-        (W.child_faults world.old) (W.child_faults world.new)
-        (faults_of (spawners_seen S.Spawner spawners.old.items))
-        (faults_of (spawners_seen S.Spawner spawners.new.items)) }
 {
     match asked {
         Asked::Detect(options) => run_detect(rt, alloc, options, env, world, spawners),
@@ -135,9 +129,9 @@ fn run_words<W: World, S: Spawner + Send, R: Threads + Sync>(
         result
         (surroundings (outside W.World S.Spawner world.new spawners.new.items)
         (caches_of (map (λ s. shelf_seen (⟦<dyn Shelf as Shelf>⟧ s.vtable) s.value) shelves.new.items) standing))) }
-    ensures chosen { let all = range_with_len 0 (length shelves.old.items) in
+    ensures headline { let all = range_with_len 0 (length shelves.old.items) in
         On (options_in options_of_create (command_in (map string_bytes words.now) env.now)) (λ options.
-        (standing : Seq ℕ) × after_words (tells Answer.Printed of_create (ComesToChoice options env.now))
+        (standing : Seq ℕ) × after_words (tells Answer.Printed of_create (ComesToImage options env.now))
         (surroundings (outside W.World S.Spawner world.old spawners.old.items)
         (caches_of (map (λ s. shelf_seen (⟦<dyn Shelf as Shelf>⟧ s.vtable) s.value) shelves.old.items) all))
         result
@@ -147,11 +141,6 @@ fn run_words<W: World, S: Spawner + Send, R: Threads + Sync>(
         OnErr result (KeepsCreated options (seen W.World world.old) (seen W.World world.new))) }
     ensures shelves { On (asked_of (command_in (map string_bytes words.now) env.now)) (λ asked.
         (uses_caches asked ≡ false) → (shelves.new.items ≡ shelves.old.items)) }
-    ensures files { CountsFiles cause_of result (W.file_faults world.old) (W.file_faults world.new) }
-    ensures children { CountsChild result
-        (W.child_faults world.old) (W.child_faults world.new)
-        (faults_of (spawners_seen S.Spawner spawners.old.items))
-        (faults_of (spawners_seen S.Spawner spawners.new.items)) }
 {
     let mut places = numbers(alloc, shelves.len() as u32)?;
     let asked = command(alloc, words, env)?;
@@ -212,11 +201,11 @@ pub fn lifecycle<W: World, S: Spawner + Send, O: Sink, R: Threads + Sync>(
         (outside W.World S.Spawner world.new spawners.new.items)
         (map (λ s. shelf_seen (⟦<dyn Shelf as Shelf>⟧ s.vtable) s.value) shelves.new.items)
         result (O.taken out.old) (O.taken out.new)) }
-    // And what `create` tells and builds is the choice of the first trial that passes; where it is refused before that,
-    // it ends as `detect` there.
-    ensures chosen { let all = range_with_len 0 (length shelves.old.items) in
+    // And `create` comes to the image that is defined for the choice of the first trial that passes, by what its children
+    // answered, or ends as `detect` is refused.
+    ensures headline { let all = range_with_len 0 (length shelves.old.items) in
         On (options_in options_of_create (command_in (map string_bytes words.now) env.now)) (λ options.
-        Ends (after_words (tells Answer.Printed of_create (ComesToChoice options env.now)))
+        Ends (after_words (tells Answer.Printed of_create (ComesToImage options env.now)))
         (surroundings (outside W.World S.Spawner world.old spawners.old.items)
         (caches_of (map (λ s. shelf_seen (⟦<dyn Shelf as Shelf>⟧ s.vtable) s.value) shelves.old.items) all))
         (outside W.World S.Spawner world.new spawners.new.items)

@@ -1,25 +1,13 @@
 use Rattle.std.proofs.lemmas.Result.{err_from_is_err_and}
 use Rattle.cnb_lifecycle.specs.declared.answer.Answer.TheVariants.{Printed}
 use Rattle.cnb_lifecycle.proofs.TellingLemmas.{told, told_fault}
-use Rattle.cnb_rebase.specs.Refusals as rebasing
 use Rattle.cnb_lifecycle.specs.PhaseFaults.{of_base}
-use Rattle.cnb_lifecycle.proofs.PhaseLemmas.{base_cause, child_as, files_as, base_quiet}
 use Rattle.cnb_lifecycle.proofs.running.run_base.Goals as goal
 
-pub returns-in_err-text-clause-steps : goal.returns-in_err-text-clause-steps
-returns-in_err-text-clause-steps g c =
+pub returns-in_err-text : goal.returns-in_err-text
+returns-in_err-text g c =
     let exit = err_from_is_err_and c.from_residual.result c.from_residual.ensures.1 in
-    rw (exit.1, exit.2) (told_fault Printed of_base _ _ _ _ c.in_err-text.ensures.steps)
+    rw (exit.1, exit.2) (record { steps = told_fault Printed of_base _ _ _ _ c.in_err-text.ensures.steps })
 
-pub returns-clause-steps : goal.returns-clause-steps
-returns-clause-steps g c = told Printed of_base _ _ _ _ c.in_ok-text.ensures.steps
-
-pub returns-in_err-text-clause-files : goal.returns-in_err-text-clause-files
-returns-in_err-text-clause-files g c =
-    let exit = err_from_is_err_and c.from_residual.result c.from_residual.ensures.1 in
-    rw (exit.1, exit.2) (files_as of_base rebasing.base_cause base_cause _ _ _ c.in_err-text.ensures.files)
-
-pub returns-in_err-text-clause-children : goal.returns-in_err-text-clause-children
-returns-in_err-text-clause-children g c =
-    let exit = err_from_is_err_and c.from_residual.result c.from_residual.ensures.1 in
-    rw (exit.1, exit.2) (λ counts. child_as of_base rebasing.base_cause base_cause _ _ _ counts (base_quiet _ _ _ c.in_err-text.ensures.children))
+pub returns : goal.returns
+returns g c = record { steps = told Printed of_base _ _ _ _ c.in_ok-text.ensures.steps }

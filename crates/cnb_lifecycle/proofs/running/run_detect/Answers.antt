@@ -2,7 +2,6 @@ use Rattle.std.proofs.lemmas.Result.{err_from_is_err_and}
 use Rattle.cnb_lifecycle.specs.declared.answer.Answer.TheVariants.{Printed}
 use Rattle.cnb_lifecycle.proofs.TellingLemmas.{told, told_fault}
 use Rattle.cnb_lifecycle.specs.Faults.{of_detect}
-use Rattle.cnb_lifecycle.proofs.CauseLemmas.{detect_child, detect_files}
 use Rattle.cnb_lifecycle.proofs.running.run_detect.Goals as goal
 
 pub returns-in_err-text-clause-steps : goal.returns-in_err-text-clause-steps
@@ -20,13 +19,3 @@ returns-clause-steps g c = told Printed of_detect _ _ _ _ c.in_ok-text.ensures.s
 
 pub returns-clause-outcome : goal.returns-clause-outcome
 returns-clause-outcome g c = told Printed of_detect _ _ _ _ c.in_ok-text.ensures.outcome
-
-pub returns-in_err-text-clause-files : goal.returns-in_err-text-clause-files
-returns-in_err-text-clause-files g c =
-    let exit = err_from_is_err_and c.from_residual.result c.from_residual.ensures.1 in
-    rw (exit.1, exit.2) (detect_files _ _ _ c.in_err-text.ensures.files)
-
-pub returns-in_err-text-clause-children : goal.returns-in_err-text-clause-children
-returns-in_err-text-clause-children g c =
-    let exit = err_from_is_err_and c.from_residual.result c.from_residual.ensures.1 in
-    rw (exit.1, exit.2) (detect_child _ _ _ _ _ c.in_err-text.ensures.children c.in_err-text.ensures.spawners)

@@ -1,40 +1,42 @@
 use Rattle.std.proofs.Common.{Err}
+use Rattle.steps.specs.Outside.{outside}
 use Rattle.steps.specs.Steps.{gives}
 use Rattle.cnb_detect.specs.Outcome.{ComesTo}
 use Rattle.cnb_lifecycle.specs.Commands.{after_words, does}
-use Rattle.cnb_create.specs.Outcome.{ComesToChoice}
+use Rattle.cnb_create.specs.Headline.{ComesToImage}
 use Rattle.cnb_lifecycle.specs.Faults.{cause_of, of_detect}
 use Rattle.cnb_lifecycle.specs.PhaseFaults.{of_create}
-use Rattle.cnb_create.specs.Surroundings.{over_outside}
+use Rattle.cnb_create.specs.Surroundings.{over_outside, surroundings}
 use Rattle.cnb_lifecycle.specs.Telling.{tells}
 use Rattle.cnb_lifecycle.specs.declared.answer.Answer.TheVariants.{Printed}
 use Rattle.cnb_lifecycle.proofs.CauseLemmas.{cause_of_child, cause_of_file}
-use Rattle.cnb_lifecycle.proofs.EndLemmas.{ends, stood}
+use Rattle.cnb_lifecycle.proofs.CountLaws.{ends_counted, words_count}
+use Rattle.cnb_lifecycle.proofs.EndLemmas.{stood}
 use Rattle.cnb_lifecycle.proofs.KeepLemmas.{refused_each}
 use Rattle.cnb_lifecycle.proofs.LeaveLemmas.{leaves_image}
 use Rattle.cnb_lifecycle.proofs.top.lifecycle.Goals as goal
 
 pub returns-clause-refused : goal.returns-clause-refused
 returns-clause-refused g c =
-    ends _ (λ refusal. gives cause_of (Err refusal)) _ _ _ _ _ _ _ (stood _ (λ refusal. gives cause_of (Err refusal)) _ _ _ _ _ c.run_words-end.ensures.refused) c.run_words-end.ensures.files c.run_words-end.ensures.children c.finish.ensures.finishes
+    ends_counted _ (λ refusal. gives cause_of (Err refusal)) _ c.args.env.now _ _ _ _ _ _ _ _ (stood _ (λ refusal. gives cause_of (Err refusal)) _ _ _ _ _ c.run_words-end.ensures.refused) c.run_words-end.ensures.refused c.run_words-end.ensures.does c.finish.ensures.finishes
 
 pub returns-clause-does : goal.returns-clause-does
 returns-clause-does g c =
-    ends _ (λ asked. after_words (does asked c.args.env.now)) _ _ _ _ _ _ _ c.run_words-end.ensures.does c.run_words-end.ensures.files c.run_words-end.ensures.children c.finish.ensures.finishes
+    ends_counted _ (λ asked. after_words (does asked c.args.env.now)) _ c.args.env.now _ _ _ _ _ _ _ _ c.run_words-end.ensures.does c.run_words-end.ensures.refused c.run_words-end.ensures.does c.finish.ensures.finishes
 
 pub returns-clause-outcome : goal.returns-clause-outcome
 returns-clause-outcome g c =
-    ends _ (λ options. after_words (over_outside (tells Printed of_detect (ComesTo options c.args.env.now)))) _ _ _ _ _ _ _ c.run_words-end.ensures.outcome c.run_words-end.ensures.files c.run_words-end.ensures.children c.finish.ensures.finishes
+    ends_counted _ (λ options. after_words (over_outside (tells Printed of_detect (ComesTo options c.args.env.now)))) _ c.args.env.now _ _ _ _ _ _ _ _ c.run_words-end.ensures.outcome c.run_words-end.ensures.refused c.run_words-end.ensures.does c.finish.ensures.finishes
 
-pub returns-clause-chosen : goal.returns-clause-chosen
-returns-clause-chosen g c =
-    ends _ (λ options. after_words (tells Printed of_create (ComesToChoice options c.args.env.now))) _ _ _ _ _ _ _ c.run_words-end.ensures.chosen c.run_words-end.ensures.files c.run_words-end.ensures.children c.finish.ensures.finishes
+pub returns-clause-headline : goal.returns-clause-headline
+returns-clause-headline g c =
+    ends_counted _ (λ options. after_words (tells Printed of_create (ComesToImage options c.args.env.now))) _ c.args.env.now _ _ _ _ _ _ _ _ c.run_words-end.ensures.headline c.run_words-end.ensures.refused c.run_words-end.ensures.does c.finish.ensures.finishes
 
 pub returns-clause-files : goal.returns-clause-files
-returns-clause-files g c = cause_of_file _ _ _ _ _ _ c.finish.ensures.finishes c.run_words-end.ensures.files
+returns-clause-files g c = cause_of_file _ _ _ _ _ _ c.finish.ensures.finishes (words_count _ c.args.env.now (surroundings (outside g.W.World g.S.Spawner c.args.world.now c.args.spawners.now.items) _) _ (outside g.W.World g.S.Spawner c.run_words-end.new.world c.run_words-end.new.spawners.items) _ _ c.run_words-end.ensures.refused c.run_words-end.ensures.does).files
 
 pub returns-clause-children : goal.returns-clause-children
-returns-clause-children g c = cause_of_child _ _ _ _ _ _ _ _ c.finish.ensures.finishes c.run_words-end.ensures.children
+returns-clause-children g c = cause_of_child _ _ _ _ _ _ _ _ c.finish.ensures.finishes (words_count _ c.args.env.now (surroundings (outside g.W.World g.S.Spawner c.args.world.now c.args.spawners.now.items) _) _ (outside g.W.World g.S.Spawner c.run_words-end.new.world c.run_words-end.new.spawners.items) _ _ c.run_words-end.ensures.refused c.run_words-end.ensures.does).children
 
 pub returns-clause-image : goal.returns-clause-image
 returns-clause-image g c = refused_each _ _ _ _ _ _ c.finish.ensures.finishes c.run_words-end.ensures.image

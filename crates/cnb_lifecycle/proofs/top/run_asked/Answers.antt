@@ -1,7 +1,7 @@
 use Rattle.std.proofs.Common.{refl}
 use Rattle.std.specs.Prelude.{OnErr}
 use Rattle.cnb_detect.specs.Outcome.{ComesTo}
-use Rattle.cnb_create.specs.Outcome.{ComesToChoice}
+use Rattle.cnb_create.specs.Headline.{ComesToImage}
 use Rattle.cnb_lifecycle.specs.Commands.{options_of_create, options_of_detect}
 use Rattle.cnb_lifecycle.specs.Faults.{of_detect}
 use Rattle.cnb_lifecycle.specs.Keeping.{KeepsCreated}
@@ -10,7 +10,6 @@ use Rattle.cnb_create.specs.Surroundings.{over_outside}
 use Rattle.cnb_lifecycle.specs.Telling.{tells}
 use Rattle.steps.specs.Outside.{seen}
 use Rattle.cnb_lifecycle.specs.declared.answer.Answer.TheVariants.{Printed}
-use Rattle.cnb_lifecycle.proofs.CauseLemmas.{known_children}
 use Rattle.cnb_lifecycle.proofs.EndLemmas.{arm, busy, choice_arm, known, lifted_caches, lifted_outside, lifted_world}
 use Rattle.cnb_lifecycle.proofs.KeepLemmas.{asked_for}
 use Rattle.cnb_lifecycle.proofs.top.run_asked.Goals as goal
@@ -55,9 +54,6 @@ returns-in-Show-clause-does g c = arm _ _ _ _ _ _ c.in-Show.is (lifted_world _ _
 pub returns-in-Drill-clause-does : goal.returns-in-Drill-clause-does
 returns-in-Drill-clause-does g c = arm _ _ _ _ _ _ c.in-Drill.is (known _ _ _ c.run_drill.ensures.text c.run_drill.ensures.memory)
 
-pub returns-in-Drill-clause-children : goal.returns-in-Drill-clause-children
-returns-in-Drill-clause-children g c = known_children _ _ _ c.run_drill.ensures.memory
-
 pub returns-in-Launch-clause-does : goal.returns-in-Launch-clause-does
 returns-in-Launch-clause-does g c = arm _ _ _ _ _ _ c.in-Launch.is (lifted_world _ _ _ _ _ _ c.run_launch.ensures.steps)
 
@@ -67,9 +63,9 @@ returns-in-Create-clause-does g c = arm _ _ _ _ _ _ c.in-Create.is c.run_create.
 pub returns-in-Create-clause-shelves : goal.returns-in-Create-clause-shelves
 returns-in-Create-clause-shelves g c = busy _ _ _ c.in-Create.is refl
 
-pub returns-in-Create-clause-chosen : goal.returns-in-Create-clause-chosen
-returns-in-Create-clause-chosen g c =
-    choice_arm options_of_create _ _ _ (λ options. tells Printed of_create (ComesToChoice options c.args.env.now)) _ _ _ c.in-Create.is refl c.run_create.ensures.chosen
+pub returns-in-Create-clause-headline : goal.returns-in-Create-clause-headline
+returns-in-Create-clause-headline g c =
+    choice_arm options_of_create _ _ _ (λ options. tells Printed of_create (ComesToImage options c.args.env.now)) _ _ _ c.in-Create.is refl c.run_create.ensures.headline
 
 pub returns-in-Create-clause-image : goal.returns-in-Create-clause-image
 returns-in-Create-clause-image g c =

@@ -4,7 +4,7 @@ use Rattle.std.specs.Prelude.{OnErr}
 use Rattle.std.proofs.lemmas.Result.{err_from_is_err_and}
 use Rattle.steps.specs.Causes.{OutOfMemory}
 use Rattle.cnb_detect.specs.Outcome.{ComesTo}
-use Rattle.cnb_create.specs.Outcome.{ComesToChoice}
+use Rattle.cnb_create.specs.Headline.{ComesToImage}
 use Rattle.cnb_lifecycle.specs.Commands.{options_of_create, options_of_detect}
 use Rattle.cnb_lifecycle.specs.Faults.{of_detect}
 use Rattle.cnb_lifecycle.specs.Keeping.{KeepsCreated}
@@ -13,7 +13,6 @@ use Rattle.cnb_create.specs.Surroundings.{over_outside}
 use Rattle.cnb_lifecycle.specs.Telling.{tells}
 use Rattle.steps.specs.Outside.{seen}
 use Rattle.cnb_lifecycle.specs.declared.answer.Answer.TheVariants.{Printed}
-use Rattle.cnb_lifecycle.proofs.CauseLemmas.{given_child, given_files}
 use Rattle.cnb_lifecycle.proofs.EndLemmas.{begun, choice_begun, early_choice, early_does, early_idle, early_refused, early_shelves, kept_shelves, not_refused}
 use Rattle.cnb_lifecycle.proofs.KeepLemmas.{nothing_done, words_ask}
 use Rattle.cnb_lifecycle.proofs.NumberLemmas.{all_stand}
@@ -40,23 +39,13 @@ returns-in_err-places-clause-outcome g c =
     let exit = err_from_is_err_and c.from_residual.result c.from_residual.ensures.1 in
     rw (exit.1, exit.2) (early_choice options_of_detect _ (λ options. over_outside (tells Printed of_detect (ComesTo options c.args.env.now))) _ _ _ _ tt tt)
 
-pub returns-in_err-places-clause-chosen : goal.returns-in_err-places-clause-chosen
-returns-in_err-places-clause-chosen g c =
+pub returns-in_err-places-clause-headline : goal.returns-in_err-places-clause-headline
+returns-in_err-places-clause-headline g c =
     let exit = err_from_is_err_and c.from_residual.result c.from_residual.ensures.1 in
-    rw (exit.1, exit.2) (early_choice options_of_create _ (λ options. tells Printed of_create (ComesToChoice options c.args.env.now)) _ _ _ _ tt tt)
+    rw (exit.1, exit.2) (early_choice options_of_create _ (λ options. tells Printed of_create (ComesToImage options c.args.env.now)) _ _ _ _ tt tt)
 
 pub returns-in_err-places-clause-shelves : goal.returns-in_err-places-clause-shelves
 returns-in_err-places-clause-shelves g c = early_shelves _ _ refl
-
-pub returns-in_err-places-clause-files : goal.returns-in_err-places-clause-files
-returns-in_err-places-clause-files g c =
-    let exit = err_from_is_err_and c.from_residual.result c.from_residual.ensures.1 in
-    rw (exit.1, exit.2) (given_files OutOfMemory _ tt)
-
-pub returns-in_err-places-clause-children : goal.returns-in_err-places-clause-children
-returns-in_err-places-clause-children g c =
-    let exit = err_from_is_err_and c.from_residual.result c.from_residual.ensures.1 in
-    rw (exit.1, exit.2) (given_child OutOfMemory _ _ tt)
 
 pub returns-in_err-asked-clause-refused : goal.returns-in_err-asked-clause-refused
 returns-in_err-asked-clause-refused g c =
@@ -76,23 +65,13 @@ returns-in_err-asked-clause-outcome g c =
     let exit = err_from_is_err_and c.from_residual-in_err-asked.result c.from_residual-in_err-asked.ensures.1 in
     rw (exit.1, exit.2) (early_choice options_of_detect _ (λ options. over_outside (tells Printed of_detect (ComesTo options c.args.env.now))) _ _ _ _ c.in_err-asked.ensures.command c.in_err-asked.ensures.cause)
 
-pub returns-in_err-asked-clause-chosen : goal.returns-in_err-asked-clause-chosen
-returns-in_err-asked-clause-chosen g c =
+pub returns-in_err-asked-clause-headline : goal.returns-in_err-asked-clause-headline
+returns-in_err-asked-clause-headline g c =
     let exit = err_from_is_err_and c.from_residual-in_err-asked.result c.from_residual-in_err-asked.ensures.1 in
-    rw (exit.1, exit.2) (early_choice options_of_create _ (λ options. tells Printed of_create (ComesToChoice options c.args.env.now)) _ _ _ _ c.in_err-asked.ensures.command c.in_err-asked.ensures.cause)
+    rw (exit.1, exit.2) (early_choice options_of_create _ (λ options. tells Printed of_create (ComesToImage options c.args.env.now)) _ _ _ _ c.in_err-asked.ensures.command c.in_err-asked.ensures.cause)
 
 pub returns-in_err-asked-clause-shelves : goal.returns-in_err-asked-clause-shelves
 returns-in_err-asked-clause-shelves g c = early_shelves _ _ refl
-
-pub returns-in_err-asked-clause-files : goal.returns-in_err-asked-clause-files
-returns-in_err-asked-clause-files g c =
-    let exit = err_from_is_err_and c.from_residual-in_err-asked.result c.from_residual-in_err-asked.ensures.1 in
-    rw (exit.1, exit.2) (given_files _ _ c.in_err-asked.ensures.cause)
-
-pub returns-in_err-asked-clause-children : goal.returns-in_err-asked-clause-children
-returns-in_err-asked-clause-children g c =
-    let exit = err_from_is_err_and c.from_residual-in_err-asked.result c.from_residual-in_err-asked.ensures.1 in
-    rw (exit.1, exit.2) (given_child _ _ _ c.in_err-asked.ensures.cause)
 
 pub returns-clause-refused : goal.returns-clause-refused
 returns-clause-refused g c = not_refused _ _ _ c.in_ok-asked.ensures.command
@@ -107,9 +86,9 @@ pub returns-clause-outcome : goal.returns-clause-outcome
 returns-clause-outcome g c =
     choice_begun _ _ (c.in_ok-places.ensures ∙ ap (range_with_len 0) (c.len.ensures ∙ c.args.shelves.now.ok.0)) _ _ _ _ _ _ options_of_detect _ _ (λ options. over_outside (tells Printed of_detect (ComesTo options c.args.env.now))) c.in_ok-asked.ensures.command c.run_asked.ensures.outcome
 
-pub returns-clause-chosen : goal.returns-clause-chosen
-returns-clause-chosen g c =
-    choice_begun _ _ (c.in_ok-places.ensures ∙ ap (range_with_len 0) (c.len.ensures ∙ c.args.shelves.now.ok.0)) _ _ _ _ _ _ options_of_create _ _ (λ options. tells Printed of_create (ComesToChoice options c.args.env.now)) c.in_ok-asked.ensures.command c.run_asked.ensures.chosen
+pub returns-clause-headline : goal.returns-clause-headline
+returns-clause-headline g c =
+    choice_begun _ _ (c.in_ok-places.ensures ∙ ap (range_with_len 0) (c.len.ensures ∙ c.args.shelves.now.ok.0)) _ _ _ _ _ _ options_of_create _ _ (λ options. tells Printed of_create (ComesToImage options c.args.env.now)) c.in_ok-asked.ensures.command c.run_asked.ensures.headline
 
 pub returns-clause-shelves : goal.returns-clause-shelves
 returns-clause-shelves g c = kept_shelves _ _ _ c.in_ok-asked.ensures.command c.run_asked.ensures.shelves
