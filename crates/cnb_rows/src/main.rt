@@ -5,11 +5,13 @@
 #![tactic(auto)]
 
 mod judging;
+mod lying;
 mod run;
 
 use cnb_host::{HostWorld, words};
 use cnb_world::Path;
 use judging::judge;
+use lying::judge_lies;
 use scenarios::{Fault, Fields, Scenarios, path_of};
 use std::alloc::Global;
 use std::env;
@@ -27,7 +29,7 @@ fn rows_folder(rt: &HostRuntime) -> Result<Path, Fault> {
     path_of(rt.alloc(), folder.as_str())
 }
 
-// What differs in a row and, where it says so, with each call failing in turn.
+// What differs in a row and, where it says so, with each call failing in turn, or over worlds that tell nothing.
 fn differences<R: Threads + Sync>(
     rt: &R,
     alloc: Global,
@@ -35,6 +37,9 @@ fn differences<R: Threads + Sync>(
     row: Fields,
 ) -> Result<String, Fault> {
     let chain = scenarios.chain(alloc, row)?;
+    if let Some(statuses) = row.text("over-liars") {
+        return judge_lies(rt, &chain, statuses);
+    }
     match row.fields("want") {
         Some(want) => judge(rt, &chain, want, row.is_set("every-call")),
         None => Err(Fault::wrong(alloc, "nothing is wanted of", row.text_or_empty("name"))),

@@ -1,7 +1,7 @@
 // One run of the top call in memory.
 use cnb_lifecycle::lifecycle;
-use cnb_world::Shelf;
-use scenarios::{Came, Chain, Fault, Outage, holdings};
+use cnb_world::{MemSpawner, Shelf, World};
+use scenarios::{Came, Chain, Fault, Outage, PieceSink, holdings};
 use std::thread::Threads;
 
 /// Runs the row, with one more call failing.
@@ -11,7 +11,14 @@ pub(crate) fn run<R: Threads + Sync>(rt: &R, chain: &Chain, outage: Outage) -> R
     for shelf in chain.mem_shelves(outage)? {
         shelves.push(Box::new(chain.alloc, shelf)?)?;
     }
-    came.status = call(rt, chain, &mut came, &mut shelves)?;
+    let Came {
+        out,
+        spawners,
+        world,
+        ..
+    } = &mut came;
+    let status = call(rt, chain, world, spawners, &mut shelves, out)?;
+    came.status = status;
     came.caches = holdings(chain.alloc, chain.trees, &mut shelves)?;
     Ok(came)
 }
@@ -27,26 +34,19 @@ fn not_yet_run(chain: &Chain, outage: Outage) -> Result<Came, Fault> {
     })
 }
 
-// The exit status.
-fn call<R: Threads + Sync>(
+/// The exit status of the row's words over a world.
+pub(crate) fn call<W: World, R: Threads + Sync>(
     rt: &R,
     chain: &Chain,
-    came: &mut Came,
+    world: &mut W,
+    spawners: &mut Vec<MemSpawner>,
     shelves: &mut Vec<Box<dyn Shelf>>,
+    out: &mut PieceSink,
 ) -> Result<u8, Fault> {
     let (words, env) = (chain.words()?, chain.environment()?);
-    if came.spawners.is_empty() || shelves.len() > 255 {
+    if spawners.is_empty() || shelves.len() > 255 {
         return Err(Fault::wrong(chain.alloc, "no run has", "such numbers"));
     }
-    let status = lifecycle(
-        rt,
-        chain.alloc,
-        &words,
-        &env,
-        &mut came.world,
-        &mut came.spawners,
-        shelves,
-        &mut came.out,
-    );
+    let status = lifecycle(rt, chain.alloc, &words, &env, world, spawners, shelves, out);
     Ok(status.code())
 }

@@ -29,7 +29,8 @@ impl Comparison<'_> {
         if !wanted.starts_with(ran.as_str()) {
             self.tell("ran with a failed call", &wanted, &ran)?;
         }
-        self.compare_partly(came, whole)
+        self.compare_partly(came, whole)?;
+        self.compare_kept(came)
     }
 
     /// Compares a run in which the text was cut: its status says so, and all else is as where it wasn't.
@@ -80,7 +81,19 @@ impl Comparison<'_> {
         dropped == 1
     }
 
-    // Compares what stands where a run came to a part of its work.
+    // Compares the paths that only a run without a failed call changes.
+    fn compare_kept(&mut self, came: &mut Came) -> Result<(), Fault> {
+        let after = Standing::of(self.alloc, &mut came.world)?;
+        for path in self.want.list("whole-alone") {
+            let path = text_of(path);
+            if !after.is_same_at(&self.before, path) {
+                self.tell(path, "as before", after.kind(path))?;
+            }
+        }
+        Ok(())
+    }
+
+    // Compares what is there where a run came to a part of its work.
     fn compare_partly(&mut self, came: &mut Came, whole: &Standing) -> Result<(), Fault> {
         let after = Standing::of(self.alloc, &mut came.world)?;
         let others = self.neither_as_before_nor_whole(&after, whole)?;

@@ -51,6 +51,7 @@ const SCENARIO: Form = Form {
         ("spawners", BYTE),
         ("failing", Shape::Form(&FAILING)),
         ("every-call", Shape::Flag),
+        ("over-liars", Shape::Text),
         ("want", Shape::Form(&WANT)),
     ],
 };
@@ -115,6 +116,7 @@ const WANT: Form = Form {
         ("stored", Shape::Text),
         ("shelves", Shape::List(&Shape::Form(&WANTED_SHELF))),
         ("partly", TEXTS),
+        ("whole-alone", TEXTS),
     ],
 };
 
