@@ -12,6 +12,7 @@ at=$room/at
 lifecycle=$room/lifecycle
 cp "${LIFECYCLE:-$samples/../bin/lifecycle}" "$lifecycle"
 unset CNB_PLATFORM_API
+allowed=20
 as_expected=0
 differing=0
 
@@ -41,11 +42,11 @@ judged() {
     fi
 }
 
-# expect NAME STATUS PRINTED STANDS COMMAND..: the command ends with this status within twenty seconds, prints these
+# expect NAME STATUS PRINTED STANDS COMMAND..: the command ends with this status within $allowed seconds, prints these
 # lines, and leaves what `stands` tells.
 expect() {
     local status=0
-    timeout 20 env "${@:5}" > "$room/printed" 2> "$room/said" < /dev/null || status=$?
+    timeout "$allowed" env "${@:5}" > "$room/printed" 2> "$room/said" < /dev/null || status=$?
     judged "$1" "$status" "$(tr -d '\0' < "$room/printed" | in_one_line)" "$(stands)" "$2" "$3" "$4"
 }
 

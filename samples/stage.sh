@@ -20,22 +20,26 @@ remember() { cp "$at/store/images/image.toml" "$room/image.old"; }
 # words_of COMMAND: its words over what stands in $at, in `words`.
 words_of() {
     local sources=(--buildpacks "$at/buildpacks" --app "$at/app" --platform "$at/platform")
-    local store=(--store "$at/store") work=(--work "$at/work") layers=(--layers "$at/layers") cache=(--cache "$at/cache")
-    local image=(--image image) run=(--run run) order=(--order "$at/order.toml") launcher=(--launcher "$at/launcher")
+    local of_store=(--store "$at/store") of_work=(--work "$at/work") of_layers=(--layers "$at/layers")
+    local of_cache=(--cache "$at/cache") of_image=(--image image) of_run=(--run run) of_order=(--order "$at/order.toml")
+    local of_launcher=(--launcher "$at/launcher")
     case $1 in
-        base) words=("${store[@]}" "${run[@]}" --os linux --arch amd64 --tree "$at/base") ;;
-        analyze) words=("${store[@]}" "${run[@]}" "${work[@]}" --previous image) ;;
-        detect) words=("${order[@]}" "${sources[@]}" "${work[@]}") ;;
-        restore) words=("${store[@]}" "${work[@]}" "${layers[@]}" "${cache[@]}") ;;
-        build) words=("${sources[@]}" "${work[@]}" "${layers[@]}") ;;
+        base) words=("${of_store[@]}" "${of_run[@]}" --os linux --arch amd64 --tree "$at/base") ;;
+        analyze) words=("${of_store[@]}" "${of_run[@]}" "${of_work[@]}" --previous image) ;;
+        detect) words=("${of_order[@]}" "${sources[@]}" "${of_work[@]}") ;;
+        restore) words=("${of_store[@]}" "${of_work[@]}" "${of_layers[@]}" "${of_cache[@]}") ;;
+        build) words=("${sources[@]}" "${of_work[@]}" "${of_layers[@]}") ;;
         export)
-            words=("${store[@]}" "${work[@]}" "${layers[@]}" --app "$at/app" "${launcher[@]}" "${image[@]}" "${cache[@]}")
+            words=("${of_store[@]}" "${of_work[@]}" "${of_layers[@]}" --app "$at/app" "${of_launcher[@]}" "${of_image[@]}"
+                "${of_cache[@]}")
             ;;
-        create) words=("${order[@]}" "${sources[@]}" "${work[@]}" "${layers[@]}" "${store[@]}" "${run[@]}" "${launcher[@]}"
-            "${image[@]}" "${cache[@]}") ;;
-        rebase) words=("${store[@]}" "${image[@]}" --run newer) ;;
-        unpack) words=("${store[@]}" "${image[@]}" --root "$at/root") ;;
-        show) words=("${store[@]}" "${image[@]}") ;;
+        create)
+            words=("${of_order[@]}" "${sources[@]}" "${of_work[@]}" "${of_layers[@]}" "${of_store[@]}" "${of_run[@]}"
+                "${of_launcher[@]}" "${of_image[@]}" "${of_cache[@]}")
+            ;;
+        rebase) words=("${of_store[@]}" "${of_image[@]}" --run newer) ;;
+        unpack) words=("${of_store[@]}" "${of_image[@]}" --root "$at/root") ;;
+        show) words=("${of_store[@]}" "${of_image[@]}") ;;
         launch) words=(--root "$at/root") ;;
     esac
     words=("$1" "${words[@]}")
