@@ -49,6 +49,11 @@ pub given_fault : {S E A : Type 0} (cause_of : E → Cause) (want : Result A E) 
 unfolding gives
 given_fault cause_of want old fault is cause = (refl, is, cause)
 
+-- an answer that is known, whatever it is
+pub answered : {S E A : Type 0} (cause_of : E → Cause) (want result : Result A E) (old : S) → IsAnswer cause_of result want → IfErr result (λ fault. IsGivenCause (cause_of fault)) → gives cause_of want old result old
+unfolding gives
+answered cause_of want result old answer cause = (refl, answer, cause)
+
 -- memory may run out at any such step
 pub no_memory : {S E A : Type 0} (cause_of : E → Cause) (want : Result A E) (old : S) (fault : E) → cause_of fault ≡ OutOfMemory → gives cause_of want old (Err fault) old
 unfolding gives
