@@ -12,7 +12,9 @@ use Rattle.bp_docs.specs.declared.descriptor.Body.TheVariants.{Component, Compos
 use Rattle.bp_docs.specs.declared.descriptor.Descriptor.{Descriptor}
 use Rattle.bp_docs.specs.declared.descriptor.Entry.{Entry}
 use Rattle.bp_docs.specs.declared.descriptor.Head.{Head}
+use Rattle.bp_docs.specs.declared.descriptor.TargetRule.{TargetRule}
 use Rattle.bp_docs.specs.Order.{order_at}
+use Rattle.bp_docs.specs.Targets.{targets_at}
 
 -- the table `buildpack`
 abbrev pub head_in : TableForm Head
@@ -21,17 +23,18 @@ head_in table = do
   clear_env ← truth_at (codes "clear-env") table
   Ok (record { key = key; clear_env = clear_env })
 
--- a buildpack without groups is a component
-abbrev pub body_of : Bool → List (List Entry) → Body
-body_of clear_env [] = Component clear_env
-body_of clear_env (group ∷ groups) = Composite (group ∷ groups)
+-- a buildpack without groups is a component; the targets of a composite have no effect
+abbrev pub body_of : Bool → List TargetRule → List (List Entry) → Body
+body_of clear_env targets [] = Component clear_env targets
+body_of clear_env targets (group ∷ groups) = Composite (group ∷ groups)
 
 -- a descriptor of this Buildpack API
 abbrev pub known_in : TableForm Descriptor
 known_in table = do
   head ← required_at (table_of head_in) (codes "buildpack") table
+  targets ← targets_at table
   order ← order_at table
-  Ok (record { key = head.key; body = body_of head.clear_env order })
+  Ok (record { key = head.key; body = body_of head.clear_env targets order })
 
 -- a descriptor of another one, of which nothing but its key is read
 abbrev pub foreign_in : List ℕ → TableForm Descriptor

@@ -1,3 +1,4 @@
 pub mod BuildPlan
 pub mod Descriptor
 pub mod Order
+pub mod Targets

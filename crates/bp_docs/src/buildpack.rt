@@ -4,10 +4,11 @@ ghost use Rattle.toml.specs.View.{table_view};
 ghost use Rattle.cnb_toml.specs.Reading.{Answers};
 ghost use Rattle.bp_docs.specs.Descriptor.{head_in, body_of, known_in, foreign_in, described_by, descriptor_at, descriptor_in};
 
-use crate::descriptor::{Body, Descriptor, Head, Order};
+use crate::descriptor::{Body, Descriptor, Head, Order, TargetRule};
 use crate::order::order_at;
+use crate::targets::targets_at;
 use cnb_toml::{Doc, DocFault, Key, TableForm, TableOf, is_served, required_at, truth_at};
-use cnb_world::Text;
+use cnb_world::{List, Text};
 use std::alloc::Global;
 use toml::Table;
 
@@ -23,11 +24,11 @@ impl TableForm for Head {
     }
 }
 
-fn body(clear_env: bool, order: Order) -> Body
-    ensures { result ≡ body_of clear_env order }
+fn body(clear_env: bool, targets: List<TargetRule>, order: Order) -> Body
+    ensures { result ≡ body_of clear_env targets order }
 {
     if order.as_slice().is_empty() {
-        Body::Component { clear_env }
+        Body::Component { clear_env, targets }
     } else {
         Body::Composite(order)
     }
@@ -37,11 +38,12 @@ fn known_in(alloc: Global, table: &Table) -> Result<Descriptor, DocFault>
     ensures { Answers result (known_in (table_view table.now)) }
 {
     let head = required_at::<TableOf<Head>>(alloc, table, "buildpack")?;
+    let targets = targets_at(alloc, table)?;
     let order = order_at(alloc, table)?;
     let Head { key, clear_env } = head;
     Ok(Descriptor {
         key,
-        body: body(clear_env, order),
+        body: body(clear_env, targets, order),
     })
 }
 

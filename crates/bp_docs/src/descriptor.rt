@@ -13,11 +13,22 @@ pub struct Entry {
 /// Groups, in the order in which they are tried.
 pub type Order = List<List<Entry>>;
 
+/// One of the targets of a component: the operating system and the architecture that an image has to have (buildpack.md,
+/// "buildpack.toml (TOML)", `targets`). What is none may be any.
+#[derive(Drop)]
+pub struct TargetRule {
+    pub os: Option<Text>,
+    pub arch: Option<Text>,
+}
+
 /// What a descriptor describes: a component buildpack, a composite one, or one of another Buildpack API, of which
 /// nothing else is known.
 #[derive(Drop)]
 pub enum Body {
-    Component { clear_env: bool },
+    Component {
+        clear_env: bool,
+        targets: List<TargetRule>,
+    },
     Composite(Order),
     Foreign(Text),
 }

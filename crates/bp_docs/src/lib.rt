@@ -5,8 +5,10 @@ mod build_plan;
 mod buildpack;
 mod descriptor;
 mod order;
+mod targets;
 
 pub use build_plan::{PlanOption, read_build_plan};
 pub use buildpack::read_buildpack;
-pub use descriptor::{Body, Descriptor, Entry, Order};
+pub use descriptor::{Body, Descriptor, Entry, Order, TargetRule};
 pub use order::read_order;
+pub use targets::{copy_rules, fits};
