@@ -8,13 +8,14 @@ use Rattle.bp_docs.specs.declared.descriptor.Entry.{Entry}
 use Rattle.bp_docs.specs.declared.descriptor.Body.{Body}
 use Rattle.bp_docs.specs.declared.descriptor.Body.TheVariants.{Component, Composite, Foreign}
 use Rattle.bp_docs.specs.declared.descriptor.Descriptor.{Descriptor}
+use Rattle.bp_docs.specs.declared.descriptor.TargetRule.{TargetRule}
 use Rattle.order_expand.specs.declared.member.Member.{Member}
 use Rattle.order_expand.specs.declared.begun.MemberComponent.{MemberComponent}
 use Rattle.order_expand.specs.declared.begun.Place.{Place}
 use Rattle.order_expand.specs.declared.begun.Place.TheVariants.{Entries, Groups, Nowhere}
 use Rattle.order_expand.specs.declared.begun.Begun.{Begun}
 use Rattle.order_expand.specs.Begun.{joined, IsEnd, groups_in, groups_later, groups_with, groups_of, groups_of_waiting}
-use Rattle.order_expand.specs.MemberComponent.{member_of, clears_env}
+use Rattle.order_expand.specs.MemberComponent.{member_of, clears_env, targets_of}
 use Rattle.order_expand.specs.Groups.{in_front, in_front_of, raw_groups, expanded}
 use Rattle.order_expand.specs.Steps.{body_steps, named_steps, entries_steps, order_steps, place_steps, later_steps, steps_of, steps_of_waiting}
 use Rattle.order_expand.proofs.Joined.{map_same, fold-snoc, joined-append, joined-one, joined-last, joined-assoc, one_member_more}
@@ -103,11 +104,11 @@ steps_of_waiting-snoc catalog waiting begun = fold-snoc (λ others begun. others
 
 -- ---- what an entry names
 
-pub component_met : (groups_of : List (List Entry) → List (List Member)) (entry : Entry) (found : Option Descriptor) (chosen : MemberComponent) (clear_env : Bool) (behind : List (List Member)) →
-    Some chosen.descriptor.now ≡ found → chosen.descriptor.now.body ≡ Component clear_env → chosen.optional ≡ entry.optional →
+pub component_met : (groups_of : List (List Entry) → List (List Member)) (entry : Entry) (found : Option Descriptor) (chosen : MemberComponent) (clear_env : Bool) (targets : List TargetRule) (behind : List (List Member)) →
+    Some chosen.descriptor.now ≡ found → chosen.descriptor.now.body ≡ Component clear_env targets → chosen.optional ≡ entry.optional →
     map (λ group. member_of chosen ∷ group) behind ≡ in_front_of groups_of entry found behind
-component_met groups_of entry found chosen clear_env behind n b o =
-    (λ i. map (λ group. record { key = chosen.descriptor.now.key; optional = o i; clear_env = clears_env (b i) } ∷ group) behind)
+component_met groups_of entry found chosen clear_env targets behind n b o =
+    (λ i. map (λ group. record { key = chosen.descriptor.now.key; optional = o i; clear_env = clears_env (b i); targets = targets_of (b i) } ∷ group) behind)
     ∙ (sym (ap (λ (body : Body). in_front groups_of entry chosen.descriptor.now.key body behind) b)
     ∙ ap (λ (d : Option Descriptor). in_front_of groups_of entry d behind) n)
 

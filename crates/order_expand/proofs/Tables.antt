@@ -42,10 +42,10 @@ table_push f table rows row t = ap (λ xs. xs ++ f row ∷ []) t ∙ sym (map-ap
 
 -- ---- an entry's groups by what it names
 
-pub component_in_front : (groups_of : List (List Entry) → List (List Member)) (entry : Entry) (o : Option Descriptor) (d : Descriptor) (clear_env : _) (groups : List (List Member)) (size : Size) →
-    Some d ≡ o → d.body ≡ Component clear_env → ((member : Member) → size ≡ size_of (map (λ group. member ∷ group) groups)) → size ≡ size_of (in_front_of groups_of entry o groups)
-component_in_front groups_of entry o d clear_env groups size n b each =
-    let member : Member = record { key = d.key; optional = entry.optional; clear_env = clear_env } in
+pub component_in_front : (groups_of : List (List Entry) → List (List Member)) (entry : Entry) (o : Option Descriptor) (d : Descriptor) (clear_env : _) (targets : _) (groups : List (List Member)) (size : Size) →
+    Some d ≡ o → d.body ≡ Component clear_env targets → ((member : Member) → size ≡ size_of (map (λ group. member ∷ group) groups)) → size ≡ size_of (in_front_of groups_of entry o groups)
+component_in_front groups_of entry o d clear_env targets groups size n b each =
+    let member : Member = record { key = d.key; optional = entry.optional; clear_env = clear_env; targets = targets } in
     subst (λ (o : Option Descriptor). size ≡ size_of (in_front_of groups_of entry o groups)) n
     (subst (λ (body : Body). size ≡ size_of (in_front groups_of entry d.key body groups)) (sym b) (each member))
 

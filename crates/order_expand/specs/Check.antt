@@ -14,7 +14,7 @@ use Rattle.order_expand.specs.Groups.{may_mean, named, raw_groups, listed_groups
 
 abbrev pub order_of_body : Body → List (List Entry)
 order_of_body (Composite order) = order
-order_of_body (Component clear_env) = []
+order_of_body (Component clear_env targets) = []
 order_of_body (Foreign api) = []
 
 abbrev pub entries_of : List (List Entry) → List Entry
@@ -47,7 +47,7 @@ met_entries catalog order =
 
 abbrev pub body_fault : Entry → Body → Option OrderFault
 body_fault entry (Foreign api) = Some (Api entry.id api)
-body_fault entry (Component clear_env) = None
+body_fault entry (Component clear_env targets) = None
 body_fault entry (Composite order) = None
 
 abbrev pub meaning_fault : Entry → List Descriptor → Option OrderFault

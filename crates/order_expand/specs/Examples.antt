@@ -11,7 +11,7 @@ abbrev pub key : ℕ → Key
 key letter = record { id = letter ∷ []; version = 49 ∷ [] }
 
 abbrev pub component : ℕ → Descriptor
-component letter = record { key = key letter; body = Component false }
+component letter = record { key = key letter; body = Component false [] }
 
 abbrev pub composite : ℕ → List (List Entry) → Descriptor
 composite letter order = record { key = key letter; body = Composite order }
@@ -27,10 +27,10 @@ abbrev pub entry_at : ℕ → ℕ → Entry
 entry_at letter version = record { id = letter ∷ []; version = Some (version ∷ []); optional = false }
 
 abbrev pub member : ℕ → Member
-member letter = record { key = key letter; optional = false; clear_env = false }
+member letter = record { key = key letter; optional = false; clear_env = false; targets = [] }
 
 abbrev pub optional_member : ℕ → Member
-optional_member letter = record { key = key letter; optional = true; clear_env = false }
+optional_member letter = record { key = key letter; optional = true; clear_env = false; targets = [] }
 
 -- an optional composite of two groups between a component and a composite of two: left out only after each of its groups
 abbrev catalog_of_eight : List Descriptor
@@ -52,7 +52,7 @@ an_optional_composite_in_a_composite = refl
 
 -- [a at 1, k], where k has [a at 2, b]: the later member of the id a is dropped
 pub the_first_of_one_id_stands : listed_groups
-    (component 97 ∷ record { key = record { id = 97 ∷ []; version = 50 ∷ [] }; body = Component false } ∷ component 98 ∷ composite 107 ((entry_at 97 50 ∷ entry 98 ∷ []) ∷ []) ∷ [])
+    (component 97 ∷ record { key = record { id = 97 ∷ []; version = 50 ∷ [] }; body = Component false [] } ∷ component 98 ∷ composite 107 ((entry_at 97 50 ∷ entry 98 ∷ []) ∷ []) ∷ [])
     ((entry_at 97 49 ∷ entry 107 ∷ []) ∷ [])
     ≡ map (map member) ((97 ∷ 98 ∷ []) ∷ [])
 unfolding listed_groups raw_groups
@@ -60,7 +60,7 @@ the_first_of_one_id_stands = refl
 
 -- an entry without a version names nothing where two versions are there
 pub a_version_is_not_guessed : listed_groups
-    (component 97 ∷ record { key = record { id = 97 ∷ []; version = 50 ∷ [] }; body = Component false } ∷ [])
+    (component 97 ∷ record { key = record { id = 97 ∷ []; version = 50 ∷ [] }; body = Component false [] } ∷ [])
     ((entry 97 ∷ []) ∷ [])
     ≡ []
 unfolding listed_groups raw_groups

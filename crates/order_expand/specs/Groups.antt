@@ -28,8 +28,8 @@ named catalog entry = the_only (filter (may_mean entry) catalog)
 -- The groups of an entry and of those behind it. A component stands in front of each. A composite is replaced by each of
 -- its own groups in turn, and where it is optional, by none of them last.
 abbrev pub in_front : (List (List Entry) → List (List Member)) → Entry → Key → Body → List (List Member) → List (List Member)
-in_front groups_of entry key (Component clear_env) behind =
-    map (λ group. record { key = key; optional = entry.optional; clear_env = clear_env } ∷ group) behind
+in_front groups_of entry key (Component clear_env targets) behind =
+    map (λ group. record { key = key; optional = entry.optional; clear_env = clear_env; targets = targets } ∷ group) behind
 in_front groups_of entry key (Composite order) behind =
     flat_map (λ front. map (λ group. front ++ group) behind) (groups_of order) ++ (if entry.optional then behind else [])
 in_front groups_of entry key (Foreign api) behind = []

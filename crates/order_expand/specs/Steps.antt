@@ -12,7 +12,7 @@ use Rattle.order_expand.specs.Groups.{named}
 
 -- The last number of each of these is that of the steps which follow behind a group.
 abbrev pub body_steps : (List (List Entry) → ℕ → ℕ) → Body → ℕ → ℕ
-body_steps order_steps (Component clear_env) behind = behind
+body_steps order_steps (Component clear_env targets) behind = behind
 body_steps order_steps (Composite order) behind = order_steps order behind
 body_steps order_steps (Foreign api) behind = 0
 

@@ -2,7 +2,7 @@
 ghost use Rattle.std.specs.Prelude.{◌≡◌, ◌++◌, ◌∷◌, [], if◌then◌else◌, IfOk, OnOk, OnErr, IsOk, MatchOption, map};
 ghost use Rattle.std.specs.List.{list_any};
 ghost use Rattle.order_expand.specs.Check.{checked};
-ghost use Rattle.order_expand.specs.MemberComponent.{member_of};
+ghost use Rattle.order_expand.specs.MemberComponent.{clears_env, member_of, targets_of};
 ghost use Rattle.order_expand.specs.Fingerprints.{member_fingerprint};
 ghost use Rattle.order_expand.specs.Groups.{distinct, same_id, listed_groups};
 
@@ -11,7 +11,7 @@ use crate::catalog::Catalog;
 use crate::fingerprints::fingerprint_of;
 use crate::member::{Group, Member};
 use crate::table::at;
-use bp_docs::{Body, Order};
+use bp_docs::{Body, Order, TargetRule, copy_rules};
 use cnb_world::{List, Memory};
 use std::alloc::Global;
 use std::marker::Model;
@@ -40,19 +40,35 @@ impl<'a> Model for Walk<'a> {
     ghost view = { λ walk. map (distinct same_id) (groups_left walk.catalog.now walk.current walk.waiting.items) };
 }
 
+fn clears_env(body: &Body) -> bool
+    ensures { result ≡ clears_env body.now }
+{
+    match body {
+        Body::Component { clear_env, .. } => *clear_env,
+        _ => false,
+    }
+}
+
+fn copy_targets(alloc: Global, body: &Body) -> Result<List<TargetRule>, Memory>
+    ensures { IfOk result (λ targets. targets ≡ targets_of body.now) }
+{
+    match body {
+        Body::Component { targets, .. } => copy_rules(alloc, targets),
+        _ => Ok(List::new(alloc)),
+    }
+}
+
 fn member(alloc: Global, chosen: &MemberComponent) -> Result<Member, Memory>
     ensures { IfOk result (λ member. member ≡ member_of chosen.now) }
 {
-    let key = chosen.descriptor.key.copy(alloc)?;
-    let clear_env = match &chosen.descriptor.body {
-        Body::Component { clear_env } => *clear_env,
-        _ => false,
-    };
-    let optional = chosen.optional;
+    let descriptor = chosen.descriptor;
+    let key = descriptor.key.copy(alloc)?;
+    let targets = copy_targets(alloc, &descriptor.body)?;
     Ok(Member {
         key,
-        optional,
-        clear_env,
+        optional: chosen.optional,
+        clear_env: clears_env(&descriptor.body),
+        targets,
     })
 }
 

@@ -24,14 +24,14 @@ returns-in_ok-add_member-in-Component-clause-ok c =
     let entry = c.args.entry.now in
     c.in_ok-add_member-in-Component.ensures.ok catalog
     ∙ ap (λ (groups : List (List Member)). groups_with catalog begun.members.items groups begun.later.items)
-    (component_met raw entry (named catalog entry) (record { descriptor = c.in-Some.found.descriptor; optional = entry.optional }) c.in-Component.clear_env (expanded raw catalog c.args.behind.now) c.in-Some.ensures.named c.in-Component.is refl)
+    (component_met raw entry (named catalog entry) (record { descriptor = c.in-Some.found.descriptor; optional = entry.optional }) c.in-Component.clear_env c.in-Component.targets (expanded raw catalog c.args.behind.now) c.in-Some.ensures.named c.in-Component.is refl)
 
 pub returns-in_ok-add_member-in-Component-clause-steps : goal.returns-in_ok-add_member-in-Component-clause-steps
 returns-in_ok-add_member-in-Component-clause-steps c =
     let catalog = c.args.catalog.now in
     let steps = order_steps c.args.levels catalog in
     let behind = entries_steps steps catalog c.args.behind.now (later_steps catalog c.args.begun.now.later.items) in
-    let met = steps_met steps (named catalog c.args.entry.now) c.in-Some.found.descriptor.now (Component c.in-Component.clear_env) behind c.in-Some.ensures.named c.in-Component.is in
+    let met = steps_met steps (named catalog c.args.entry.now) c.in-Some.found.descriptor.now (Component c.in-Component.clear_env c.in-Component.targets) behind c.in-Some.ensures.named c.in-Component.is in
     omega (arith, met, c.in_ok-add_member-in-Component.ensures.steps catalog)
 
 pub returns-in_ok-open_order-in-Composite-clause-ok : goal.returns-in_ok-open_order-in-Composite-clause-ok

@@ -9,7 +9,7 @@ use Rattle.order_expand.proofs.count.in_front.Goals as goal
 
 pub returns-in-Component : goal.returns-in-Component
 returns-in-Component c levels groups e f =
-    component_in_front (raw_groups levels c.args.catalog.now) c.args.entry.now (named c.args.catalog.now c.args.entry.now) c.in-Some.found.descriptor.now c.in-Component.clear_env groups c.with_member.result
+    component_in_front (raw_groups levels c.args.catalog.now) c.args.entry.now (named c.args.catalog.now c.args.entry.now) c.in-Some.found.descriptor.now c.in-Component.clear_env c.in-Component.targets groups c.with_member.result
     c.in-Some.ensures.named c.in-Component.is (λ member. c.with_member.ensures groups member f)
 
 pub returns-in-Composite : goal.returns-in-Composite
