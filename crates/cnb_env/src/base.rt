@@ -1,8 +1,10 @@
 // The environment that buildpacks' children begin with.
 ghost use Rattle.std.specs.Prelude.{◌≡◌, IfOk, OnErr, OnOk};
+ghost use Rattle.std.specs.Option.{option_copied};
 ghost use Rattle.cnb_world.specs.Env.{with_value};
-ghost use Rattle.cnb_env.specs.Base.{base_env};
+ghost use Rattle.cnb_env.specs.Base.{HasBegun, base_env, with_target};
 
+use cnb_toml::Target;
 use cnb_world::{Env, Memory, Path, Text};
 use std::alloc::Global;
 
@@ -29,4 +31,26 @@ pub fn set_path(alloc: Global, env: &mut Env, name: &str, path: &Path) -> Result
     let name = Text::of(alloc, name)?;
     let value = Text::of(alloc, path.as_str())?;
     env.set(name, value)
+}
+
+fn set_text(alloc: Global, env: &mut Env, name: &str, value: &Text) -> Result<(), Memory>
+    ensures set { OnOk result (env.new ≡ with_value name.now value.now env.old) }
+    ensures refused { OnErr result (env.new ≡ env.old) }
+{
+    let name = Text::of(alloc, name)?;
+    let value = value.copy(alloc)?;
+    env.set(name, value)
+}
+
+/// Sets the two variables of the image that is built for, where it is known: `CNB_TARGET_OS` and `CNB_TARGET_ARCH`
+/// (platform.md, "Targets").
+pub fn set_target(alloc: Global, env: &mut Env, target: Option<&Target>) -> Result<(), Memory>
+    ensures set { OnOk result (env.new ≡ with_target (option_copied target.entry) env.old) }
+    ensures refused { OnErr result (HasBegun (option_copied target.entry) env.old env.new) }
+{
+    if let Some(target) = target {
+        set_text(alloc, env, "CNB_TARGET_OS", &target.os)?;
+        set_text(alloc, env, "CNB_TARGET_ARCH", &target.arch)?;
+    }
+    Ok(())
 }

@@ -17,7 +17,7 @@ mod variables;
 
 pub use apply::apply_file;
 pub use apply_folder::env_folder;
-pub use base::{base_env, set_path};
+pub use base::{base_env, set_path, set_target};
 pub use build::build_env;
 pub use buildpack::{buildpack_folder, plan_name};
 pub use doc_files::ReadFault as EnvFault;
