@@ -1,16 +1,18 @@
 -- Answers that are kept from earlier groups are those that the definitions read.
 use Rattle.std.proofs.Common.{◌≡◌, ◌∙◌, refl, sym, ap, subst, inl, inr, ℕ, ◌+◌, Bool, true, false, cond, List, [], ◌∷◌, ◌++◌, map, length, arith}
 use Rattle.std.specs.Prelude.{◌&&◌, ◌||◌, if◌then◌else◌, Option, Some, None}
-use Rattle.std.specs.List.{list_any, list_all, filter_map, cons_option}
-use Rattle.std.proofs.lemmas.Bool.{false≢true, or_cases, or_left, or_right}
+use Rattle.std.specs.List.{filter, list_any, list_all, filter_map, cons_option}
+use Rattle.std.proofs.lemmas.Bool.{false≢true, or_cases}
 use Rattle.cnb_world.specs.Runs.{Ran}
+use Rattle.cnb_toml.specs.declared.target.Target.{Target}
 use Rattle.cnb_toml.specs.declared.names.Key.{Key}
 use Rattle.cnb_toml.specs.Keys.{same_key}
 use Rattle.order_expand.specs.declared.member.Member.{Member}
 use Rattle.detect_core.specs.declared.chosen.Verdict.{Verdict}
-use Rattle.detect_core.specs.Answer.{is_pass, alive_row, alive_of, key_of, recorded, answer_of, answer_or_error, build_plan, says}
-use Rattle.detect_core.specs.Detection.{Ending, ending_of_rows, ending_at, first_ending, reached, members_of}
+use Rattle.detect_core.specs.Answer.{is_pass, is_fit, where_fit, alive_row, alive_of, key_of, recorded, answer_of, answer_or_error, build_plan, says}
+use Rattle.detect_core.specs.Detection.{Ending, ending_of_rows, ending_at, first_ending, fitting, reached, members_of}
 use Rattle.detect_core.specs.Kept.{row_of, kept_for, verdict_or_error, verdict_for, kept_says}
+use Rattle.detect_core.proofs.FittingLemmas.{any_put, any_put_here, flat-fitting}
 use Rattle.detect_core.proofs.MemberLemmas.{same_key-same, any-met, keys_of_members, flat}
 
 -- what is kept of some children is what they recorded
@@ -23,8 +25,8 @@ kept-recorded (r ∷ ran) key =
       | false ↦ kept-recorded ran key
     ]
 
-pub kept_says-says : (ran : List Ran) → kept_says (map row_of ran) ≡ says build_plan ran
-kept_says-says ran = λ i member. kept-recorded ran member.key i
+pub kept_says-says : (target : Option Target) (ran : List Ran) → kept_says target (map row_of ran) ≡ says target build_plan ran
+kept_says-says target ran = λ i member. where_fit (is_fit target member) (kept-recorded ran member.key i)
 
 -- two ways of answering that agree on some members
 abbrev pub AgreeOn : (Member → Verdict) → (Member → Verdict) → List Member → Type 0
@@ -76,22 +78,29 @@ recorded_kept (ran ∷ rans) more key h = elim (or_cases (same_key key (key_of r
   | inr e ↦ ap (λ o. cond (same_key key (key_of ran)) (Some ran.probed) o) (recorded_kept rans more key e)
 ]
 
-agree_within : (known more : List Ran) (members : List Member) →
-    ((key : Key) → list_any (λ m. same_key key m.key) members ≡ true → list_any (same_key key) (map key_of known) ≡ true) →
-    AgreeOn (says build_plan (known ++ more)) (says build_plan known) members
-agree_within known more [] within = tt
-agree_within known more (m ∷ ms) within = (
-  ap (answer_or_error build_plan) (recorded_kept known more m.key
-      (within m.key (or_left (same_key m.key m.key) (list_any (λ n. same_key m.key n.key) ms) (same_key-same m.key m.key refl)))),
-  agree_within known more ms (λ key h. within key (or_right (same_key key m.key) (list_any (λ n. same_key key n.key) ms) h)),
-)
+fit_or_fail : (b : Bool) (v w : Verdict) → (b ≡ true → v ≡ w) → where_fit b v ≡ where_fit b w
+fit_or_fail true v w h = h refl
+fit_or_fail false v w h = refl
 
--- later answers change nothing for the groups whose members were all asked
-pub agree_kept : (known more : List Ran) (groups : List (List Member)) → map key_of known ≡ keys_of_members (members_of groups) →
-    AgreeOn (says build_plan (known ++ more)) (says build_plan known) (flat groups)
-agree_kept known more groups keys =
-    agree_within known more (flat groups)
-    (λ key h. subst (λ (ks : List Key). list_any (same_key key) ks ≡ true) (sym keys) (any-met key (flat groups) ∙ h))
+agree_within : (target : Option Target) (known more : List Ran) (members : List Member) →
+    ((key : Key) → list_any (λ m. same_key key m.key) (filter (is_fit target) members) ≡ true → list_any (same_key key) (map key_of known) ≡ true) →
+    AgreeOn (says target build_plan (known ++ more)) (says target build_plan known) members
+agree_within target known more [] within = tt
+agree_within target known more (m ∷ ms) within =
+    let kept = filter (is_fit target) ms in (
+      fit_or_fail (is_fit target m) (answer_or_error build_plan (recorded (known ++ more) m.key)) (answer_or_error build_plan (recorded known m.key))
+          (λ fit. ap (answer_or_error build_plan) (recorded_kept known more m.key
+          (within m.key (any_put_here (λ n. same_key m.key n.key) (is_fit target m) m kept fit (same_key-same m.key m.key refl))))),
+      agree_within target known more ms (λ key h. within key (any_put (λ n. same_key key n.key) (is_fit target m) m kept h)),
+    )
+
+-- later answers change nothing for the groups whose members for the target were all asked
+pub agree_kept : (target : Option Target) (known more : List Ran) (groups : List (List Member)) → map key_of known ≡ keys_of_members (members_of (fitting target groups)) →
+    AgreeOn (says target build_plan (known ++ more)) (says target build_plan known) (flat groups)
+agree_kept target known more groups keys =
+    agree_within target known more (flat groups)
+    (λ key h. subst (λ (ks : List Key). list_any (same_key key) ks ≡ true) (sym keys)
+    (any-met key (flat (fitting target groups)) ∙ (ap (list_any (λ m. same_key key m.key)) (flat-fitting target groups) ∙ h)))
 
 -- the end of a search over groups in two parts
 abbrev pub or_later : Option Ending → Option Ending → Option Ending

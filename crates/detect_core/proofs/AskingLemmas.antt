@@ -1,9 +1,10 @@
 -- What asking the members of a group comes to.
 use Rattle.std.proofs.Common.{◌≡◌, ◌∙◌, refl, sym, ap, subst, arith, ℕ, ◌+◌, ◌<◌, ◌≤◌, suc, Bool, true, false, cond, List, [], ◌∷◌, ◌++◌, map, take, drop, get_or, length, append_assoc, append-nil}
 use Rattle.std.specs.Prelude.{◌||◌, if◌then◌else◌, Some, Result, Ok, Err, OnErr}
-use Rattle.std.specs.List.{list_any}
+use Rattle.std.specs.List.{filter, list_any}
 use Rattle.std.specs.Option.{is_some}
 use Rattle.std.proofs.lemmas.List.{length-map, map-append, take_more}
+use Rattle.std.proofs.lemmas.List.Elements.{filter-append}
 use Rattle.std.proofs.Math.Seq.{drop-cons}
 use Rattle.std.proofs.lemmas.List.Folds.{list_any-append}
 use Rattle.std.proofs.lemmas.Bool.{cases_Bool}
@@ -23,6 +24,7 @@ use Rattle.detect_core.specs.Answer.{answer_of, build_plan}
 use Rattle.detect_core.specs.Job.{detect_job}
 use Rattle.detect_core.specs.Kept.{AnswerRow, row_of, keys_of, kept_for, has_key}
 use Rattle.detect_core.specs.Asking.{unmet, rows_of, AreNew, RunsAll, RunsSome}
+use Rattle.detect_core.proofs.LimitLemmas.{filter-le}
 use Rattle.detect_core.proofs.MemberLemmas.{keys_of_members}
 use Rattle.detect_core.proofs.OrderLemmas.{all_some}
 
@@ -64,16 +66,25 @@ unmet-append keys (x ∷ xs) ys =
     ]
 
 -- one more member of a group: what it adds
-pub more_unmet : {X : Type 0} (f : Member → X) (known : List Key) (group : List Member) (at : ℕ) (member : Member) (met : List Key) (xs more : List X)
-    → at < length group → member ≡ get_or group at member → met ≡ keys_of_members (unmet known (take at group)) → xs ≡ map f (unmet known (take at group))
-    → more ≡ xs ++ map f (unmet (known ++ met) (member ∷ [])) → more ≡ map f (unmet known (take (at + 1) group))
-more_unmet f known group at member met xs more lt is keys so_far added =
-    let front = take at group in
-    let one_more : take (at + 1) group ≡ front ++ member ∷ [] = take_more group at member lt ∙ ap (λ m. front ++ m ∷ []) (sym is) in
-    let parts : unmet known (take (at + 1) group) ≡ unmet known front ++ unmet (known ++ met) (member ∷ []) =
-    ap (unmet known) one_more ∙ (unmet-append known front (member ∷ []) ∙ ap (λ ks. unmet known front ++ unmet (known ++ ks) (member ∷ [])) (sym keys)) in
-    added ∙ (ap (λ ys. ys ++ map f (unmet (known ++ met) (member ∷ []))) so_far
-    ∙ sym (ap (map f) parts ∙ map-append f (unmet known front) (unmet (known ++ met) (member ∷ []))))
+pub more_unmet : {X : Type 0} (f : Member → X) (fit : Member → Bool) (known : List Key) (group : List Member) (at : ℕ) (member : Member) (met : List Key) (xs more : List X)
+    → at < length group → member ≡ get_or group at member → met ≡ keys_of_members (unmet known (filter fit (take at group))) → xs ≡ map f (unmet known (filter fit (take at group)))
+    → more ≡ xs ++ map f (unmet (known ++ met) (filter fit (member ∷ []))) → more ≡ map f (unmet known (filter fit (take (at + 1) group)))
+more_unmet f fit known group at member met xs more lt is keys so_far added =
+    let front = filter fit (take at group) in
+    let own = filter fit (member ∷ []) in
+    let one_more : filter fit (take (at + 1) group) ≡ front ++ own =
+    ap (filter fit) (take_more group at member lt ∙ ap (λ m. take at group ++ m ∷ []) (sym is)) ∙ filter-append fit (take at group) (member ∷ []) in
+    let parts : unmet known (filter fit (take (at + 1) group)) ≡ unmet known front ++ unmet (known ++ met) own =
+    ap (unmet known) one_more ∙ (unmet-append known front own ∙ ap (λ ks. unmet known front ++ unmet (known ++ ks) own) (sym keys)) in
+    added ∙ (ap (λ ys. ys ++ map f (unmet (known ++ met) own)) so_far
+    ∙ sym (ap (map f) parts ∙ map-append f (unmet known front) (unmet (known ++ met) own)))
+
+-- a member that is not for the target adds nothing, and another what it adds
+pub adds_no_fit : {X : Type 0} (f : Member → X) (fit : Member → Bool) (known : List Key) (member : Member) (xs : List X) → fit member ≡ false → xs ≡ xs ++ map f (unmet known (filter fit (member ∷ [])))
+adds_no_fit f fit known member xs h = sym (ap (λ (b : Bool). xs ++ map f (unmet known (cond b (member ∷ []) []))) h ∙ append-nil xs)
+
+pub one_fit : (fit : Member → Bool) (member : Member) → fit member ≡ true → member ∷ [] ≡ filter fit (member ∷ [])
+one_fit fit member h = sym (ap (λ (b : Bool). cond b (member ∷ []) []) h)
 
 -- a member that was met adds nothing, and another itself
 pub adds_none : {X : Type 0} (f : Member → X) (known : List Key) (member : Member) (xs : List X) → list_any (same_key member.key) known ≡ true → xs ≡ xs ++ map f (unmet known (member ∷ []))
@@ -159,7 +170,10 @@ unmet-long known (m ∷ members) = elim (list_any (same_key m.key) known) as (λ
   | false ↦ let r = unmet-long (known ++ m.key ∷ []) members in omega arith
 ]
 
-pub few_jobs : (frame : DetectFrame) (known : List Key) (members : List Member) (jobs : List DetectJob) → jobs ≡ map (detect_job frame) (unmet known members) → length members ≤ 256 → length jobs ≤ 256
-few_jobs frame known members jobs are few =
-    let long : length jobs ≡ length (unmet known members) = ap length are ∙ length-map (unmet known members) (detect_job frame) in
-    let le = unmet-long known members in omega arith
+pub few_jobs : (frame : DetectFrame) (fit : Member → Bool) (known : List Key) (members : List Member) (jobs : List DetectJob) → jobs ≡ map (detect_job frame) (unmet known (filter fit members))
+    → length members ≤ 256 → length jobs ≤ 256
+few_jobs frame fit known members jobs are few =
+    let long : length jobs ≡ length (unmet known (filter fit members)) = ap length are ∙ length-map (unmet known (filter fit members)) (detect_job frame) in
+    let le = unmet-long known (filter fit members) in
+    let less : length (filter fit members) ≤ length members = filter-le fit members in
+    omega arith

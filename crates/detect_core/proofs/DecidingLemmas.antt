@@ -1,11 +1,13 @@
 -- The answers of the buildpacks that have to be asked decide the choice.
-use Rattle.std.proofs.Common.{◌≡◌, refl, ap, subst, ℕ, ◌+◌, Bool, List, [], ◌∷◌, ◌++◌}
+use Rattle.std.proofs.Common.{◌≡◌, refl, ap, subst, ℕ, ◌+◌, Bool, true, false, cond, List, [], ◌∷◌, ◌++◌}
 use Rattle.std.specs.Prelude.{◌&&◌, ◌||◌, if◌then◌else◌, Option, Some, None}
-use Rattle.std.specs.List.{AllByRecursion, list_any, list_all, filter_map, cons_option}
+use Rattle.std.specs.List.{AllByRecursion, filter, list_any, list_all, filter_map, cons_option}
+use Rattle.cnb_toml.specs.declared.target.Target.{Target}
 use Rattle.order_expand.specs.declared.member.Member.{Member}
 use Rattle.detect_core.specs.declared.chosen.Verdict.{Verdict}
-use Rattle.detect_core.specs.Answer.{is_pass, alive_row, alive_of}
-use Rattle.detect_core.specs.Detection.{Ending, ending_of_rows, ending_at, first_ending, reached}
+use Rattle.detect_core.specs.Answer.{is_fit, is_pass, alive_row, alive_of, for_target, where_fit}
+use Rattle.detect_core.specs.Detection.{Ending, ending_of_rows, ending_at, first_ending, fitting, reached}
+use Rattle.detect_core.proofs.FittingLemmas.{flat-fitting}
 use Rattle.detect_core.proofs.MemberLemmas.{flat}
 
 abbrev Agree : (Member → Verdict) → (Member → Verdict) → List Member → Type 0
@@ -62,10 +64,26 @@ same_behind : (s t : Member → Verdict) (place : ℕ) (group : List Member) (gr
 same_behind s t place group groups (Some e) a rec = (refl, refl)
 same_behind s t place group groups None a rec = let r = rec a in (r.0, ap (λ gs. group ∷ gs) r.1)
 
-pub same_search : (s t : Member → Verdict) (place : ℕ) (groups : List (List Member)) → Agree s t (flat (reached s place groups)) → Same s t place groups
+same_search : (s t : Member → Verdict) (place : ℕ) (groups : List (List Member)) → Agree s t (flat (reached s place groups)) → Same s t place groups
 same_search s t place [] a = (refl, refl)
 same_search s t place (group ∷ groups) a =
     let later = flat (or_reached (ending_at s place group) (reached s (place + 1) groups)) in
     let here = ending_same s t place group (front s t group later a) in
     subst (λ p. Here s t place group groups (ending_at s place group) p) here
     (same_behind s t place group groups (ending_at s place group) (behind s t group later a) (same_search s t (place + 1) groups))
+
+fit_step : {P : Type 0} (s t : Member → Verdict) (b : Bool) (m : Member) (kept : List Member) → (Agree s t kept → P) → Agree s t (cond b (m ∷ kept) kept) → (where_fit b (s m) ≡ where_fit b (t m)) × P
+fit_step s t true m kept later a = (a.0, later a.1)
+fit_step s t false m kept later a = (refl, later a)
+
+agree_fit : (target : Option Target) (s t : Member → Verdict) (members : List Member) → Agree s t (filter (is_fit target) members) → Agree (for_target target s) (for_target target t) members
+agree_fit target s t [] a = tt
+agree_fit target s t (m ∷ ms) a = fit_step s t (is_fit target m) m (filter (is_fit target) ms) (agree_fit target s t ms) a
+
+-- members that are not for the target fail by all answers
+pub same_answers : (target : Option Target) (s t : Member → Verdict) (place : ℕ) (groups : List (List Member)) →
+    Agree s t (flat (fitting target (reached (for_target target s) place groups))) → Same (for_target target s) (for_target target t) place groups
+same_answers target s t place groups a =
+    same_search (for_target target s) (for_target target t) place groups
+    (agree_fit target s t (flat (reached (for_target target s) place groups))
+    (subst (Agree s t) (flat-fitting target (reached (for_target target s) place groups)) a))

@@ -7,6 +7,7 @@ pub mod AskingLemmas
 pub mod JudgingLemmas
 pub mod EndingLemmas
 pub mod MemberLemmas
+pub mod FittingLemmas
 pub mod AnswerLemmas
 pub mod SearchLemmas
 pub mod LimitLemmas

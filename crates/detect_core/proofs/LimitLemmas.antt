@@ -23,7 +23,7 @@ filter_step : {X : Type 0} (b : Bool) (x : X) (kept xs : List X) → length kept
 filter_step true x kept xs h = omega arith
 filter_step false x kept xs h = omega arith
 
-filter-le : {X : Type 0} (p : X → Bool) (xs : List X) → length (filter p xs) ≤ length xs
+pub filter-le : {X : Type 0} (p : X → Bool) (xs : List X) → length (filter p xs) ≤ length xs
 filter-le p [] = omega arith
 filter-le p (x ∷ xs) = filter_step (p x) x (filter p xs) xs (filter-le p xs)
 

@@ -1,11 +1,12 @@
 -- In whatever order the children of some spawners finished, they say the same.
 use Rattle.std.proofs.Common.{◌≡◌, ◌∙◌, refl, sym, ap, subst, arith, ℕ, ◌+◌, ◌≤◌, Bool, true, false, cond, not, List, [], ◌∷◌, ◌++◌, map, drop, length, inl, inr, append_assoc}
-use Rattle.std.specs.Prelude.{if◌then◌else◌, Some}
+use Rattle.std.specs.Prelude.{if◌then◌else◌, Option, Some}
 use Rattle.std.specs.List.{AllByRecursion, filter}
 use Rattle.std.proofs.lemmas.Bool.{cases_Bool}
 use Rattle.std.proofs.Math.Seq.{drop-append_seam}
 use Rattle.cnb_world.specs.Runs.{Ran}
 use Rattle.cnb_world.specs.declared.child.DetectJob.{DetectJob}
+use Rattle.cnb_toml.specs.declared.target.Target.{Target}
 use Rattle.cnb_toml.specs.declared.names.Key.{Key}
 use Rattle.cnb_toml.specs.Keys.{same_key}
 use Rattle.order_expand.specs.declared.member.Member.{Member}
@@ -13,7 +14,7 @@ use Rattle.order_expand.specs.Groups.{distinct}
 use Rattle.steps.specs.Asking.{AskedBy, AreSome, IsMadeOf, RunShares}
 use Rattle.steps.specs.Outside.{SpawnerSeen}
 use Rattle.detect_core.specs.declared.chosen.DetectFrame.{DetectFrame}
-use Rattle.detect_core.specs.Answer.{answer_or_error, build_plan, key_of, recorded, says}
+use Rattle.detect_core.specs.Answer.{answer_or_error, build_plan, is_fit, key_of, recorded, says, where_fit}
 use Rattle.detect_core.specs.Detection.{members_of, same_member}
 use Rattle.detect_core.specs.Job.{detect_job}
 use Rattle.detect_core.proofs.MemberLemmas.{flat, same_key-true}
@@ -117,15 +118,15 @@ recorded-made key (ran ∷ rans) shares (front, rest, back, is, made) once =
     ]
 
 -- where no buildpack has two children, any order of finishing says the same
-pub same_in_any_order : (first second : List Ran) (old new : List SpawnerSeen) → AskedBy first old new → AskedBy second old new → EachOnce first → says build_plan second ≡ says build_plan first
-same_in_any_order first second old new a b once =
+pub same_in_any_order : (target : Option Target) (first second : List Ran) (old new : List SpawnerSeen) → AskedBy first old new → AskedBy second old new → EachOnce first → says target build_plan second ≡ says target build_plan first
+same_in_any_order target first second old new a b once =
     let shares : b.shares ≡ a.shares = shares_since b.shares old new b.ran ∙ sym (shares_since a.shares old new a.ran) in
     let made : IsMadeOf second a.shares = subst (IsMadeOf second) shares b.made in
-    λ i member.
-    answer_or_error build_plan
+    λ i member. where_fit (is_fit target member)
+    (answer_or_error build_plan
     ((recorded-made member.key second a.shares made
     (let o = once member.key in omega (arith, made-weighs (of_key member.key) first a.shares a.made, made-weighs (of_key member.key) second a.shares made))
-    ∙ sym (recorded-made member.key first a.shares a.made (once member.key))) i)
+    ∙ sym (recorded-made member.key first a.shares a.made (once member.key))) i))
 
 -- ---- the members of the listed groups are of different buildpacks
 

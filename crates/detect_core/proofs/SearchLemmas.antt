@@ -1,7 +1,7 @@
 -- How a search goes on, group by group.
 use Rattle.std.proofs.Common.{◌≡◌, ◌∙◌, inl, inr, refl, sym, ap, subst, ℕ, ◌+◌, Bool, false, List, [], ◌∷◌, ◌++◌, map, length, append_assoc, append-nil, zero-add}
 use Rattle.std.specs.Prelude.{◌||◌, Option, Some, None, Result, Ok, Err}
-use Rattle.std.specs.List.{list_any}
+use Rattle.std.specs.List.{filter, list_any}
 use Rattle.std.proofs.lemmas.Grind.{flat_map-append}
 use Rattle.std.proofs.lemmas.List.{map-append}
 use Rattle.std.proofs.lemmas.List.Folds.{list_any-append}
@@ -18,9 +18,9 @@ use Rattle.detect_core.specs.declared.chosen.DetectEnd.TheVariants.{NoGroup, Man
 use Rattle.detect_core.specs.declared.chosen.DetectFrame.{DetectFrame}
 use Rattle.detect_core.specs.declared.chosen.Verdict.{Verdict}
 use Rattle.detect_core.specs.declared.judging.Judged.{Judged}
-use Rattle.detect_core.specs.Answer.{is_error, key_of, recorded, answer_or_error, build_plan, says}
+use Rattle.detect_core.specs.Answer.{is_error, is_fit, key_of, recorded, answer_or_error, build_plan, says}
 use Rattle.detect_core.specs.Asking.{unmet, RunsAll, RunsSome}
-use Rattle.detect_core.specs.Detection.{Ending, TooManyTrials, FirstTrial, ending_of_rows, ending_at, first_ending, reached, members_of}
+use Rattle.detect_core.specs.Detection.{Ending, TooManyTrials, FirstTrial, ending_of_rows, ending_at, first_ending, fitting, reached, members_of}
 use Rattle.detect_core.specs.Ending.{EndsGroup}
 use Rattle.detect_core.specs.Job.{detect_job}
 use Rattle.detect_core.specs.Judging.{IsJudged}
@@ -30,24 +30,25 @@ use Rattle.detect_core.specs.Searching.{IsSearch}
 use Rattle.detect_core.proofs.AskedLemmas.{asked_then}
 use Rattle.detect_core.proofs.AskingLemmas.{map-map, ran_keys}
 use Rattle.detect_core.proofs.AnswerLemmas.{kept_says-says, agree_kept, any_same, first_ending_same, or_later, or_reached, first_ending-append, reached-append}
+use Rattle.detect_core.proofs.FittingLemmas.{any_asked, fitting-append}
 use Rattle.detect_core.proofs.OrderLemmas.{all_some}
-use Rattle.detect_core.proofs.MemberLemmas.{any-distinct, keys_of_members, flat, members-push, members-front}
+use Rattle.detect_core.proofs.MemberLemmas.{keys_of_members, flat, members-push, members-front}
 
 -- A search that has asked and judged some groups, the first of which do not end it.
 pub record IsUnderWay (frame : DetectFrame) (asked done : List (List Member)) (old now : List SpawnerSeen) (kept : List AnswerRow) (erred : Bool) : Type 0 where
   pub ran : List Ran
   pub by : AskedBy ran old now
   pub rows : kept ≡ map row_of ran
-  pub jobs : map (λ r. r.job) ran ≡ map (detect_job frame) (members_of asked)
-  pub none : first_ending (says build_plan ran) 0 done ≡ None
-  pub errs : erred ≡ list_any (λ member. is_error (says build_plan ran member)) (flat asked)
+  pub jobs : map (λ r. r.job) ran ≡ map (detect_job frame) (members_of (fitting frame.target asked))
+  pub none : first_ending (says frame.target build_plan ran) 0 done ≡ None
+  pub errs : erred ≡ list_any (λ member. is_error (says frame.target build_plan ran member)) (flat asked)
 
 pub under_way_start : (frame : DetectFrame) (old : List SpawnerSeen) → IsUnderWay frame [] [] old old [] false
 under_way_start frame old = record { ran = []; by = asked_none old; rows = refl; jobs = refl; none = refl; errs = refl }
 
 -- a search that stopped for a child without an answer or for want of memory: some of the members' children were run
 abbrev pub IsStopped : DetectFrame → List (List Member) → List SpawnerSeen → List SpawnerSeen → Type 0
-IsStopped frame groups old new = RunsSome (map (detect_job frame) (members_of groups)) old new
+IsStopped frame groups old new = RunsSome (map (detect_job frame) (members_of (fitting frame.target groups))) old new
 
 -- the first jobs of some, and some of those behind them
 some_behind : (first some jobs : List DetectJob) → AreSome some jobs → AreSome (first ++ some) (first ++ jobs)
@@ -83,13 +84,21 @@ pub stopped_between : (frame : DetectFrame) (done left : List (List Member)) (ol
 stopped_between frame done left old now kept erred s = record {
   answers = s.ran;
   asked = s.by;
-  some = asks_first frame (done ++ left) (members_of done) (unmet (keys_of_members (members_of done)) (flat left)) s.ran (members-front done left) s.jobs;
+  some = asks_first frame (fitting frame.target (done ++ left)) (members_of (fitting frame.target done))
+      (unmet (keys_of_members (members_of (fitting frame.target done))) (flat (fitting frame.target left))) s.ran
+      (ap members_of (fitting-append frame.target done left) ∙ members-front (fitting frame.target done) (fitting frame.target left)) s.jobs;
 }
 
 module _ (frame : DetectFrame) (done : List (List Member)) (group : List Member) (left : List (List Member)) (r0 r1 : List SpawnerSeen) (k1 : List AnswerRow) (erred : Bool)
     (s : IsUnderWay frame done done r0 r1 k1 erred) where
+  abbrev fit_done : List (List Member)
+  fit_done = fitting frame.target done
+
+  abbrev own : List Member
+  own = filter (is_fit frame.target) group
+
   abbrev met : List Member
-  met = members_of done
+  met = members_of fit_done
 
   met_keys : keys_of k1 ≡ keys_of_members met
   met_keys = ap keys_of s.rows ∙ ran_keys frame met s.ran s.jobs
@@ -98,22 +107,23 @@ module _ (frame : DetectFrame) (done : List (List Member)) (group : List Member)
   answered_keys = sym (map-map (λ (row : AnswerRow). row.0) row_of s.ran) ∙ ran_keys frame met s.ran s.jobs
 
   -- some of the group's members were asked
-  pub stopped_in : (r2 : List SpawnerSeen) → RunsSome (map (detect_job frame) (unmet (keys_of k1) group)) r1 r2 → IsStopped frame (done ++ group ∷ left) r0 r2
+  pub stopped_in : (r2 : List SpawnerSeen) → RunsSome (map (detect_job frame) (unmet (keys_of k1) own)) r1 r2 → IsStopped frame (done ++ group ∷ left) r0 r2
   stopped_in r2 a =
-      let next = unmet (keys_of k1) group in
-      let behind = unmet (keys_of_members (members_of (done ++ group ∷ []))) (flat left) in
-      let parts : members_of (done ++ group ∷ left) ≡ met ++ (next ++ behind) =
-      ap members_of (sym (append_assoc done (group ∷ []) left))
-      ∙ (members-front (done ++ group ∷ []) left
-      ∙ (ap (λ ms. ms ++ behind) (members-push done group ∙ ap (λ ks. met ++ unmet ks group) (sym met_keys))
+      let next = unmet (keys_of k1) own in
+      let fit_left = fitting frame.target left in
+      let behind = unmet (keys_of_members (members_of (fit_done ++ own ∷ []))) (flat fit_left) in
+      let parts : members_of (fitting frame.target (done ++ group ∷ left)) ≡ met ++ (next ++ behind) =
+      ap members_of (fitting-append frame.target done (group ∷ left) ∙ sym (append_assoc fit_done (own ∷ []) fit_left))
+      ∙ (members-front (fit_done ++ own ∷ []) fit_left
+      ∙ (ap (λ ms. ms ++ behind) (members-push fit_done own ∙ ap (λ ks. met ++ unmet ks own) (sym met_keys))
       ∙ append_assoc met next behind)) in
       record {
         answers = s.ran ++ a.answers;
         asked = asked_then s.ran a.answers r0 r1 r2 s.by a.asked;
-        some = asks_some frame (done ++ group ∷ left) met next behind s.ran a.answers parts s.jobs a.some;
+        some = asks_some frame (fitting frame.target (done ++ group ∷ left)) met next behind s.ran a.answers parts s.jobs a.some;
       }
 
-  pub stopped_behind : (r2 : List SpawnerSeen) (k2 : List AnswerRow) → RunsAll frame (unmet (keys_of k1) group) r1 r2 k1 k2 → IsStopped frame (done ++ group ∷ left) r0 r2
+  pub stopped_behind : (r2 : List SpawnerSeen) (k2 : List AnswerRow) → RunsAll frame (unmet (keys_of k1) own) r1 r2 k1 k2 → IsStopped frame (done ++ group ∷ left) r0 r2
   stopped_behind r2 k2 a = stopped_in r2 record {
     answers = a.answers;
     asked = a.asked;
@@ -121,26 +131,27 @@ module _ (frame : DetectFrame) (done : List (List Member)) (group : List Member)
   }
 
   -- the whole group was asked and judged
-  pub asked_group : (r2 : List SpawnerSeen) (k2 : List AnswerRow) (judged : Judged) → RunsAll frame (unmet (keys_of k1) group) r1 r2 k1 k2 → IsJudged (kept_says k2) group judged →
+  pub asked_group : (r2 : List SpawnerSeen) (k2 : List AnswerRow) (judged : Judged) → RunsAll frame (unmet (keys_of k1) own) r1 r2 k1 k2 → IsJudged (kept_says frame.target k2) group judged →
       IsUnderWay frame (done ++ group ∷ []) done r0 r2 k2 (erred || judged.erred)
   asked_group r2 k2 judged a j =
       let new = a.answers in
       let ran = s.ran ++ new in
       let rows : k2 ≡ map row_of ran = a.kept ∙ (ap (λ ks. ks ++ map row_of new) s.rows ∙ sym (map-append row_of s.ran new)) in
-      let agree = agree_kept s.ran new done answered_keys in
-      let says_now : kept_says k2 ≡ says build_plan ran = ap kept_says rows ∙ kept_says-says ran in
+      let agree = agree_kept frame.target s.ran new done answered_keys in
+      let says_now : kept_says frame.target k2 ≡ says frame.target build_plan ran = ap (kept_says frame.target) rows ∙ kept_says-says frame.target ran in
       record {
         ran = ran;
         by = asked_then s.ran new r0 r1 r2 s.by a.asked;
         rows = rows;
         jobs = map-append (λ (r : Ran). r.job) s.ran new ∙ ((λ i. s.jobs i ++ a.jobs i)
-            ∙ (sym (map-append (detect_job frame) met (unmet (keys_of k1) group))
-            ∙ ap (map (detect_job frame)) (ap (λ ks. met ++ unmet ks group) met_keys ∙ sym (members-push done group))));
-        none = first_ending_same (says build_plan ran) (says build_plan s.ran) 0 done agree ∙ s.none;
-        errs = (λ i. (s.errs ∙ sym (any_same (λ m v. is_error v) (says build_plan ran) (says build_plan s.ran) (flat done) agree)) i
+            ∙ (sym (map-append (detect_job frame) met (unmet (keys_of k1) own))
+            ∙ ap (map (detect_job frame)) (ap (λ ks. met ++ unmet ks own) met_keys
+            ∙ (sym (members-push fit_done own) ∙ ap members_of (sym (fitting-append frame.target done (group ∷ [])))))));
+        none = first_ending_same (says frame.target build_plan ran) (says frame.target build_plan s.ran) 0 done agree ∙ s.none;
+        errs = (λ i. (s.errs ∙ sym (any_same (λ m v. is_error v) (says frame.target build_plan ran) (says frame.target build_plan s.ran) (flat done) agree)) i
             || (j.erred ∙ ap (λ (t : Member → Verdict). list_any (λ (m : Member). is_error (t m)) group) says_now) i)
-            ∙ (sym (list_any-append (λ (m : Member). is_error (says build_plan ran m)) (flat done) group)
-            ∙ ap (list_any (λ (m : Member). is_error (says build_plan ran m)))
+            ∙ (sym (list_any-append (λ (m : Member). is_error (says frame.target build_plan ran m)) (flat done) group)
+            ∙ ap (list_any (λ (m : Member). is_error (says frame.target build_plan ran m)))
             (sym (flat_map-append (λ (g : List Member). g) done (group ∷ []) ∙ ap (λ ms. flat done ++ ms) (append-nil group))));
       }
 
@@ -160,7 +171,7 @@ GroupLeads frame done group left r0 r2 k2 erred (Err end) = IsSearch frame (done
 module _ (frame : DetectFrame) (done : List (List Member)) (group : List Member) (left : List (List Member)) (r0 r2 : List SpawnerSeen) (k2 : List AnswerRow) (erred : Bool)
     (u : IsUnderWay frame (done ++ group ∷ []) done r0 r2 k2 erred) where
   abbrev say : Member → Verdict
-  say = says build_plan u.ran
+  say = says frame.target build_plan u.ran
 
   ending_after : (later : List (List Member)) → first_ending say 0 (done ++ group ∷ later) ≡ or_later (ending_at say (length done) group) (first_ending say (length done + 1) later)
   ending_after later = first_ending-append say 0 done (group ∷ later) u.none ∙ ap (λ p. first_ending say p (group ∷ later)) (zero-add (length done))
@@ -168,12 +179,16 @@ module _ (frame : DetectFrame) (done : List (List Member)) (group : List Member)
   reached_after : (later : List (List Member)) → reached say 0 (done ++ group ∷ later) ≡ done ++ group ∷ or_reached (ending_at say (length done) group) (reached say (length done + 1) later)
   reached_after later = reached-append say 0 done (group ∷ later) u.none ∙ ap (λ p. done ++ reached say p (group ∷ later)) (zero-add (length done))
 
-  asked_so_far : AreSome (map (λ r. r.job) u.ran) (map (detect_job frame) (members_of (done ++ group ∷ left)))
-  asked_so_far = asks_first frame (done ++ group ∷ left) (members_of (done ++ group ∷ [])) (unmet (keys_of_members (members_of (done ++ group ∷ []))) (flat left)) u.ran
-      (ap members_of (sym (append_assoc done (group ∷ []) left)) ∙ members-front (done ++ group ∷ []) left) u.jobs
+  asked_so_far : AreSome (map (λ r. r.job) u.ran) (map (detect_job frame) (members_of (fitting frame.target (done ++ group ∷ left))))
+  asked_so_far =
+      let so_far = fitting frame.target (done ++ group ∷ []) in
+      let fit_left = fitting frame.target left in
+      asks_first frame (fitting frame.target (done ++ group ∷ left)) (members_of so_far) (unmet (keys_of_members (members_of so_far)) (flat fit_left)) u.ran
+      (ap (λ gs. members_of (fitting frame.target gs)) (sym (append_assoc done (group ∷ []) left))
+      ∙ (ap members_of (fitting-append frame.target (done ++ group ∷ []) left) ∙ members-front so_far fit_left)) u.jobs
 
-  all_keys : keys_of k2 ≡ keys_of_members (members_of (done ++ group ∷ []))
-  all_keys = ap keys_of u.rows ∙ ran_keys frame (members_of (done ++ group ∷ [])) u.ran u.jobs
+  all_keys : keys_of k2 ≡ keys_of_members (members_of (fitting frame.target (done ++ group ∷ [])))
+  all_keys = ap keys_of u.rows ∙ ran_keys frame (members_of (fitting frame.target (done ++ group ∷ []))) u.ran u.jobs
 
   ends_with : (r : Result Chosen DetectEnd) (ending : Ending) → ending_at say (length done) group ≡ Some ending →
       ((b : Bool) → DetectsAs r (Some ending) (keys_of k2) b) → IsSearch frame (done ++ group ∷ left) r0 r2 r
@@ -182,16 +197,16 @@ module _ (frame : DetectFrame) (done : List (List Member)) (group : List Member)
       reached_after left ∙ ap (λ o. done ++ group ∷ or_reached o (reached say (length done + 1) left)) e in
       let first : first_ending say 0 (done ++ group ∷ left) ≡ Some ending =
       ending_after left ∙ ap (λ o. or_later o (first_ending say (length done + 1) left)) e in
-      let keys : keys_of_members (members_of (reached say 0 (done ++ group ∷ left))) ≡ keys_of k2 =
-      ap (λ gs. keys_of_members (members_of gs)) whole ∙ sym all_keys in
-      let told = list_any (λ (m : Member). is_error (say m)) (members_of (reached say 0 (done ++ group ∷ left))) in
+      let keys : keys_of_members (members_of (fitting frame.target (reached say 0 (done ++ group ∷ left)))) ≡ keys_of k2 =
+      ap (λ gs. keys_of_members (members_of (fitting frame.target gs))) whole ∙ sym all_keys in
+      let told = list_any (λ (m : Member). is_error (say m)) (members_of (fitting frame.target (reached say 0 (done ++ group ∷ left)))) in
       record {
         answers = u.ran;
         asked_by = u.by;
         some = asked_so_far;
-        asked = on_detected r (u.jobs ∙ ap (λ gs. map (detect_job frame) (members_of gs)) (sym whole));
+        asked = on_detected r (u.jobs ∙ ap (λ gs. map (detect_job frame) (members_of (fitting frame.target gs))) (sym whole));
         detects =
-            subst (λ (o : Option Ending). DetectsAs r o (keys_of_members (members_of (reached say 0 (done ++ group ∷ left)))) told) (sym first)
+            subst (λ (o : Option Ending). DetectsAs r o (keys_of_members (members_of (fitting frame.target (reached say 0 (done ++ group ∷ left))))) told) (sym first)
             (subst (λ (ks : List Key). DetectsAs r (Some ending) ks told) (sym keys) (d told));
       }
 
@@ -215,29 +230,30 @@ module _ (frame : DetectFrame) (done : List (List Member)) (group : List Member)
   leads_by (Err (NoGroup told)) o e h = absurd h
   leads_by (Err Child) o e h = absurd h
 
-  pub group_leads : (r : Result (Option Chosen) DetectEnd) (place : ℕ) (judged : Judged) → place ≡ length done → IsJudged (kept_says k2) group judged →
+  pub group_leads : (r : Result (Option Chosen) DetectEnd) (place : ℕ) (judged : Judged) → place ≡ length done → IsJudged (kept_says frame.target k2) group judged →
       EndsGroup r (ending_of_rows place judged.alive) (keys_of k2) → GroupLeads frame done group left r0 r2 k2 erred r
   group_leads r place judged at j h =
       let is : ending_at say (length done) group ≡ ending_of_rows place judged.alive =
       sym (ap (ending_of_rows place) j.alive
-      ∙ (λ i. ending_at ((ap kept_says u.rows ∙ kept_says-says u.ran) i) (at i) group)) in
+      ∙ (λ i. ending_at ((ap (kept_says frame.target) u.rows ∙ kept_says-says frame.target u.ran) i) (at i) group)) in
       leads_by r (ending_of_rows place judged.alive) is h
 
 -- all groups were gone through, and none ends the search
 pub no_group : (frame : DetectFrame) (groups : List (List Member)) (r0 r1 : List SpawnerSeen) (kept : List AnswerRow) (erred : Bool) →
     IsUnderWay frame groups groups r0 r1 kept erred → IsSearch frame groups r0 r1 (Err (NoGroup erred))
 no_group frame groups r0 r1 kept erred u =
-    let say = says build_plan u.ran in
+    let say = says frame.target build_plan u.ran in
     let whole : reached say 0 groups ≡ groups =
     subst (λ (gs : List (List Member)). reached say 0 gs ≡ gs) (append-nil groups) (reached-append say 0 groups [] u.none) in
-    let told : erred ≡ list_any (λ m. is_error (say m)) (members_of (reached say 0 groups)) =
-    u.errs ∙ (sym (any-distinct (λ m. is_error (say m)) (λ a b e. ap (λ (key : Key). is_error (answer_or_error build_plan (recorded u.ran key))) e) (flat groups)) ∙ ap (λ gs. list_any (λ m. is_error (say m)) (members_of gs)) (sym whole)) in
+    let told : erred ≡ list_any (λ m. is_error (say m)) (members_of (fitting frame.target (reached say 0 groups))) =
+    u.errs ∙ (sym (any_asked frame.target (λ m. answer_or_error build_plan (recorded u.ran m.key)) (λ a b e. ap (λ (key : Key). answer_or_error build_plan (recorded u.ran key)) e) groups)
+    ∙ ap (λ gs. list_any (λ m. is_error (say m)) (members_of (fitting frame.target gs))) (sym whole)) in
     record {
       answers = u.ran;
       asked_by = u.by;
-      some = asks_first frame groups (members_of groups) [] u.ran (sym (append-nil (members_of groups))) u.jobs;
-      asked = u.jobs ∙ ap (λ gs. map (detect_job frame) (members_of gs)) (sym whole);
-      detects = subst (λ (o : Option Ending). DetectsAs (Err (NoGroup erred)) o (keys_of_members (members_of (reached say 0 groups))) (list_any (λ m. is_error (say m)) (members_of (reached say 0 groups))))
+      some = asks_first frame (fitting frame.target groups) (members_of (fitting frame.target groups)) [] u.ran (sym (append-nil (members_of (fitting frame.target groups)))) u.jobs;
+      asked = u.jobs ∙ ap (λ gs. map (detect_job frame) (members_of (fitting frame.target gs))) (sym whole);
+      detects = subst (λ (o : Option Ending). DetectsAs (Err (NoGroup erred)) o (keys_of_members (members_of (fitting frame.target (reached say 0 groups)))) (list_any (λ m. is_error (say m)) (members_of (fitting frame.target (reached say 0 groups)))))
           (sym u.none) told;
     }
 

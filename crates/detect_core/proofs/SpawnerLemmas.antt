@@ -13,7 +13,7 @@ use Rattle.detect_core.specs.declared.chosen.DetectEnd.{DetectEnd}
 use Rattle.detect_core.specs.declared.chosen.DetectFrame.{DetectFrame}
 use Rattle.detect_core.specs.declared.chosen.Verdict.{Verdict}
 use Rattle.detect_core.specs.Answer.{build_plan, says}
-use Rattle.detect_core.specs.Detection.{first_trial, asked_members, asked_keys, has_erred}
+use Rattle.detect_core.specs.Detection.{first_trial, asked_members, asked_keys, fitting, has_erred}
 use Rattle.detect_core.specs.Job.{detect_job}
 use Rattle.detect_core.specs.Search.{DetectsAs, OnDetected, RunsAsked}
 use Rattle.detect_core.specs.Searching.{IsSearch}
@@ -22,8 +22,8 @@ use Rattle.detect_core.proofs.OrderLemmas.{same_in_any_order, each_once}
 
 -- the answer and the children of a detection that ran these
 pub record IsDetection (frame : DetectFrame) (catalog : List Descriptor) (order : List (List Entry)) (ran : List Ran) (result : Result Chosen DetectEnd) : Type 0 where
-  pub detects : DetectsAs result (first_trial (says build_plan ran) catalog order) (asked_keys (says build_plan ran) catalog order) (has_erred (says build_plan ran) catalog order)
-  pub asked : OnDetected result (map (λ r. r.job) ran ≡ map (detect_job frame) (asked_members (says build_plan ran) catalog order))
+  pub detects : DetectsAs result (first_trial (says frame.target build_plan ran) catalog order) (asked_keys frame.target (says frame.target build_plan ran) catalog order) (has_erred frame.target (says frame.target build_plan ran) catalog order)
+  pub asked : OnDetected result (map (λ r. r.job) ran ≡ map (detect_job frame) (asked_members frame.target (says frame.target build_plan ran) catalog order))
 
 module _ (frame : DetectFrame) (catalog : List Descriptor) (order : List (List Entry)) (old new : List SpawnerSeen) (result : Result Chosen DetectEnd)
     (s : IsSearch frame (listed_groups catalog order) old new result) where
@@ -35,7 +35,7 @@ module _ (frame : DetectFrame) (catalog : List Descriptor) (order : List (List E
   asked_so = record { answers = s.answers; asked = s.asked_by; exactly = detection_of.asked; some = on_err result s.some }
 
   pub detected_so : (finished : List Ran) → AskedBy finished old new →
-      DetectsAs result (first_trial (says build_plan finished) catalog order) (asked_keys (says build_plan finished) catalog order) (has_erred (says build_plan finished) catalog order)
+      DetectsAs result (first_trial (says frame.target build_plan finished) catalog order) (asked_keys frame.target (says frame.target build_plan finished) catalog order) (has_erred frame.target (says frame.target build_plan finished) catalog order)
   detected_so finished asked =
-      subst (λ (say : Member → Verdict). DetectsAs result (first_trial say catalog order) (asked_keys say catalog order) (has_erred say catalog order))
-      (sym (same_in_any_order s.answers finished old new s.asked_by asked (each_once frame (listed_groups catalog order) s.answers s.some))) detection_of.detects
+      subst (λ (say : Member → Verdict). DetectsAs result (first_trial say catalog order) (asked_keys frame.target say catalog order) (has_erred frame.target say catalog order))
+      (sym (same_in_any_order frame.target s.answers finished old new s.asked_by asked (each_once frame (fitting frame.target (listed_groups catalog order)) s.answers s.some))) detection_of.detects

@@ -1,6 +1,7 @@
 -- One turn of the search: the next group is asked, judged, and ends the search or not.
 use Rattle.std.proofs.Common.{◌≡◌, ◌∙◌, refl, sym, ap, subst, ℕ, ◌+◌, ◌<◌, ◌≤◌, ◌^◌, Bool, false, List, [], ◌∷◌, ◌++◌, map, length, arith, append_assoc, append-nil, length-append}
 use Rattle.std.specs.Prelude.{◌||◌, Option, Some, None, IfSome, Result, Ok, Err, IsErrAnd}
+use Rattle.std.specs.List.{filter}
 use Rattle.steps.specs.Outside.{SpawnerSeen}
 use Rattle.ticket_pool.specs.declared.fault.PoolFault.{PoolFault}
 use Rattle.ticket_pool.specs.declared.fault.PoolFault.TheVariants as pool
@@ -11,6 +12,7 @@ use Rattle.detect_core.specs.declared.chosen.DetectEnd.TheVariants.{NoGroup}
 use Rattle.detect_core.specs.declared.chosen.DetectFrame.{DetectFrame}
 use Rattle.detect_core.specs.declared.judging.Judged.{Judged}
 use Rattle.detect_core.specs.Kept.{AnswerRow}
+use Rattle.detect_core.specs.Answer.{is_fit}
 use Rattle.detect_core.specs.Asking.{unmet, RunsAll, RunsSome}
 use Rattle.detect_core.specs.Detection.{ending_of_rows}
 use Rattle.detect_core.specs.Ending.{EndsGroup}
@@ -54,19 +56,19 @@ module _ (frame : DetectFrame) (listed left : List (List Member)) (place : ℕ) 
     whole = ap (λ gs. s.done ++ gs) (sym next) ∙ sym s.parts
 
     -- a failed spawner, or no memory
-    pub stopped_asking : (asked : List Member) (r2 : List SpawnerSeen) → asked ≡ group → RunsSome (map (detect_job frame) (unmet (keys_of k1) asked)) r1 r2 → IsStopped frame listed r0 r2
+    pub stopped_asking : (asked : List Member) (r2 : List SpawnerSeen) → asked ≡ group → RunsSome (map (detect_job frame) (unmet (keys_of k1) (filter (is_fit frame.target) asked))) r1 r2 → IsStopped frame listed r0 r2
     stopped_asking asked r2 is a =
         subst (λ (gs : List (List Member)). IsStopped frame gs r0 r2) whole
-        (stopped_in frame s.done group later r0 r1 k1 erred s.under_way r2 (subst (λ (ms : List Member). RunsSome (map (detect_job frame) (unmet (keys_of k1) ms)) r1 r2) is a))
+        (stopped_in frame s.done group later r0 r1 k1 erred s.under_way r2 (subst (λ (ms : List Member). RunsSome (map (detect_job frame) (unmet (keys_of k1) (filter (is_fit frame.target) ms))) r1 r2) is a))
 
-    pub stopped_asked : (asked : List Member) (r2 : List SpawnerSeen) (k2 : List AnswerRow) → asked ≡ group → RunsAll frame (unmet (keys_of k1) asked) r1 r2 k1 k2 → IsStopped frame listed r0 r2
+    pub stopped_asked : (asked : List Member) (r2 : List SpawnerSeen) (k2 : List AnswerRow) → asked ≡ group → RunsAll frame (unmet (keys_of k1) (filter (is_fit frame.target) asked)) r1 r2 k1 k2 → IsStopped frame listed r0 r2
     stopped_asked asked r2 k2 is a =
         subst (λ (gs : List (List Member)). IsStopped frame gs r0 r2) whole
-        (stopped_behind frame s.done group later r0 r1 k1 erred s.under_way r2 k2 (subst (λ (ms : List Member). RunsAll frame (unmet (keys_of k1) ms) r1 r2 k1 k2) is a))
+        (stopped_behind frame s.done group later r0 r1 k1 erred s.under_way r2 k2 (subst (λ (ms : List Member). RunsAll frame (unmet (keys_of k1) (filter (is_fit frame.target) ms)) r1 r2 k1 k2) is a))
 
-    pub short_rows : (judged_group : List Member) (k2 : List AnswerRow) (judged : Judged) → AreWithin listed → judged_group ≡ group → IsJudged (kept_says k2) judged_group judged → IfSome judged.alive (λ rows. length rows < 2 ^ 32)
+    pub short_rows : (judged_group : List Member) (k2 : List AnswerRow) (judged : Judged) → AreWithin listed → judged_group ≡ group → IsJudged (kept_says frame.target k2) judged_group judged → IfSome judged.alive (λ rows. length rows < 2 ^ 32)
     short_rows judged_group k2 judged w is j =
-        judged_rows (kept_says k2) judged_group judged j
+        judged_rows (kept_says frame.target k2) judged_group judged j
         (subst (λ (ms : List Member). length ms ≤ 256) (sym is) (within_group s.done group later (subst AreWithin (sym whole) w)))
 
     pub few_members : (asked : List Member) → AreWithin listed → asked ≡ group → length asked ≤ 256
@@ -95,11 +97,11 @@ module _ (frame : DetectFrame) (listed left : List (List Member)) (place : ℕ) 
     lead r2 k2 erred' (Err end) u = subst (λ (gs : List (List Member)). IsSearch frame gs r0 r2 (Err end)) whole u
 
     pub turn : (asked judged_group : List Member) (r2 : List SpawnerSeen) (k2 : List AnswerRow) (judged : Judged) (erred' : Bool) (r : Result (Option Chosen) DetectEnd) →
-        asked ≡ group → judged_group ≡ group → RunsAll frame (unmet (keys_of k1) asked) r1 r2 k1 k2 → IsJudged (kept_says k2) judged_group judged →
+        asked ≡ group → judged_group ≡ group → RunsAll frame (unmet (keys_of k1) (filter (is_fit frame.target) asked)) r1 r2 k1 k2 → IsJudged (kept_says frame.target k2) judged_group judged →
         erred' ≡ (erred || judged.erred) → EndsGroup r (ending_of_rows place judged.alive) (keys_of k2) → Leads r2 k2 erred' r
     turn asked judged_group r2 k2 judged erred' r is_asked is_judged a j errs h =
-        let a' = subst (λ (ms : List Member). RunsAll frame (unmet (keys_of k1) ms) r1 r2 k1 k2) is_asked a in
-        let j' = subst (λ (ms : List Member). IsJudged (kept_says k2) ms judged) is_judged j in
+        let a' = subst (λ (ms : List Member). RunsAll frame (unmet (keys_of k1) (filter (is_fit frame.target) ms)) r1 r2 k1 k2) is_asked a in
+        let j' = subst (λ (ms : List Member). IsJudged (kept_says frame.target k2) ms judged) is_judged j in
         let u = subst (λ (b : Bool). IsUnderWay frame (s.done ++ group ∷ []) s.done r0 r2 k2 b) (sym errs)
         (asked_group frame s.done group later r0 r1 k1 erred s.under_way r2 k2 judged a' j') in
         lead r2 k2 erred' r (group_leads frame s.done group later r0 r2 k2 erred' u r place judged s.at j' h)

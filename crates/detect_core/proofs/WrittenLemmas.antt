@@ -8,6 +8,7 @@ use Rattle.std.proofs.lemmas.List.Folds.{list_all-map}
 use Rattle.cnb_world.specs.declared.child.Probed.{Probed}
 use Rattle.cnb_world.specs.Runs.{Ran}
 use Rattle.cnb_toml.specs.declared.fault.DocFault.{DocFault}
+use Rattle.cnb_toml.specs.declared.target.Target.{Target}
 use Rattle.cnb_toml.specs.declared.names.Key.{Key}
 use Rattle.bp_docs.specs.declared.build_plan.PlanOption.{PlanOption}
 use Rattle.bp_docs.specs.declared.descriptor.Entry.{Entry}
@@ -33,7 +34,7 @@ use Rattle.detect_core.specs.declared.chosen.DetectEnd.{DetectEnd}
 use Rattle.detect_core.specs.declared.chosen.DetectFrame.{DetectFrame}
 use Rattle.detect_core.specs.declared.chosen.Verdict.{Verdict}
 use Rattle.detect_core.specs.declared.chosen.Verdict.TheVariants.{Pass, Fail, Error}
-use Rattle.detect_core.specs.Answer.{build_plan, pass_or_error, answer_by, recorded, answer_or_error, says, is_pass, alive_row}
+use Rattle.detect_core.specs.Answer.{build_plan, pass_or_error, answer_by, recorded, answer_or_error, is_fit, says, is_pass, alive_row, where_fit}
 use Rattle.detect_core.specs.Detection.{Ending, TooManyTrials, FirstTrial, ending_by, ending_of_rows, ending_at, first_ending, first_trial, asked_keys, has_erred}
 use Rattle.detect_core.specs.Search.{group_rows, DetectsAs}
 use Rattle.detect_core.proofs.SpawnerLemmas.{IsDetection}
@@ -73,8 +74,12 @@ recorded_kept : (found : Option Probed) → PassesKept (answer_or_error build_pl
 recorded_kept (Some probed) = answer_kept probed.code (pass_or_error (build_plan probed.plan)) (pass_kept (build_plan_in probed.plan) (build_plan_kept probed.plan))
 recorded_kept None = error_kept
 
-pub says_kept : (rans : List Ran) (member : Member) → PassesKept (says build_plan rans member)
-says_kept rans member = recorded_kept (recorded rans member.key)
+fit_kept : (b : Bool) (v : Verdict) → PassesKept v → PassesKept (where_fit b v)
+fit_kept true v h = h
+fit_kept false v h = fail_kept
+
+pub says_kept : (target : Option Target) (rans : List Ran) (member : Member) → PassesKept (says target build_plan rans member)
+says_kept target rans member = fit_kept (is_fit target member) (answer_or_error build_plan (recorded rans member.key)) (recorded_kept (recorded rans member.key))
 
 abbrev pub alive_is_kept : AliveRow → Bool
 alive_is_kept row = list_all option_is_kept row.options
@@ -228,10 +233,10 @@ listed_own catalog order =
     list_all-map (own_ids member_id) (distinct same_id) raw ∙ all_each (λ group. own_ids member_id (distinct same_id group)) raw own-distinct
 
 -- the group and the plan of the first trial that passes can be written
-pub first_written : (rans : List Ran) (catalog : List Descriptor) (order : List (List Entry)) (at : ℕ) (resolved : Resolved) (keys : List Key) →
-    first_trial (says build_plan rans) catalog order ≡ Some (FirstTrial at resolved keys) → IsWritten resolved keys
+pub first_written : (target : Option Target) (rans : List Ran) (catalog : List Descriptor) (order : List (List Entry)) (at : ℕ) (resolved : Resolved) (keys : List Key) →
+    first_trial (says target build_plan rans) catalog order ≡ Some (FirstTrial at resolved keys) → IsWritten resolved keys
 unfolding first_trial
-first_written rans catalog order = written_first (says build_plan rans) (says_kept rans) 0 (listed_groups catalog order) (listed_own catalog order)
+first_written target rans catalog order = written_first (says target build_plan rans) (says_kept target rans) 0 (listed_groups catalog order) (listed_own catalog order)
 
 chosen_written : (result : Result Chosen DetectEnd) (ending : Option Ending) (asked : List Key) (erred : Bool) → EndsWritten ending → DetectsAs result ending asked erred →
     IfOk result (λ chosen. IsTrue (is_group_doc chosen.group) × IsTrue (is_plan_doc chosen.plan))
@@ -246,5 +251,6 @@ chosen_written (Ok chosen) (Some (FirstTrial place resolved keys)) asked erred e
 pub detection_written : (frame : DetectFrame) (catalog : List Descriptor) (order : List (List Entry)) (rans : List Ran) (result : Result Chosen DetectEnd) → IsDetection frame catalog order rans result →
     IfOk result (λ chosen. IsTrue (is_group_doc chosen.group) × IsTrue (is_plan_doc chosen.plan))
 detection_written frame catalog order rans result d =
-    chosen_written result (first_trial (says build_plan rans) catalog order) (asked_keys (says build_plan rans) catalog order) (has_erred (says build_plan rans) catalog order)
-    (first_written rans catalog order) d.detects
+    chosen_written result (first_trial (says frame.target build_plan rans) catalog order) (asked_keys frame.target (says frame.target build_plan rans) catalog order)
+    (has_erred frame.target (says frame.target build_plan rans) catalog order)
+    (first_written frame.target rans catalog order) d.detects

@@ -7,7 +7,9 @@ use Rattle.cnb_world.specs.Runs.{Ran}
 use Rattle.cnb_toml.specs.declared.names.Key.{Key}
 use Rattle.cnb_toml.specs.Keys.{same_key}
 use Rattle.bp_docs.specs.declared.build_plan.PlanOption.{PlanOption}
+use Rattle.cnb_toml.specs.declared.target.Target.{Target}
 use Rattle.bp_docs.specs.BuildPlan.{build_plan_in}
+use Rattle.bp_docs.specs.Targets.{fits}
 use Rattle.order_expand.specs.declared.member.Member.{Member}
 use Rattle.plan_resolve.specs.declared.rows.AliveRow.{AliveRow}
 use Rattle.detect_core.specs.declared.chosen.Verdict.{Verdict}
@@ -42,9 +44,22 @@ abbrev pub answer_or_error : (List ℕ → Option (List PlanOption)) → Option 
 answer_or_error plan_in (Some probed) = answer_of plan_in probed
 answer_or_error plan_in None = Error
 
+-- whether a member is for a target
+abbrev pub is_fit : Option Target → Member → Bool
+is_fit target member = fits member.targets target
+
+-- A member that is not for the target fails, whatever is recorded.
+abbrev pub where_fit : Bool → Verdict → Verdict
+where_fit true verdict = verdict
+where_fit false verdict = Fail
+
+-- what answers say of a member, which count only where it is for the target
+abbrev pub for_target : Option Target → (Member → Verdict) → Member → Verdict
+for_target target answers member = where_fit (is_fit target member) (answers member)
+
 -- what the recorded children say of a member
-abbrev pub says : (List ℕ → Option (List PlanOption)) → List Ran → Member → Verdict
-says plan_in rans member = answer_or_error plan_in (recorded rans member.key)
+abbrev pub says : Option Target → (List ℕ → Option (List PlanOption)) → List Ran → Member → Verdict
+says target plan_in rans = for_target target (λ member. answer_or_error plan_in (recorded rans member.key))
 
 abbrev pub is_pass : Verdict → Bool
 is_pass (Pass options) = true

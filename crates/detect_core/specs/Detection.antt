@@ -1,8 +1,9 @@
 -- The first trial that passes, and the children that are asked on the way (buildpack.md, "Phase #1: Detection").
 use Rattle.std.specs.Prelude.{ℕ, ◌+◌, Bool, List, [], ◌∷◌, map, Option, Some, None}
-use Rattle.std.specs.List.{flat_map, list_any}
+use Rattle.std.specs.List.{filter, flat_map, list_any}
 use Rattle.cnb_toml.specs.declared.names.Key.{Key}
 use Rattle.cnb_toml.specs.Keys.{same_key}
+use Rattle.cnb_toml.specs.declared.target.Target.{Target}
 use Rattle.bp_docs.specs.declared.descriptor.Entry.{Entry}
 use Rattle.bp_docs.specs.declared.descriptor.Descriptor.{Descriptor}
 use Rattle.order_expand.specs.declared.member.Member.{Member}
@@ -12,7 +13,7 @@ use Rattle.plan_resolve.specs.declared.rows.Resolved.{Resolved}
 use Rattle.plan_resolve.specs.Plan.{at_places}
 use Rattle.plan_resolve.specs.Resolution.{Resolution, TooMany, Passes, Fails, resolution}
 use Rattle.detect_core.specs.declared.chosen.Verdict.{Verdict}
-use Rattle.detect_core.specs.Answer.{alive_of, is_error}
+use Rattle.detect_core.specs.Answer.{alive_of, is_error, is_fit}
 
 -- How a search ends: at a group that has too many trials, or with the first trial that passes. Both name the group's
 -- place among the listed groups, and the second the buildpacks that the trial keeps.
@@ -52,18 +53,22 @@ same_member a b = same_key a.key b.key
 abbrev pub members_of : List (List Member) → List Member
 members_of groups = distinct same_member (flat_map (λ group. group) groups)
 
+-- the members of these groups that are for a target
+abbrev pub fitting : Option Target → List (List Member) → List (List Member)
+fitting target groups = map (filter (is_fit target)) groups
+
 -- the first trial that passes, in the order of the specification
 unfoldable pub first_trial : (Member → Verdict) → List Descriptor → List (List Entry) → Option Ending
 first_trial says catalog order = first_ending says 0 (listed_groups catalog order)
 
--- the members whose children are asked
-unfoldable pub asked_members : (Member → Verdict) → List Descriptor → List (List Entry) → List Member
-asked_members says catalog order = members_of (reached says 0 (listed_groups catalog order))
+-- the members whose children are asked: those that are for the target
+unfoldable pub asked_members : Option Target → (Member → Verdict) → List Descriptor → List (List Entry) → List Member
+asked_members target says catalog order = members_of (fitting target (reached says 0 (listed_groups catalog order)))
 
 -- their keys
-abbrev pub asked_keys : (Member → Verdict) → List Descriptor → List (List Entry) → List Key
-asked_keys says catalog order = map (λ member. member.key) (asked_members says catalog order)
+abbrev pub asked_keys : Option Target → (Member → Verdict) → List Descriptor → List (List Entry) → List Key
+asked_keys target says catalog order = map (λ member. member.key) (asked_members target says catalog order)
 
 -- whether an asked child ended with an error
-abbrev pub has_erred : (Member → Verdict) → List Descriptor → List (List Entry) → Bool
-has_erred says catalog order = list_any (λ member. is_error (says member)) (asked_members says catalog order)
+abbrev pub has_erred : Option Target → (Member → Verdict) → List Descriptor → List (List Entry) → Bool
+has_erred target says catalog order = list_any (λ member. is_error (says member)) (asked_members target says catalog order)

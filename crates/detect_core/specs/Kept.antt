@@ -5,11 +5,12 @@ use Rattle.std.specs.Map as entries
 use Rattle.cnb_world.specs.Runs.{Ran}
 use Rattle.cnb_toml.specs.declared.names.Key.{Key}
 use Rattle.cnb_toml.specs.Keys.{same_key}
+use Rattle.cnb_toml.specs.declared.target.Target.{Target}
 use Rattle.bp_docs.specs.declared.build_plan.PlanOption.{PlanOption}
 use Rattle.order_expand.specs.declared.member.Member.{Member}
 use Rattle.detect_core.specs.declared.chosen.Verdict.{Verdict}
 use Rattle.detect_core.specs.declared.chosen.Verdict.TheVariants.{Pass, Fail, Error}
-use Rattle.detect_core.specs.Answer.{answer_of, build_plan, key_of}
+use Rattle.detect_core.specs.Answer.{answer_of, build_plan, for_target, key_of}
 
 -- a buildpack with what its child said
 abbrev pub AnswerRow : Type 0
@@ -39,8 +40,8 @@ abbrev pub verdict_for : List AnswerRow → Key → Verdict
 verdict_for rows key = verdict_or_error (kept_for rows key)
 
 -- what the kept answers say of a member
-abbrev pub kept_says : List AnswerRow → Member → Verdict
-kept_says rows member = verdict_for rows member.key
+abbrev pub kept_says : Option Target → List AnswerRow → Member → Verdict
+kept_says target rows = for_target target (λ member. verdict_for rows member.key)
 
 -- the alternatives of a buildpack that passed
 abbrev pub options_of : Verdict → Option (List PlanOption)

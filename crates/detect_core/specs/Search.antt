@@ -13,7 +13,7 @@ use Rattle.detect_core.specs.declared.chosen.DetectEnd.{DetectEnd}
 use Rattle.detect_core.specs.declared.chosen.DetectEnd.TheVariants.{NoGroup, ManyTrials, Child, Memory}
 use Rattle.detect_core.specs.declared.chosen.DetectFrame.{DetectFrame}
 use Rattle.detect_core.specs.Answer.{build_plan, says}
-use Rattle.detect_core.specs.Detection.{Ending, TooManyTrials, FirstTrial, asked_members, members_of}
+use Rattle.detect_core.specs.Detection.{Ending, TooManyTrials, FirstTrial, asked_members, fitting, members_of}
 use Rattle.detect_core.specs.Job.{detect_job}
 use Rattle.steps.specs.Asking.{AskedBy, AreSome}
 use Rattle.steps.specs.Causes.{Cause, ChildFailed, OutOfMemory, Decided}
@@ -61,13 +61,13 @@ end_cause (NoGroup erred) = Decided
 end_cause ManyTrials = Decided
 
 -- The children that spawners ran between them: exactly those that have to be asked, by what they answered, each once;
--- after a failure some of those that the order lists, each at most once.
+-- after a failure some of those that the order lists for the target, each at most once.
 pub record RunsAsked (frame : DetectFrame) (catalog : List Descriptor) (order : List (List Entry)) (old : List SpawnerSeen)
     (result : Result Chosen DetectEnd) (new : List SpawnerSeen) : Type 0 where
   pub answers : List Ran
   pub asked : AskedBy answers old new
-  pub exactly : OnDetected result (map (λ ran. ran.job) answers ≡ map (detect_job frame) (asked_members (says build_plan answers) catalog order))
-  pub some : OnErr result (AreSome (map (λ ran. ran.job) answers) (map (detect_job frame) (members_of (listed_groups catalog order))))
+  pub exactly : OnDetected result (map (λ ran. ran.job) answers ≡ map (detect_job frame) (asked_members frame.target (says frame.target build_plan answers) catalog order))
+  pub some : OnErr result (AreSome (map (λ ran. ran.job) answers) (map (detect_job frame) (members_of (fitting frame.target (listed_groups catalog order)))))
 
 -- the folders of a frame are short enough that every path that is made of them is a path
 abbrev pub is_short : DetectFrame → Bool

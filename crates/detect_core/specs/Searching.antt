@@ -12,7 +12,7 @@ use Rattle.detect_core.specs.declared.chosen.DetectEnd.{DetectEnd}
 use Rattle.detect_core.specs.declared.chosen.DetectEnd.TheVariants.{Child, Memory}
 use Rattle.detect_core.specs.declared.chosen.DetectFrame.{DetectFrame}
 use Rattle.detect_core.specs.Answer.{is_error, build_plan, says}
-use Rattle.detect_core.specs.Detection.{first_ending, reached, members_of}
+use Rattle.detect_core.specs.Detection.{first_ending, fitting, reached, members_of}
 use Rattle.detect_core.specs.Job.{detect_job}
 use Rattle.detect_core.specs.Search.{DetectsAs, OnDetected}
 
@@ -33,8 +33,8 @@ end_of_fault pool.Memory = Memory
 pub record IsSearch (frame : DetectFrame) (groups : List (List Member)) (old new : List SpawnerSeen) (result : Result Chosen DetectEnd) : Type 0 where
   pub answers : List Ran
   pub asked_by : AskedBy answers old new
-  pub some : AreSome (map (λ ran. ran.job) answers) (map (detect_job frame) (members_of groups))
-  pub asked : OnDetected result (map (λ ran. ran.job) answers ≡ map (detect_job frame) (members_of (reached (says build_plan answers) 0 groups)))
-  pub detects : DetectsAs result (first_ending (says build_plan answers) 0 groups)
-      (map (λ member. member.key) (members_of (reached (says build_plan answers) 0 groups)))
-      (list_any (λ member. is_error (says build_plan answers member)) (members_of (reached (says build_plan answers) 0 groups)))
+  pub some : AreSome (map (λ ran. ran.job) answers) (map (detect_job frame) (members_of (fitting frame.target groups)))
+  pub asked : OnDetected result (map (λ ran. ran.job) answers ≡ map (detect_job frame) (members_of (fitting frame.target (reached (says frame.target build_plan answers) 0 groups))))
+  pub detects : DetectsAs result (first_ending (says frame.target build_plan answers) 0 groups)
+      (map (λ member. member.key) (members_of (fitting frame.target (reached (says frame.target build_plan answers) 0 groups))))
+      (list_any (λ member. is_error (says frame.target build_plan answers member)) (members_of (fitting frame.target (reached (says frame.target build_plan answers) 0 groups))))

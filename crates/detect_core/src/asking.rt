@@ -1,5 +1,7 @@
 // Asking the members of a group.
 ghost use Rattle.std.specs.Prelude.{◌<◌, ◌≤◌, IsTrue, OnOk, OnErr, length, map};
+ghost use Rattle.std.specs.List.{filter};
+ghost use Rattle.detect_core.specs.Answer.{is_fit};
 ghost use Rattle.detect_core.specs.Asking.{unmet, pool_cause, RunsAll, RunsSome};
 ghost use Rattle.detect_core.specs.Job.{detect_job};
 ghost use Rattle.detect_core.specs.Kept.{keys_of};
@@ -18,7 +20,8 @@ use std::alloc::Global;
 use std::thread::Threads;
 use ticket_pool::PoolFault;
 
-/// Runs the children of those members that were not asked before in this call, each once, by spawners side by side.
+/// Runs the children of those members that are for the target and were not asked before in this call, each once, by
+/// spawners side by side.
 pub fn ask_group<S: Spawner + Send, R: Threads + Sync>(
     rt: &R,
     alloc: Global,
@@ -32,9 +35,11 @@ pub fn ask_group<S: Spawner + Send, R: Threads + Sync>(
     requires workers { 0 < workers }
     requires short { IsTrue (is_short frame.now) }
     requires few { length group.now ≤ 256 }
-    ensures all { OnOk result (RunsAll frame.now (unmet (keys_of kept.old) group.now)
+    ensures all { OnOk result (RunsAll frame.now (unmet (keys_of kept.old)
+        (filter (is_fit frame.now.target) group.now))
         (spawners_seen S.Spawner spawners.old.items) (spawners_seen S.Spawner spawners.new.items) kept.old kept.new) }
-    ensures some { OnErr result (RunsSome (map (detect_job frame.now) (unmet (keys_of kept.old) group.now))
+    ensures some { OnErr result (RunsSome (map (detect_job frame.now) (unmet (keys_of kept.old)
+        (filter (is_fit frame.now.target) group.now)))
         (spawners_seen S.Spawner spawners.old.items) (spawners_seen S.Spawner spawners.new.items)) }
     ensures faults { CountsSpawners pool_cause result
         (faults_of (spawners_seen S.Spawner spawners.old.items))

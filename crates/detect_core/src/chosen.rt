@@ -1,13 +1,13 @@
 // What a detection is asked and answers.
 use bp_docs::PlanOption;
 use cnb_env::EnvFile;
-use cnb_toml::Key;
+use cnb_toml::{Key, Target};
 use cnb_world::{Env, List, Memory, Path};
 use run_docs::{GroupDoc, PlanDoc};
 use ticket_pool::PoolFault;
 
-/// What all detect children of one call have in common: the folders, the environment that was handed in, and the
-/// platform's environment files.
+/// What all detect children of one call have in common: the folders, the environment that was handed in, the platform's
+/// environment files, and the image that is built for, where it is known.
 #[derive(Drop)]
 pub struct DetectFrame {
     pub buildpacks: Path,
@@ -16,6 +16,7 @@ pub struct DetectFrame {
     pub work: Path,
     pub env: Env,
     pub files: List<EnvFile>,
+    pub target: Option<Target>,
 }
 
 /// What a detect child's end says (buildpack.md, "Detection").

@@ -1,7 +1,7 @@
 // The answers of a call so far.
 ghost use Rattle.std.specs.Prelude.{◌≡◌, ◌++◌, ◌∷◌, [], false, IfOk, OnOk, OnErr};
 ghost use Rattle.std.specs.Option.{option_copied};
-ghost use Rattle.detect_core.specs.Answer.{is_pass, is_error};
+ghost use Rattle.detect_core.specs.Answer.{is_error};
 
 use crate::chosen::Verdict;
 use bp_docs::PlanOption;
@@ -64,13 +64,6 @@ impl Kept {
             Some(Verdict::Pass(options)) => Some(options),
             _ => None,
         }
-    }
-
-    /// Whether a buildpack passed.
-    pub fn has_passed(&self, key: &Key) -> bool
-        ensures { result ≡ is_pass (verdict_for self.now key.now) }
-    {
-        self.options(key).is_some()
     }
 
     /// Whether a buildpack ended with an error. One that was not asked counts as such.

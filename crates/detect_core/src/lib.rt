@@ -7,6 +7,7 @@ mod chosen;
 mod deciding;
 mod ending;
 mod environment;
+mod fitting;
 mod job;
 mod judging;
 mod keeping;

@@ -1,13 +1,15 @@
 // The children of a group that are to run.
 ghost use Rattle.std.specs.Prelude.{◌≡◌, ◌++◌, ◌∷◌, [], IfOk, IsTrue, OnOk, map};
-ghost use Rattle.std.specs.List.{list_any};
+ghost use Rattle.std.specs.List.{filter, list_any};
 ghost use Rattle.cnb_toml.specs.Keys.{same_key};
+ghost use Rattle.detect_core.specs.Answer.{is_fit};
 ghost use Rattle.detect_core.specs.Asking.{unmet};
 ghost use Rattle.detect_core.specs.Job.{detect_job};
 ghost use Rattle.detect_core.specs.Kept.{keys_of};
 ghost use Rattle.detect_core.specs.Search.{is_short};
 
 use crate::chosen::DetectFrame;
+use crate::fitting::is_fit;
 use crate::job::job_of;
 use crate::kept::Kept;
 use cnb_toml::Key;
@@ -22,7 +24,7 @@ pub struct Questions {
     pub jobs: List<DetectJob>,
 }
 
-/// The children of those members that were not asked before in this call, each buildpack once.
+/// The children of those members that are for the target and were not asked before in this call, each buildpack once.
 pub fn questions_of(
     alloc: Global,
     frame: &DetectFrame,
@@ -30,17 +32,39 @@ pub fn questions_of(
     kept: &Kept,
 ) -> Result<Questions, Memory>
     requires { IsTrue (is_short frame.now) }
-    ensures keys { IfOk result (λ asked. asked.keys ≡ map (λ member. member.key) (unmet (keys_of kept.now) group.now)) }
-    ensures jobs { IfOk result (λ asked. asked.jobs ≡ map (detect_job frame.now) (unmet (keys_of kept.now) group.now)) }
+    ensures keys { IfOk result (λ asked. asked.keys ≡ map (λ member. member.key) (unmet (keys_of kept.now)
+        (filter (is_fit frame.now.target) group.now))) }
+    ensures jobs { IfOk result (λ asked. asked.jobs ≡ map (detect_job frame.now) (unmet (keys_of kept.now)
+        (filter (is_fit frame.now.target) group.now))) }
 {
     let mut asked = Questions {
         keys: List::new(alloc),
         jobs: List::new(alloc),
     };
     for member in group {
-        add(alloc, &mut asked, frame, member, kept)?;
+        add_fitting(alloc, &mut asked, frame, member, kept)?;
     }
     Ok(asked)
+}
+
+// Adds the child of a member that is for the target, unless its buildpack was met before.
+fn add_fitting(
+    alloc: Global,
+    asked: &mut Questions,
+    frame: &DetectFrame,
+    member: &Member,
+    kept: &Kept,
+) -> Result<(), Memory>
+    requires { IsTrue (is_short frame.now) }
+    ensures keys { OnOk result (asked.new.keys ≡ asked.old.keys ++ map (λ m. m.key)
+        (unmet (keys_of kept.now ++ asked.old.keys) (filter (is_fit frame.now.target) (member.now ∷ [])))) }
+    ensures jobs { OnOk result (asked.new.jobs ≡ asked.old.jobs ++ map (detect_job frame.now)
+        (unmet (keys_of kept.now ++ asked.old.keys) (filter (is_fit frame.now.target) (member.now ∷ [])))) }
+{
+    if !is_fit(&frame.target, member) {
+        return Ok(());
+    }
+    add(alloc, asked, frame, member, kept)
 }
 
 // Adds the child of a member, unless its buildpack was met before.

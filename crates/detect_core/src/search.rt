@@ -43,11 +43,11 @@ pub fn detect<S: Spawner + Send, R: Threads + Sync>(
     // that passes, by what they answered.
     ensures detects { (finished : Seq Ran)
         → AskedBy finished (spawners_seen S.Spawner spawners.old.items) (spawners_seen S.Spawner spawners.new.items)
-        → DetectsAs result (first_trial (says build_plan finished) catalog.now order.now)
-        (asked_keys (says build_plan finished) catalog.now order.now)
-        (has_erred (says build_plan finished) catalog.now order.now) }
+        → DetectsAs result (first_trial (says frame.now.target build_plan finished) catalog.now order.now)
+        (asked_keys frame.now.target (says frame.now.target build_plan finished) catalog.now order.now)
+        (has_erred frame.now.target (says frame.now.target build_plan finished) catalog.now order.now) }
     // All spawners together run exactly the children that have to be asked, each once; after a failure some of those
-    // that the order lists, each at most once. Each answers as its spawner says beforehand.
+    // that the order lists for the target, each at most once. Each answers as its spawner says beforehand.
     ensures asked { RunsAsked frame.now catalog.now order.now
         (spawners_seen S.Spawner spawners.old.items) result (spawners_seen S.Spawner spawners.new.items) }
     // What was chosen can be written and read back.
@@ -109,7 +109,7 @@ fn search_groups<S: Spawner + Send, R: Threads + Sync>(
     let mut place = 0u32;
     while let Some(group) = walk.next()? {
         ask_group(rt, alloc, spawners, workers, frame, group.as_slice(), kept)?;
-        let judged = judge(alloc, group.as_slice(), kept)?;
+        let judged = judge(alloc, &frame.target, group.as_slice(), kept)?;
         erred |= judged.erred;
         if let Some(chosen) = end_of(alloc, &judged, place, kept)? {
             return Ok(chosen);
