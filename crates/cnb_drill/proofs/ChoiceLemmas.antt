@@ -1,6 +1,6 @@
 -- What a detection over the drill's spawners answers, and which children it runs.
 use Rattle.std.proofs.Common.{◌≡◌, ◌∙◌, refl, sym, ap, subst, inl, inr, ℕ, ◌<◌, Bool, List, [], ◌∷◌, ◌++◌, map, length, arith}
-use Rattle.std.specs.Prelude.{Option, Some, Result, Ok, Err, IsOk, IsTrue}
+use Rattle.std.specs.Prelude.{Option, Some, None, Result, Ok, Err, IsOk, IsTrue, OnErr}
 use Rattle.std.specs.List.{AllByRecursion}
 use Rattle.std.proofs.lemmas.List.{map-append, length-map}
 use Rattle.cnb_world.specs.declared.child.DetectJob.{DetectJob}
@@ -13,6 +13,7 @@ use Rattle.bp_docs.specs.declared.descriptor.Descriptor.{Descriptor}
 use Rattle.order_expand.specs.declared.order.OrderFault.{OrderFault}
 use Rattle.order_expand.specs.declared.order.OrderFault.TheVariants as order
 use Rattle.order_expand.specs.Check.{checked, cause_of as order_cause}
+use Rattle.order_expand.specs.declared.member.Member.{Member}
 use Rattle.order_expand.specs.Groups.{listed_groups}
 use Rattle.steps.specs.Asking.{AreSaid, AreSome, AskedBy, CountsSpawners, IsMadeOf, OneRose, RunShares}
 use Rattle.steps.specs.Outside.{SpawnerSeen, faults_of}
@@ -24,8 +25,9 @@ use Rattle.detect_core.specs.declared.chosen.DetectFrame.{DetectFrame}
 use Rattle.detect_core.specs.Answer.{build_plan, says}
 use Rattle.detect_core.specs.Detection.{Ending, FirstTrial, first_trial, asked_members, asked_keys, has_erred, members_of, reached}
 use Rattle.detect_core.specs.Job.{detect_job}
-use Rattle.detect_core.specs.Search.{DetectsAs, IsChoice, RunsAsked, end_cause, is_short}
+use Rattle.detect_core.specs.Search.{DetectsAs, IsChoice, OnDetected, RunsAsked, end_cause, is_short}
 use Rattle.detect_core.specs.Asking.{unmet}
+use Rattle.detect_core.proofs.FittingLemmas.{fitting-none}
 use Rattle.detect_core.proofs.MemberLemmas.{flat, keys_of_members, members-front}
 use Rattle.cnb_drill.specs.Digits.{asked_count}
 use Rattle.cnb_drill.specs.Runs.{RunsDrill, said_by}
@@ -38,7 +40,7 @@ use Rattle.cnb_drill.proofs.Members.{IsDrilled, drill_resolved, group_keys}
 use Rattle.steps.specs.Causes.{IsAnswer}
 use Rattle.cnb_drill.proofs.CountLemmas.{each_append, each_first, each_second}
 use Rattle.cnb_drill.proofs.CheckLemmas.{checked_drill}
-use Rattle.cnb_drill.proofs.DrillLemmas.{drilled_by_runs, asked_by_runs, reached_by_replies}
+use Rattle.cnb_drill.proofs.DrillLemmas.{asked_reached, drilled_by_runs, asked_by_runs, reached_by_replies}
 
 -- ---- what `check` answers
 
@@ -115,15 +117,15 @@ some_front (x ∷ xs) ys = inl (refl, some_front xs ys)
 
 -- those that are asked by the replies are some of those that the order lists
 asked_some : (number : ℕ) → number < 4096 → (frame : DetectFrame) →
-    AreSome (map (detect_job frame) (asked_members (said_by (drill_replies number)) drill_catalog drill_order)) (map (detect_job frame) (members_of (listed_groups drill_catalog drill_order)))
-unfolding asked_members
+    AreSome (map (detect_job frame) (asked_members None (said_by (drill_replies number)) drill_catalog drill_order)) (map (detect_job frame) (members_of (listed_groups drill_catalog drill_order)))
 asked_some number h frame =
     let split = reached_by_replies number h in
     let asked = members_of (reached (said_by (drill_replies number)) 0 (listed_groups drill_catalog drill_order)) in
     let others = unmet (keys_of_members asked) (flat split.0) in
     let all : members_of (listed_groups drill_catalog drill_order) ≡ asked ++ others =
     ap members_of split.1 ∙ members-front (reached (said_by (drill_replies number)) 0 (listed_groups drill_catalog drill_order)) split.0 in
-    subst (λ (jobs : List DetectJob). AreSome (map (detect_job frame) asked) jobs) (sym (ap (map (detect_job frame)) all ∙ map-append (detect_job frame) asked others))
+    subst (λ (p : List DetectJob × List DetectJob). AreSome p.0 p.1)
+    (λ i. (ap (map (detect_job frame)) (sym (asked_reached (said_by (drill_replies number)))) i, sym (ap (map (detect_job frame)) all ∙ map-append (detect_job frame) asked others) i))
     (some_front (map (detect_job frame) asked) (map (detect_job frame) others))
 
 -- no child ran
@@ -153,22 +155,44 @@ runs_any number h old new value (Err memory) r = runs_later number h old new val
 
 -- ---- what `detect` answers
 
--- a detection of the drill's order
+-- what `detect` says of an answer
 pub record Detected (frame : DetectFrame) (catalog : List Descriptor) (order : List (List Entry)) (old : List SpawnerSeen) (result : Result Chosen DetectEnd) (new : List SpawnerSeen) : Type 0 where
   pub detects : (finished : List Ran) → AskedBy finished old new →
-      DetectsAs result (first_trial (says build_plan finished) catalog order) (asked_keys (says build_plan finished) catalog order) (has_erred (says build_plan finished) catalog order)
+      DetectsAs result (first_trial (says frame.target build_plan finished) catalog order) (asked_keys frame.target (says frame.target build_plan finished) catalog order)
+      (has_erred frame.target (says frame.target build_plan finished) catalog order)
   pub asked : RunsAsked frame catalog order old result new
   pub faults : CountsSpawners end_cause result (faults_of old) (faults_of new)
 
-abbrev pub DrillDetected : List SpawnerSeen → Result Chosen DetectEnd → List SpawnerSeen → Type 0
-DrillDetected old result new = Detected drill_frame drill_catalog drill_order old result new
+-- a detection of the drill's order, for no image that is known
+pub record DrillDetected (old : List SpawnerSeen) (result : Result Chosen DetectEnd) (new : List SpawnerSeen) : Type 0 where
+  pub detects : (finished : List Ran) → AskedBy finished old new →
+      DetectsAs result (first_trial (says None build_plan finished) drill_catalog drill_order) (asked_keys None (says None build_plan finished) drill_catalog drill_order)
+      (has_erred None (says None build_plan finished) drill_catalog drill_order)
+  pub answers : List Ran
+  pub asked : AskedBy answers old new
+  pub exactly : OnDetected result (map (λ ran. ran.job) answers ≡ map (detect_job drill_frame) (asked_members None (says None build_plan answers) drill_catalog drill_order))
+  pub some : OnErr result (AreSome (map (λ ran. ran.job) answers) (map (detect_job drill_frame) (members_of (listed_groups drill_catalog drill_order))))
+  pub faults : CountsSpawners end_cause result (faults_of old) (faults_of new)
+
+drill_detected : (old : List SpawnerSeen) (result : Result Chosen DetectEnd) (new : List SpawnerSeen) → Detected drill_frame drill_catalog drill_order old result new → DrillDetected old result new
+unfolding drill_frame
+drill_detected old result new d = record {
+  detects = d.detects;
+  answers = d.asked.answers;
+  asked = d.asked.asked;
+  exactly = d.asked.exactly;
+  some = subst (λ (groups : List (List Member)). OnErr result (AreSome (map (λ (ran : Ran). ran.job) d.asked.answers) (map (detect_job drill_frame) (members_of groups))))
+      (fitting-none (listed_groups drill_catalog drill_order)) d.asked.some;
+  faults = d.faults;
+}
 
 pub of_drill : (frame : DetectFrame) (catalog : List Descriptor) (order : List (List Entry)) (old : List SpawnerSeen) (result : Result Chosen DetectEnd) (new : List SpawnerSeen) →
     frame ≡ drill_frame → catalog ≡ drill_catalog → order ≡ drill_order → Detected frame catalog order old result new → DrillDetected old result new
 of_drill frame catalog order old result new f c o d =
-    subst (λ (frm : DetectFrame). Detected frm drill_catalog drill_order old result new) f
+    drill_detected old result new
+    (subst (λ (frm : DetectFrame). Detected frm drill_catalog drill_order old result new) f
     (subst (λ (cat : List Descriptor). Detected frame cat drill_order old result new) c
-    (subst (λ (ord : List (List Entry)). Detected frame catalog ord old result new) o d))
+    (subst (λ (ord : List (List Entry)). Detected frame catalog ord old result new) o d)))
 
 is_found : (number : ℕ) (chosen : Chosen) (first : Option Ending) (asked : List Key) (erred : Bool) (a b c d : ℕ) → first ≡ Some (FirstTrial number (drill_resolved a b c d) (group_keys a b c d)) →
     length asked ≡ asked_count number → DetectsAs (Ok chosen) first asked erred → found_in chosen ≡ found_of number
@@ -183,45 +207,45 @@ many_trials : (o : Option Ending) (keys : List Key) (erred : Bool) (place : ℕ)
 many_trials o keys erred place a b c d e h = subst (λ (x : Option Ending). DetectsAs (Err end.ManyTrials) x keys erred) e h
 
 module _ (number : ℕ) (h : number < 4096) (old new : List SpawnerSeen) (all : AnswerBy number old) where
-  law_of : (rans : List Ran) → AskedBy rans old new → map (λ ran. ran.job) rans ≡ map (detect_job drill_frame) (asked_members (says build_plan rans) drill_catalog drill_order) → IsDrilled number (says build_plan rans)
+  law_of : (rans : List Ran) → AskedBy rans old new → map (λ ran. ran.job) rans ≡ map (detect_job drill_frame) (asked_members None (says None build_plan rans) drill_catalog drill_order) → IsDrilled number (says None build_plan rans)
   law_of rans asked jobs = drilled_by_runs number h drill_frame rans (said_all number rans old new asked all) jobs
 
   pub chosen_is : (chosen : Chosen) → DrillDetected old (Ok chosen) new → found_in chosen ≡ found_of number
   chosen_is chosen d =
-      let rans = d.asked.answers in
-      let law = law_of rans d.asked.asked d.asked.exactly in
-      is_found number chosen (first_trial (says build_plan rans) drill_catalog drill_order) (asked_keys (says build_plan rans) drill_catalog drill_order) (has_erred (says build_plan rans) drill_catalog drill_order)
-      law.first.0 law.first.1 law.first.2 law.first.3 law.first.5 law.asked (d.detects rans d.asked.asked)
+      let rans = d.answers in
+      let law = law_of rans d.asked d.exactly in
+      is_found number chosen (first_trial (says None build_plan rans) drill_catalog drill_order) (asked_keys None (says None build_plan rans) drill_catalog drill_order) (has_erred None (says None build_plan rans) drill_catalog drill_order)
+      law.first.0 law.first.1 law.first.2 law.first.3 law.first.5 law.asked (d.detects rans d.asked)
 
   pub runs_are : (chosen : Chosen) → DrillDetected old (Ok chosen) new → RunsDrill number old (Ok chosen) new
   runs_are chosen d =
-      let rans = d.asked.answers in
-      let law = law_of rans d.asked.asked d.asked.exactly in
-      let same = asked_by_runs number h drill_frame rans (said_all number rans old new d.asked.asked all) d.asked.exactly in
+      let rans = d.answers in
+      let law = law_of rans d.asked d.exactly in
+      let same = asked_by_runs number h drill_frame rans (said_all number rans old new d.asked all) d.exactly in
       record {
         answers = rans;
-        asked = d.asked.asked;
-        exactly = d.asked.exactly ∙ ap (map (detect_job drill_frame)) same;
+        asked = d.asked;
+        exactly = d.exactly ∙ ap (map (detect_job drill_frame)) same;
         count = sym (length-map rans (λ ran. ran.job))
-            ∙ (ap length d.asked.exactly
-            ∙ (length-map (asked_members (says build_plan rans) drill_catalog drill_order) (detect_job drill_frame)
-            ∙ (sym (length-map (asked_members (says build_plan rans) drill_catalog drill_order) (λ member. member.key)) ∙ law.asked)));
+            ∙ (ap length d.exactly
+            ∙ (length-map (asked_members None (says None build_plan rans) drill_catalog drill_order) (detect_job drill_frame)
+            ∙ (sym (length-map (asked_members None (says None build_plan rans) drill_catalog drill_order) (λ member. member.key)) ∙ law.asked)));
         some = tt;
       }
 
   pub runs_stopped : {A : Type 0} (fault : DetectEnd) (memory : Memory) → DrillDetected old (Err fault) new → RunsDrill {A = A} number old (Err memory) new
-  runs_stopped fault memory d = record { answers = d.asked.answers; asked = d.asked.asked; exactly = tt; count = tt; some = d.asked.some }
+  runs_stopped fault memory d = record { answers = d.answers; asked = d.asked; exactly = tt; count = tt; some = d.some }
 
   pub end_is : (fault : DetectEnd) → DrillDetected old (Err fault) new → AreZero (faults_of new) → fault ≡ end.Memory
   end_is (end.NoGroup told) d zero =
-      let rans = d.asked.answers in
-      let law = law_of rans d.asked.asked d.asked.exactly in
-      absurd (no_group told (first_trial (says build_plan rans) drill_catalog drill_order) (asked_keys (says build_plan rans) drill_catalog drill_order) (has_erred (says build_plan rans) drill_catalog drill_order)
-      (FirstTrial number (drill_resolved law.first.0 law.first.1 law.first.2 law.first.3) (group_keys law.first.0 law.first.1 law.first.2 law.first.3)) law.first.5 (d.detects rans d.asked.asked))
+      let rans = d.answers in
+      let law = law_of rans d.asked d.exactly in
+      absurd (no_group told (first_trial (says None build_plan rans) drill_catalog drill_order) (asked_keys None (says None build_plan rans) drill_catalog drill_order) (has_erred None (says None build_plan rans) drill_catalog drill_order)
+      (FirstTrial number (drill_resolved law.first.0 law.first.1 law.first.2 law.first.3) (group_keys law.first.0 law.first.1 law.first.2 law.first.3)) law.first.5 (d.detects rans d.asked))
   end_is end.ManyTrials d zero =
-      let rans = d.asked.answers in
-      let law = law_of rans d.asked.asked d.asked.exactly in
-      absurd (many_trials (first_trial (says build_plan rans) drill_catalog drill_order) (asked_keys (says build_plan rans) drill_catalog drill_order) (has_erred (says build_plan rans) drill_catalog drill_order)
-      number law.first.0 law.first.1 law.first.2 law.first.3 law.first.5 (d.detects rans d.asked.asked))
+      let rans = d.answers in
+      let law = law_of rans d.asked d.exactly in
+      absurd (many_trials (first_trial (says None build_plan rans) drill_catalog drill_order) (asked_keys None (says None build_plan rans) drill_catalog drill_order) (has_erred None (says None build_plan rans) drill_catalog drill_order)
+      number law.first.0 law.first.1 law.first.2 law.first.3 law.first.5 (d.detects rans d.asked))
   end_is end.Child d zero = absurd (none_rose (faults_of old) (faults_of new) zero d.faults)
   end_is end.Memory d zero = refl

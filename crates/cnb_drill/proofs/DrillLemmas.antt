@@ -17,6 +17,7 @@ use Rattle.detect_core.specs.Answer.{key_of, answer_or_error, build_plan, says}
 use Rattle.detect_core.specs.Detection.{Ending, FirstTrial, ending_at, reached, members_of, first_trial, asked_members}
 use Rattle.detect_core.specs.Job.{detect_job}
 use Rattle.detect_core.proofs.AnswerLemmas.{AgreeOn, or_reached}
+use Rattle.detect_core.proofs.FittingLemmas.{fitting-none}
 use Rattle.detect_core.proofs.MemberLemmas.{flat, any-met, same_key-same}
 use Rattle.cnb_drill.proofs.Members.{digit_member, members, AnswersBy}
 use Rattle.cnb_drill.specs.Digits.{digits_of, asked_from}
@@ -65,7 +66,7 @@ ran_any frame rans reached_groups jobs key =
     ∙ (sym (any-map (same_key key) (λ (m : Member). m.key) (members_of reached_groups)) ∙ any-met key (flat reached_groups))))
 
 agree_said : (replies : List Reply) (rans : List Ran) (met ms : List Member) → ((key : Key) → list_any (λ ran. same_key key (key_of ran)) rans ≡ list_any (λ m. same_key key m.key) met) →
-    AreSaid (Some replies) rans → AllByRecursion (λ m. HasReply replies m.key) ms → AllByRecursion (λ m. list_any (λ (n : Member). same_key m.key n.key) met ≡ true) ms → AgreeOn (says build_plan rans) (said_by replies) ms
+    AreSaid (Some replies) rans → AllByRecursion (λ m. HasReply replies m.key) ms → AllByRecursion (λ m. list_any (λ (n : Member). same_key m.key n.key) met ≡ true) ms → AgreeOn (says None build_plan rans) (said_by replies) ms
 agree_said replies rans met [] ran said has here = tt
 agree_said replies rans met (m ∷ ms) ran said has here =
     (ap (answer_or_error build_plan) (recorded_reply replies rans m.key said has.0 (ran m.key ∙ here.0)), agree_said replies rans met ms ran said has.1 here.1)
@@ -88,19 +89,24 @@ each_meets front (m ∷ ms) = (
 -- Children whose answers are fixed by replies, of which those that were reached ran, in whatever order: the search is that
 -- by the replies.
 pub said_search_by : (replies : List Reply) (groups : List (List Member)) (rans : List Ran) → AllByRecursion (λ m. HasReply replies m.key) (flat groups) → AreSaid (Some replies) rans →
-    ((key : Key) → list_any (λ ran. same_key key (key_of ran)) rans ≡ list_any (λ m. same_key key m.key) (flat (reached (says build_plan rans) 0 groups))) →
-    SameSearch (says build_plan rans) (said_by replies) 0 groups
+    ((key : Key) → list_any (λ ran. same_key key (key_of ran)) rans ≡ list_any (λ m. same_key key m.key) (flat (reached (says None build_plan rans) 0 groups))) →
+    SameSearch (says None build_plan rans) (said_by replies) 0 groups
 said_search_by replies groups rans has said ran =
-    let met = flat (reached (says build_plan rans) 0 groups) in
-    same_search (says build_plan rans) (said_by replies) 0 groups
-    (agree_said replies rans met met ran said (each_reached (λ m. HasReply replies m.key) (says build_plan rans) 0 groups has) (each_meets [] met))
+    let met = flat (reached (says None build_plan rans) 0 groups) in
+    same_search (says None build_plan rans) (said_by replies) 0 groups
+    (agree_said replies rans met met ran said (each_reached (λ m. HasReply replies m.key) (says None build_plan rans) 0 groups has) (each_meets [] met))
 
 pub said_search : (frame : DetectFrame) (replies : List Reply) (groups : List (List Member)) (rans : List Ran) → AllByRecursion (λ m. HasReply replies m.key) (flat groups) → AreSaid (Some replies) rans →
-    map (λ r. r.job) rans ≡ map (detect_job frame) (members_of (reached (says build_plan rans) 0 groups)) → SameSearch (says build_plan rans) (said_by replies) 0 groups
+    map (λ r. r.job) rans ≡ map (detect_job frame) (members_of (reached (says None build_plan rans) 0 groups)) → SameSearch (says None build_plan rans) (said_by replies) 0 groups
 said_search frame replies groups rans has said jobs =
-    said_search_by replies groups rans has said (ran_any frame rans (reached (says build_plan rans) 0 groups) jobs)
+    said_search_by replies groups rans has said (ran_any frame rans (reached (says None build_plan rans) 0 groups) jobs)
 
 -- ---- the drill
+
+-- every member is for the drill's image, which is not known
+pub asked_reached : (say : Member → Verdict) → asked_members None say drill_catalog drill_order ≡ members_of (reached say 0 (listed_groups drill_catalog drill_order))
+unfolding asked_members
+asked_reached say = ap members_of (fitting-none (reached say 0 (listed_groups drill_catalog drill_order)))
 
 module _ (a b c d : ℕ) where
   abbrev all_replies : List Reply
@@ -168,31 +174,28 @@ module _ (number : ℕ) (h : number < 4096) where
 
   -- by the replies themselves
   pub drilled_by_replies : IsDrilled number law
-  unfolding asked_members
   drilled_by_replies = record {
     first = (number / 512 % 8, number / 64 % 8, number / 8 % 8, number % 8, refl, by_law);
-    asked = length-map (members_of (reached law 0 (listed_groups drill_catalog drill_order))) (λ m. m.key) ∙ asked_by_law;
+    asked = length-map (asked_members None law drill_catalog drill_order) (λ m. m.key) ∙ (ap length (asked_reached law) ∙ asked_by_law);
   }
 
-  -- by the children that ran in a call, each of which answered by the replies
-  pub drilled_by_runs : (frame : DetectFrame) (rans : List Ran) → AreSaid (Some (drill_replies number)) rans →
-      map (λ r. r.job) rans ≡ map (detect_job frame) (asked_members (says build_plan rans) drill_catalog drill_order) → IsDrilled number (says build_plan rans)
-  unfolding first_trial asked_members drill_replies
-  drilled_by_runs frame rans said jobs =
-      let same = said_search frame (drill_replies number) (listed_groups drill_catalog drill_order) rans
-      (have_replies (number / 512 % 8) (number / 64 % 8) (number / 8 % 8) (number % 8)) said jobs in
-      record {
-        first = (number / 512 % 8, number / 64 % 8, number / 8 % 8, number % 8, refl, same.ending ∙ by_law);
-        asked = length-map (members_of (reached (says build_plan rans) 0 (listed_groups drill_catalog drill_order))) (λ m. m.key)
-            ∙ (ap (λ groups. length (members_of groups)) same.reached_same ∙ asked_by_law);
-      }
+  module _ (frame : DetectFrame) (rans : List Ran) (said : AreSaid (Some (drill_replies number)) rans)
+      (jobs : map (λ r. r.job) rans ≡ map (detect_job frame) (asked_members None (says None build_plan rans) drill_catalog drill_order)) where
+    same_drill : SameSearch (says None build_plan rans) law 0 (listed_groups drill_catalog drill_order)
+    unfolding drill_replies
+    same_drill =
+        said_search frame (drill_replies number) (listed_groups drill_catalog drill_order) rans
+        (have_replies (number / 512 % 8) (number / 64 % 8) (number / 8 % 8) (number % 8)) said (jobs ∙ ap (map (detect_job frame)) (asked_reached (says None build_plan rans)))
 
-  -- and these are the same members
-  pub asked_by_runs : (frame : DetectFrame) (rans : List Ran) → AreSaid (Some (drill_replies number)) rans →
-      map (λ r. r.job) rans ≡ map (detect_job frame) (asked_members (says build_plan rans) drill_catalog drill_order) →
-      asked_members (says build_plan rans) drill_catalog drill_order ≡ asked_members law drill_catalog drill_order
-  unfolding asked_members drill_replies
-  asked_by_runs frame rans said jobs =
-      let same = said_search frame (drill_replies number) (listed_groups drill_catalog drill_order) rans
-      (have_replies (number / 512 % 8) (number / 64 % 8) (number / 8 % 8) (number % 8)) said jobs in
-      ap members_of same.reached_same
+    -- these are the same members
+    pub asked_by_runs : asked_members None (says None build_plan rans) drill_catalog drill_order ≡ asked_members None law drill_catalog drill_order
+    asked_by_runs = asked_reached (says None build_plan rans) ∙ (ap members_of same_drill.reached_same ∙ sym (asked_reached law))
+
+    -- by the children that ran in a call, each of which answered by the replies
+    pub drilled_by_runs : IsDrilled number (says None build_plan rans)
+    unfolding first_trial
+    drilled_by_runs = record {
+      first = (number / 512 % 8, number / 64 % 8, number / 8 % 8, number % 8, refl, same_drill.ending ∙ by_law);
+      asked = length-map (asked_members None (says None build_plan rans) drill_catalog drill_order) (λ m. m.key)
+          ∙ (ap length (asked_reached (says None build_plan rans)) ∙ (ap (λ groups. length (members_of groups)) same_drill.reached_same ∙ asked_by_law));
+    }

@@ -1,5 +1,5 @@
 -- The groups of the drill by lists of digits, what their members' children say, and what the search comes to.
-use Rattle.std.specs.Prelude.{ℕ, ◌+◌, ◌*◌, ◌^◌, ◌<◌, ◌≡◌, ◌==◌, nat_lt, false, List, [], ◌∷◌, ◌++◌, codes, length, map, Some, if◌then◌else◌}
+use Rattle.std.specs.Prelude.{ℕ, ◌+◌, ◌*◌, ◌^◌, ◌<◌, ◌≡◌, ◌==◌, nat_lt, false, List, [], ◌∷◌, ◌++◌, codes, length, map, None, Some, if◌then◌else◌}
 use Rattle.cnb_toml.specs.declared.names.Key.{Key}
 use Rattle.cnb_toml.specs.declared.meta.Meta.TheVariants.{Table}
 use Rattle.cnb_toml.specs.declared.meta.Need.{Need}
@@ -21,7 +21,7 @@ value [] = 0
 value (digit ∷ digits) = digit * 8 ^ length digits + value digits
 
 abbrev pub member_of : Key → Member
-member_of key = record { key = key; optional = false; clear_env = false }
+member_of key = record { key = key; optional = false; clear_env = false; targets = [] }
 
 abbrev pub digit_member : ℕ → ℕ → Member
 digit_member column digit = member_of (component_key column digit)
@@ -84,4 +84,4 @@ drill_resolved a b c d = record {
 -- asked as the digits say.
 pub record IsDrilled (number : ℕ) (say : Member → Verdict) : Type 0 where
   pub first : (a b c d : ℕ) × (digits_of number ≡ a ∷ b ∷ c ∷ d ∷ []) × (first_trial say drill_catalog drill_order ≡ Some (FirstTrial number (drill_resolved a b c d) (group_keys a b c d)))
-  pub asked : length (asked_keys say drill_catalog drill_order) ≡ asked_from false (digits_of number)
+  pub asked : length (asked_keys None say drill_catalog drill_order) ≡ asked_from false (digits_of number)

@@ -28,7 +28,7 @@ abbrev pub eight : List ℕ
 eight = numbers_below 8
 
 abbrev pub component : Key → Descriptor
-component key = record { key = key; body = Component false }
+component key = record { key = key; body = Component false [] }
 
 -- the composite of a column has eight groups, of one component each
 abbrev pub composite : ℕ → Descriptor

@@ -1,5 +1,5 @@
 -- Which children the spawners of the drill run.
-use Rattle.std.specs.Prelude.{ℕ, ◌≡◌, List, length, map, Result, OnOk, OnErr}
+use Rattle.std.specs.Prelude.{ℕ, ◌≡◌, List, length, map, None, Result, OnOk, OnErr}
 use Rattle.cnb_world.specs.declared.child.Reply.{Reply}
 use Rattle.cnb_world.specs.Runs.{Ran, reply_of}
 use Rattle.cnb_world.specs.declared.values.Memory.{Memory}
@@ -25,6 +25,6 @@ said_by replies member = answer_or_error build_plan (reply_of replies member.key
 pub record RunsDrill {A : Type 0} (number : ℕ) (old : List SpawnerSeen) (result : Result A Memory) (new : List SpawnerSeen) : Type 0 where
   pub answers : List Ran
   pub asked : AskedBy answers old new
-  pub exactly : OnOk result (map (λ ran. ran.job) answers ≡ map (detect_job drill_frame) (asked_members (said_by (drill_replies number)) drill_catalog drill_order))
+  pub exactly : OnOk result (map (λ ran. ran.job) answers ≡ map (detect_job drill_frame) (asked_members None (said_by (drill_replies number)) drill_catalog drill_order))
   pub count : OnOk result (length answers ≡ asked_count number)
   pub some : OnErr result (AreSome (map (λ ran. ran.job) answers) (map (detect_job drill_frame) (members_of (listed_groups drill_catalog drill_order))))

@@ -12,12 +12,15 @@ use cnb_world::{List, Memory};
 use order_expand::{Catalog, CatalogFault};
 use std::alloc::Global;
 
-fn component(key: Key) -> Descriptor
+fn component(alloc: Global, key: Key) -> Descriptor
     ensures { result ≡ component key }
 {
     Descriptor {
         key,
-        body: Body::Component { clear_env: false },
+        body: Body::Component {
+            clear_env: false,
+            targets: List::new(alloc),
+        },
     }
 }
 
@@ -63,11 +66,11 @@ fn add(catalog: &mut Catalog, descriptor: Descriptor) -> Result<(), Memory>
 }
 
 /// Adds a component whose key is new.
-fn add_component(catalog: &mut Catalog, key: Key) -> Result<(), Memory>
+fn add_component(alloc: Global, catalog: &mut Catalog, key: Key) -> Result<(), Memory>
     requires { has_key catalog.old key ≡ false }
     ensures { OnOk result (catalog.new ≡ catalog.old ++ component key ∷ []) }
 {
-    add(catalog, component(key))
+    add(catalog, component(alloc, key))
 }
 
 /// Adds a column behind those before it.
@@ -80,7 +83,7 @@ fn add_column(alloc: Global, catalog: &mut Catalog, column: u8) -> Result<(), Me
     add(catalog, own)?;
     for digit in 0..8u8 {
         let key = component_key(alloc, column, digit)?;
-        add_component(catalog, key)?;
+        add_component(alloc, catalog, key)?;
     }
     Ok(())
 }
@@ -93,6 +96,6 @@ pub(crate) fn catalog(alloc: Global) -> Result<Catalog, Memory>
         add_column(alloc, &mut catalog, column)?;
     }
     let key = tail_key(alloc)?;
-    add_component(&mut catalog, key)?;
+    add_component(alloc, &mut catalog, key)?;
     Ok(catalog)
 }

@@ -55,6 +55,7 @@ fn frame(alloc: Global) -> Result<DetectFrame, Memory>
         work,
         env,
         files,
+        target: None,
     })
 }
 

@@ -1,3 +1,4 @@
+use Rattle.std.specs.Prelude.{None}
 use Rattle.cnb_drill.specs.Frame.{drill_frame}
 use Rattle.cnb_drill.proofs.detection.frame.Goals as goal
 
@@ -11,4 +12,5 @@ returns c =
       work = c.in_ok-work.ensures i;
       env = c.new-env.ensures i;
       files = c.new-files.ensures i;
+      target = None;
     }
