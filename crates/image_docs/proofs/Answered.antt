@@ -2,7 +2,7 @@
 use Rattle.std.proofs.Common.{◌≡◌, ◌∙◌, refl, sym, ap, subst, ℕ, ◌+◌, Bool, true, false, not, ◌&&◌, ◌||◌, List, [], ◌∷◌, ◌++◌, Option, Some, None, Result, Ok, Err}
 use Rattle.std.specs.Prelude.{IfOk, if◌then◌else◌}
 use Rattle.std.specs.Fmt.{decimal}
-use Rattle.std.specs.List.{list_all, list_any}
+use Rattle.std.specs.List.{list_all}
 use Rattle.std.proofs.lemmas.Bool.{and_from, and_parts, not-true, or_from, or_parts}
 use Rattle.std.proofs.lemmas.List.Folds.{list_all-append, list_any-append}
 use Rattle.toml.specs.Data.{Data, Items, no_items, item, Members, as_array, as_str, as_table, get_member}
@@ -10,8 +10,8 @@ use Rattle.cnb_toml.specs.declared.fault.DocFault.{DocFault}
 use Rattle.cnb_toml.specs.declared.fault.DocFault.TheVariants.{Name, Wrong}
 use Rattle.cnb_toml.specs.Distinct.{are_distinct, has_key, is_new}
 use Rattle.cnb_toml.specs.Document.{document_in, document_of}
-use Rattle.cnb_toml.specs.Fields.{filled, list_at, optional_at, read_or, read_required, required_at, some_of, value_or}
-use Rattle.cnb_toml.specs.Form.{Form, TableForm, filled_text, filled_text_of, items_in, list_of, name_of, or_wrong, table_of, text_of}
+use Rattle.cnb_toml.specs.Fields.{filled, list_at, read_or, read_required, required_at, value_or}
+use Rattle.cnb_toml.specs.Form.{Form, TableForm, filled_text, filled_text_of, items_in, list_of, name_of, or_wrong, table_of}
 use Rattle.cnb_toml.specs.Reading.{◌>>=◌, Answers, under}
 use Rattle.cnb_toml.specs.Rows.{RowForm, rows_in, rows_of}
 use Rattle.cnb_toml.specs.Written.{is_filled}

@@ -1,10 +1,10 @@
 -- An image, or a run image, that was read can be read again from what is written of it.
-use Rattle.std.proofs.Common.{◌≡◌, ◌∙◌, refl, ap, ℕ, ℤ, Bool, true, false, not, ◌&&◌, List, [], ◌∷◌, codes, Option, Some, None, Result, Ok, Err}
+use Rattle.std.proofs.Common.{◌≡◌, refl, ap, ℕ, ℤ, Bool, true, false, not, ◌&&◌, List, [], ◌∷◌, codes, map, Option, Some, None, Result, Ok, Err}
 use Rattle.std.specs.Prelude.{if◌then◌else◌}
 use Rattle.std.specs.List.{list_all}
 use Rattle.std.specs.Str.{bytes_eq}
-use Rattle.std.proofs.lemmas.Bool.{and_from}
-use Rattle.toml.specs.Data.{Data, Members}
+use Rattle.std.proofs.lemmas.Bool.{and_from, and_parts}
+use Rattle.toml.specs.Data.{Data, Members, as_str}
 use Rattle.cnb_world.specs.Path.{is_short_path}
 use Rattle.cnb_world.specs.declared.env.Variable.{Variable}
 use Rattle.cnb_toml.specs.declared.fault.DocFault.{DocFault}
@@ -16,7 +16,7 @@ use Rattle.cnb_toml.specs.declared.process.Process.{Process}
 use Rattle.cnb_toml.specs.Distinct.{has_key}
 use Rattle.cnb_toml.specs.DistinctLaws.{bytes_eq-symmetric}
 use Rattle.cnb_toml.specs.Fields.{filled_list_at, list_at, optional_at, required_at, some_of, truth_at, value_or}
-use Rattle.cnb_toml.specs.Form.{list_of, name_of, table_of, text_of, filled_text_of}
+use Rattle.cnb_toml.specs.Form.{list_of, name_of, or_wrong, table_of, text_of, filled_text_of}
 use Rattle.cnb_toml.specs.Keys.{key_in}
 use Rattle.cnb_toml.specs.Label.{is_label, label_in}
 use Rattle.cnb_toml.specs.Meta.{is_kept, metadata_in}
@@ -31,17 +31,21 @@ use Rattle.image_docs.specs.declared.image.ImageDoc.{ImageDoc}
 use Rattle.image_docs.specs.declared.image.Provided.{Provided}
 use Rattle.image_docs.specs.declared.launch_doc.LaunchDoc.{LaunchDoc}
 use Rattle.image_docs.specs.declared.layer_row.LayerRow.{LayerRow}
+use Rattle.image_docs.specs.declared.old_row.OldRow.{OldRow}
 use Rattle.image_docs.specs.declared.row.Role.{Role}
+use Rattle.image_docs.specs.declared.row.Role.TheVariants as held
 use Rattle.image_docs.specs.declared.row.Row.{Row}
-use Rattle.image_docs.specs.declared.run_image.RunDoc.{RunDoc}
 use Rattle.image_docs.specs.declared.store_row.StoreRow.{StoreRow}
 use Rattle.image_docs.specs.Base.{base_in, is_base}
+use Rattle.image_docs.specs.By.{by_in, by_of, is_by}
+use Rattle.image_docs.specs.ByLaws.{plain_is_plain, run_by_read}
 use Rattle.image_docs.specs.DigestText.{digest_of}
 use Rattle.image_docs.specs.EnvRows.{env_at, env_in, env_of, is_env, variable_in}
-use Rattle.image_docs.specs.Image.{image_table_in, is_image_doc, provided_in, version_of}
+use Rattle.image_docs.specs.Image.{image_table_in, is_image_doc, is_one, provided_in, rows_of_version, version_of}
 use Rattle.image_docs.specs.LaunchDoc.{is_launch_doc, launch_doc_table_in, process_kind, process_row_in}
 use Rattle.image_docs.specs.LayerRow.{are_layers, cache_flag, is_layer_row, layer_in, layer_key, layer_row_in, layers_at, same_layer}
 use Rattle.image_docs.specs.LayerRowLaws.{same_layer-symmetric}
+use Rattle.image_docs.specs.OldRow.{migrated, old_by, old_row_in, old_rows_at}
 use Rattle.image_docs.specs.Row.{are_ordered, are_rows, is_row, ordered_rows, role_of, row_in, rows_at}
 use Rattle.image_docs.specs.RunImage.{is_run_doc, table_in}
 use Rattle.image_docs.specs.StoreRow.{is_kept_row, is_store, store_id, store_row_in}
@@ -49,31 +53,45 @@ use Rattle.image_docs.proofs.Answered.{Holds, and_then, at_list, at_or, at_requi
 
 -- ---- the parts of an image
 
-base_made : (name top os arch : Result (List ℕ) DocFault) → Holds is_target_name os → Holds is_target_name arch
-    → Holds is_base (name >>= (λ n. top >>= (λ t. os >>= (λ o. arch >>= (λ a. Ok (record { name = n; top = t; os = o; arch = a }))))))
-base_made (Err fault) top os arch h k = tt
-base_made (Ok n) (Err fault) os arch h k = tt
-base_made (Ok n) (Ok t) (Err fault) arch h k = tt
-base_made (Ok n) (Ok t) (Ok o) (Err fault) h k = tt
-base_made (Ok n) (Ok t) (Ok o) (Ok a) h k = and_from (is_target_name o) (is_target_name a) h k
+-- a note of a run image that was read: its name is one
+abbrev is_named_base : Base → Bool
+is_named_base base = is_image_name base.name && is_base base
 
-base_holds : (table : Members) → Holds is_base (base_in table)
+base_made : (name top os arch : Result (List ℕ) DocFault) → Holds is_image_name name → Holds is_target_name os → Holds is_target_name arch
+    → Holds is_named_base (name >>= (λ n. top >>= (λ t. os >>= (λ o. arch >>= (λ a. Ok (record { name = n; top = t; os = o; arch = a }))))))
+base_made (Err fault) top os arch g h k = tt
+base_made (Ok n) (Err fault) os arch g h k = tt
+base_made (Ok n) (Ok t) (Err fault) arch g h k = tt
+base_made (Ok n) (Ok t) (Ok o) (Err fault) g h k = tt
+base_made (Ok n) (Ok t) (Ok o) (Ok a) g h k = and_from (is_image_name n) (is_target_name o && is_target_name a) g (and_from (is_target_name o) (is_target_name a) h k)
+
+base_holds : (table : Members) → Holds is_named_base (base_in table)
 base_holds table =
     base_made (required_at (name_of is_image_name) (codes "name") table) (required_at digest_of (codes "top") table) (required_at (name_of is_target_name) (codes "os") table) (required_at (name_of is_target_name) (codes "arch") table)
+    (at_required (name_of is_image_name) is_image_name (in_name is_image_name) (codes "name") table)
     (at_required (name_of is_target_name) is_target_name (in_name is_target_name) (codes "os") table)
     (at_required (name_of is_target_name) is_target_name (in_name is_target_name) (codes "arch") table)
 
-row_made : (role : Result Role DocFault) (place digest : Result (List ℕ) DocFault) → Holds is_short_path place
-    → Holds is_row (role >>= (λ r. place >>= (λ p. digest >>= (λ d. Ok (record { role = r; place = p; digest = d })))))
-row_made (Err fault) place digest h = tt
-row_made (Ok r) (Err fault) digest h = tt
-row_made (Ok r) (Ok p) (Err fault) h = tt
-row_made (Ok r) (Ok p) (Ok d) h = h
+row_made : (role : Result Role DocFault) (place digest by : Result (List ℕ) DocFault) → Holds is_short_path place → Holds is_by by
+    → Holds is_row (role >>= (λ r. place >>= (λ p. digest >>= (λ d. by >>= (λ b. Ok (record { role = r; place = p; digest = d; by = b }))))))
+row_made (Err fault) place digest by h k = tt
+row_made (Ok r) (Err fault) digest by h k = tt
+row_made (Ok r) (Ok p) (Err fault) by h k = tt
+row_made (Ok r) (Ok p) (Ok d) (Err fault) h k = tt
+row_made (Ok r) (Ok p) (Ok d) (Ok b) h k = and_from (is_short_path p) (is_by b) h k
+
+by_holds : (value : Data) → Holds is_by (by_of value)
+by_holds value = by (as_str value)
+  where
+    by : (o : Option (List ℕ)) → Holds is_by (or_wrong o >>= by_in)
+    by (Some text) = tested is_by text (Wrong [])
+    by None = tt
 
 row_holds : (table : Members) → Holds is_row (row_in table)
 row_holds table =
-    row_made (required_at role_of (codes "role") table) (required_at (name_of is_short_path) (codes "place") table) (required_at digest_of (codes "digest") table)
+    row_made (required_at role_of (codes "role") table) (required_at (name_of is_short_path) (codes "place") table) (required_at digest_of (codes "digest") table) (required_at by_of (codes "by") table)
     (at_required (name_of is_short_path) is_short_path (in_name is_short_path) (codes "place") table)
+    (at_required by_of is_by by_holds (codes "by") table)
 
 ordered_hold : (rows : List Row) (ordered : Bool) → are_ordered rows ≡ ordered → list_all is_row rows ≡ true → Holds are_rows (if ordered then Ok rows else Err (Wrong (codes "rows")))
 ordered_hold rows true e each = and_from (list_all is_row rows) (are_ordered rows) each e
@@ -84,6 +102,52 @@ rows_hold table =
     and_then (list_all is_row) are_rows (list_at (table_of row_in) (codes "rows") table) ordered_rows
     (at_list (table_of row_in) is_row (codes "rows") table (in_table row_in is_row row_holds))
     (λ rows each. ordered_hold rows (are_ordered rows) refl each)
+
+-- ---- the rows of version 1
+
+abbrev is_old_row : OldRow → Bool
+is_old_row old = is_short_path old.place
+
+old_row_made : (role : Result Role DocFault) (place digest : Result (List ℕ) DocFault) → Holds is_short_path place
+    → Holds is_old_row (role >>= (λ r. place >>= (λ p. digest >>= (λ d. Ok (record { role = r; place = p; digest = d })))))
+old_row_made (Err fault) place digest h = tt
+old_row_made (Ok r) (Err fault) digest h = tt
+old_row_made (Ok r) (Ok p) (Err fault) h = tt
+old_row_made (Ok r) (Ok p) (Ok d) h = h
+
+old_row_holds : (table : Members) → Holds is_old_row (old_row_in table)
+old_row_holds table =
+    old_row_made (required_at role_of (codes "role") table) (required_at (name_of is_short_path) (codes "place") table) (required_at digest_of (codes "digest") table)
+    (at_required (name_of is_short_path) is_short_path (in_name is_short_path) (codes "place") table)
+
+old_by_holds : (base : List ℕ) (role : Role) (place : List ℕ) → is_image_name base ≡ true → is_by (old_by base role place) ≡ true
+old_by_holds base held.Run place named = run_by_read base named
+old_by_holds base held.Layer place named = plain_is_plain place
+old_by_holds base held.App place named = plain_is_plain place
+old_by_holds base held.Launcher place named = plain_is_plain place
+old_by_holds base held.Process place named = plain_is_plain place
+
+migrated_hold : (base : List ℕ) (rows : List OldRow) → is_image_name base ≡ true → list_all is_old_row rows ≡ true → list_all is_row (map (migrated base) rows) ≡ true
+migrated_hold base [] named each = refl
+migrated_hold base (old ∷ rows) named each =
+    let (first, rest) = and_parts (is_old_row old) (list_all is_old_row rows) each in
+    and_from (is_row (migrated base old)) (list_all is_row (map (migrated base) rows))
+    (and_from (is_short_path old.place) (is_by (old_by base old.role old.place)) first (old_by_holds base old.role old.place named)) (migrated_hold base rows named rest)
+
+old_rows_hold : (base : List ℕ) (table : Members) → is_image_name base ≡ true → Holds are_rows (old_rows_at base table)
+old_rows_hold base table named =
+    and_then (list_all is_old_row) are_rows (list_at (table_of old_row_in) (codes "rows") table) (λ rows. ordered_rows (map (migrated base) rows))
+    (at_list (table_of old_row_in) is_old_row (codes "rows") table (in_table old_row_in is_old_row old_row_holds))
+    (λ rows each. ordered_hold (map (migrated base) rows) (are_ordered (map (migrated base) rows)) refl (migrated_hold base rows named each))
+
+version_rows_hold : (version : ℤ) (base : List ℕ) (table : Members) → is_image_name base ≡ true → Holds are_rows (rows_of_version version base table)
+version_rows_hold version base table named = by (is_one version)
+  where
+    by : (old : Bool) → Holds are_rows (if old then old_rows_at base table else rows_at table)
+    by true = old_rows_hold base table named
+    by false = rows_hold table
+
+-- ---- the environment, and what buildpacks gave
 
 env_holds : (value : Data) → Holds is_env (env_of value)
 env_holds value = by (list_of (table_of variable_in) value)
@@ -199,27 +263,39 @@ provided_holds table =
     (at_required (table_of launch_doc_table_in) is_launch_doc (in_table launch_doc_table_in is_launch_doc launch_holds) (codes "launch") table)
     (layers_hold table) (store_holds table)
 
-image_made : (version : Result ℤ DocFault) (base : Result Base DocFault) (rows : Result (List Row) DocFault) (env : Result (List Variable) DocFault) (entrypoint : Result (List ℕ) DocFault) (provided : Result Provided DocFault)
-    → Holds is_base base → Holds are_rows rows → Holds is_env env → Holds is_short_path entrypoint → Holds is_provided provided
-    → Holds is_image_doc (version >>= (λ v. base >>= (λ b. rows >>= (λ r. env >>= (λ e. entrypoint >>= (λ n. provided >>= (λ p.
-    Ok (record { base = b; rows = r; env = e; entrypoint = n; labels = p.labels; launch = p.launch; layers = p.layers; store = p.store }))))))))
-image_made (Err fault) base rows env entrypoint provided hb hr he hn hp = tt
-image_made (Ok v) (Err fault) rows env entrypoint provided hb hr he hn hp = tt
-image_made (Ok v) (Ok b) (Err fault) env entrypoint provided hb hr he hn hp = tt
-image_made (Ok v) (Ok b) (Ok r) (Err fault) entrypoint provided hb hr he hn hp = tt
-image_made (Ok v) (Ok b) (Ok r) (Ok e) (Err fault) provided hb hr he hn hp = tt
-image_made (Ok v) (Ok b) (Ok r) (Ok e) (Ok n) (Err fault) hb hr he hn hp = tt
-image_made (Ok v) (Ok b) (Ok r) (Ok e) (Ok n) (Ok p) hb hr he hn hp =
+image_made : (base : Base) (rows : Result (List Row) DocFault) (env : Result (List Variable) DocFault) (entrypoint : Result (List ℕ) DocFault) (provided : Result Provided DocFault)
+    → is_base base ≡ true → Holds are_rows rows → Holds is_env env → Holds is_short_path entrypoint → Holds is_provided provided
+    → Holds is_image_doc (rows >>= (λ r. env >>= (λ e. entrypoint >>= (λ n. provided >>= (λ p.
+    Ok (record { base = base; rows = r; env = e; entrypoint = n; labels = p.labels; launch = p.launch; layers = p.layers; store = p.store }))))))
+image_made b (Err fault) env entrypoint provided hb hr he hn hp = tt
+image_made b (Ok r) (Err fault) entrypoint provided hb hr he hn hp = tt
+image_made b (Ok r) (Ok e) (Err fault) provided hb hr he hn hp = tt
+image_made b (Ok r) (Ok e) (Ok n) (Err fault) hb hr he hn hp = tt
+image_made b (Ok r) (Ok e) (Ok n) (Ok p) hb hr he hn hp =
     and_from (is_base b) (are_rows r && (is_env e && (is_short_path n && is_provided p))) hb (and_from (are_rows r) (is_env e && (is_short_path n && is_provided p)) hr (and_from (is_env e) (is_short_path n && is_provided p) he (and_from (is_short_path n) (is_provided p) hn hp)))
+
+-- what is read behind the version and the note of the run image
+abbrev image_behind : ℤ → Members → Base → Result ImageDoc DocFault
+image_behind version table base =
+    rows_of_version version base.name table >>= (λ r. env_at table >>= (λ e. required_at (name_of is_short_path) (codes "entrypoint") table >>= (λ n. provided_in table >>= (λ p.
+    Ok (record { base = base; rows = r; env = e; entrypoint = n; labels = p.labels; launch = p.launch; layers = p.layers; store = p.store })))))
+
+behind_holds : (version : ℤ) (table : Members) (base : Base) → is_named_base base ≡ true → Holds is_image_doc (image_behind version table base)
+behind_holds version table base h =
+    let parts = and_parts (is_image_name base.name) (is_base base) h in
+    image_made base (rows_of_version version base.name table) (env_at table) (required_at (name_of is_short_path) (codes "entrypoint") table) (provided_in table)
+    parts.1 (version_rows_hold version base.name table parts.0) (env_at_holds table)
+    (at_required (name_of is_short_path) is_short_path (in_name is_short_path) (codes "entrypoint") table)
+    (provided_holds table)
 
 -- an image that was read
 pub image_holds : (table : Members) → Holds is_image_doc (image_table_in table)
 image_holds table =
-    image_made (required_at version_of (codes "version") table) (required_at (table_of base_in) (codes "base") table) (rows_at table) (env_at table) (required_at (name_of is_short_path) (codes "entrypoint") table) (provided_in table)
-    (at_required (table_of base_in) is_base (in_table base_in is_base base_holds) (codes "base") table)
-    (rows_hold table) (env_at_holds table)
-    (at_required (name_of is_short_path) is_short_path (in_name is_short_path) (codes "entrypoint") table)
-    (provided_holds table)
+    let version = required_at version_of (codes "version") table in
+    and_then (λ (v : ℤ). true) is_image_doc version (λ v. required_at (table_of base_in) (codes "base") table >>= image_behind v table)
+    (holds_by (λ (v : ℤ). true) version (λ v is. refl))
+    (λ v any. and_then is_named_base is_image_doc (required_at (table_of base_in) (codes "base") table) (image_behind v table)
+    (at_required (table_of base_in) is_named_base (in_table base_in is_named_base base_holds) (codes "base") table) (behind_holds v table))
 
 run_made : (os arch : Result (List ℕ) DocFault) (rows : Result (List (List ℕ)) DocFault) (env : Result (List Variable) DocFault) → Holds is_target_name os → Holds is_target_name arch → Holds is_filled rows → Holds is_env env
     → Holds is_run_doc (os >>= (λ o. arch >>= (λ a. rows >>= (λ r. env >>= (λ e. Ok (record { os = o; arch = a; rows = r; env = e }))))))

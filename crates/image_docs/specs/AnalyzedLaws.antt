@@ -5,7 +5,7 @@ use Rattle.std.proofs.lemmas.Bool.{and_parts}
 use Rattle.std.proofs.Math.Nat.{le_refl}
 use Rattle.toml.specs.Data.{members_depth, members_have_valid_dates}
 use Rattle.cnb_toml.specs.Names.{is_image_name, is_target_name}
-use Rattle.cnb_toml.specs.WrittenLaws.{name_read, zero_within}
+use Rattle.cnb_toml.specs.WrittenLaws.{name_read}
 use Rattle.image_docs.specs.declared.analyzed.Analyzed.{Analyzed}
 use Rattle.image_docs.specs.Analyzed.{table_in, is_optional_name, has_names, is_analyzed, analyzed_members}
 

@@ -1,11 +1,10 @@
 -- The layers that a cache keeps.
 use Rattle.std.specs.Prelude.{ℕ, Bool, true, List, Result, codes}
-use Rattle.std.specs.List.{list_all}
 use Rattle.toml.specs.Data.{Members, no_members, member}
 use Rattle.cnb_toml.specs.declared.fault.DocFault.{DocFault}
 use Rattle.cnb_toml.specs.Document.{document_of}
 use Rattle.image_docs.specs.declared.layer_row.LayerRow.{LayerRow}
-use Rattle.image_docs.specs.LayerRow.{layers_at, has_layer_names, are_layers, layers_data}
+use Rattle.image_docs.specs.LayerRow.{layers_at, are_layers, layers_data}
 
 -- the layers that bytes read as, or their first fault
 abbrev pub cache_in : List ℕ → Result (List LayerRow) DocFault

@@ -8,7 +8,7 @@ use Rattle.cnb_world.specs.declared.env.Variable.{Variable}
 use Rattle.cnb_toml.specs.Form.{table_of}
 use Rattle.cnb_toml.specs.Written.{table_data}
 use Rattle.cnb_toml.specs.WrittenLaws.{all_true, list_read, list_dates, list_within}
-use Rattle.image_docs.specs.EnvRows.{variable_in, is_env, env_in, env_of, variable_members, env_data}
+use Rattle.image_docs.specs.EnvRows.{variable_in, is_env, env_of, variable_members, env_data}
 
 pub env_read : (variables : List Variable) → is_env variables ≡ true → env_of (env_data variables) ≡ Ok variables
 env_read variables sound =

@@ -1,22 +1,22 @@
 -- An image reads back.
-use Rattle.std.specs.Prelude.{◌≡◌, ◌≤◌, ℤ, true, false, ◌&&◌, List, Ok}
+use Rattle.std.specs.Prelude.{◌≡◌, ◌≤◌, ℤ, true, false, ◌&&◌, Ok}
 use Rattle.std.specs.List.{list_all}
 use Rattle.std.proofs.Common.{refl}
 use Rattle.std.proofs.Math.Nat.{le_refl, le_trans, max-le}
 use Rattle.std.proofs.lemmas.Bool.{and_parts, and_from, cond-true, leb-true}
 use Rattle.toml.specs.Data.{integer, members_depth, members_have_valid_dates}
 use Rattle.cnb_world.specs.Path.{is_short_path}
-use Rattle.cnb_toml.specs.Form.{table_of, list_of}
+use Rattle.cnb_toml.specs.Form.{table_of}
 use Rattle.cnb_toml.specs.Label.{label_in, is_label, label_members}
 use Rattle.cnb_toml.specs.LabelLaws.{label_read}
-use Rattle.cnb_toml.specs.Written.{list_data, table_data}
+use Rattle.cnb_toml.specs.Written.{table_data}
 use Rattle.cnb_toml.specs.WrittenLaws.{all_true, zero_within, suc_within, name_read, list_read, list_dates, list_within}
 use Rattle.image_docs.specs.declared.image.ImageDoc.{ImageDoc}
 use Rattle.image_docs.specs.Base.{has_base_names, is_base}
 use Rattle.image_docs.specs.BaseLaws.{base_read}
 use Rattle.image_docs.specs.EnvRows.{is_env}
 use Rattle.image_docs.specs.EnvRowsLaws.{env_read, env_dates, env_within}
-use Rattle.image_docs.specs.Image.{is_one, version_of, image_table_in, has_image_names, is_image_doc, image_members}
+use Rattle.image_docs.specs.Image.{is_known, version_of, image_table_in, has_image_names, is_image_doc, image_members}
 use Rattle.image_docs.specs.LaunchDoc.{has_launch_names, is_launch_doc}
 use Rattle.image_docs.specs.LaunchDocLaws.{launch_doc_read, launch_doc_dates, launch_doc_within}
 use Rattle.image_docs.specs.LayerRow.{has_layer_names, are_layers}
@@ -26,8 +26,8 @@ use Rattle.image_docs.specs.RowLaws.{rows_read_list, ordered_read, rows_dates, r
 use Rattle.image_docs.specs.StoreRow.{has_id, is_store}
 use Rattle.image_docs.specs.StoreRowLaws.{store_read, store_dates, store_within}
 
-pub version_read : (number : ℤ) → is_one number ≡ true → version_of (integer number) ≡ Ok number
-version_read number one = cond-true (is_one number) _ _ one
+pub version_read : (number : ℤ) → is_known number ≡ true → version_of (integer number) ≡ Ok number
+version_read number known = cond-true (is_known number) _ _ known
 
 -- what the types of an image say of its parts
 pub record Names (image : ImageDoc) : Type 0 where

@@ -1,5 +1,5 @@
 -- A launch document reads back.
-use Rattle.std.specs.Prelude.{◌≡◌, ◌≤◌, ◌&&◌, ℕ, true, List, [], Option, Some, None, Ok}
+use Rattle.std.specs.Prelude.{◌≡◌, ◌≤◌, ◌&&◌, ℕ, true, List, Option, Some, None, Ok}
 use Rattle.std.specs.List.{list_all}
 use Rattle.std.specs.Str.{bytes_eq}
 use Rattle.std.proofs.Common.{refl}
@@ -20,7 +20,7 @@ use Rattle.cnb_toml.specs.WrittenLaws.{all_true, zero_within, name_read, key_rea
 use Rattle.image_docs.specs.declared.launch_doc.LaunchDoc.{LaunchDoc}
 use Rattle.image_docs.specs.DistinctRows.{may_follow}
 use Rattle.image_docs.specs.DistinctRowsLaws.{distinct_row_read, distinct_row_within, distinct_rows_follow}
-use Rattle.image_docs.specs.LaunchDoc.{process_kind, process_row_in, launch_doc_table_in, is_optional_type, has_launch_names, is_launch_doc, with_default, launch_doc_members}
+use Rattle.image_docs.specs.LaunchDoc.{process_kind, process_row_in, launch_doc_table_in, is_optional_type, has_launch_names, is_launch_doc, launch_doc_members}
 
 pub process_row_read : (before : List Process) (process : Process) → has_type process ≡ true → may_follow bytes_eq process_kind is_process before process ≡ true → process_row_in before (process_members process) ≡ Ok process
 process_row_read = distinct_row_read bytes_eq process_kind is_process process_members process_in has_type process_read

@@ -2,6 +2,8 @@ pub mod Analyzed
 pub mod AnalyzedLaws
 pub mod Base
 pub mod BaseLaws
+pub mod By
+pub mod ByLaws
 pub mod CacheRows
 pub mod CacheRowsLaws
 pub mod DigestText
@@ -16,6 +18,7 @@ pub mod LaunchDoc
 pub mod LaunchDocLaws
 pub mod LayerRow
 pub mod LayerRowLaws
+pub mod OldRow
 pub mod Row
 pub mod RowLaws
 pub mod RunImage

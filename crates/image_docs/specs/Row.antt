@@ -1,4 +1,4 @@
--- The rows of an image, from the lowest: where each stands and what its tree is, in this project's own layout.
+-- The rows of an image, from the lowest: where each stands, what its tree is and what made it, in this project's own layout.
 use Rattle.std.specs.Prelude.{ℕ, Bool, true, false, not, ◌&&◌, List, [], ◌∷◌, Result, Ok, Err, codes, if◌then◌else◌}
 use Rattle.std.specs.List.{list_all}
 use Rattle.std.specs.Str.{bytes_eq}
@@ -8,11 +8,12 @@ use Rattle.cnb_toml.specs.declared.fault.DocFault.{DocFault}
 use Rattle.cnb_toml.specs.declared.fault.DocFault.TheVariants as fault
 use Rattle.cnb_toml.specs.Fields.{required_at, list_at}
 use Rattle.cnb_toml.specs.Form.{Form, TableForm, text_of, name_of, table_of}
-use Rattle.cnb_toml.specs.Reading.{◌>>=◌, under}
+use Rattle.cnb_toml.specs.Reading.{◌>>=◌}
 use Rattle.cnb_toml.specs.Written.{list_data, table_data}
 use Rattle.image_docs.specs.declared.row.Role.{Role}
 use Rattle.image_docs.specs.declared.row.Role.TheVariants.{Run, Layer, App, Launcher, Process}
 use Rattle.image_docs.specs.declared.row.Row.{Row}
+use Rattle.image_docs.specs.By.{by_of, is_by}
 use Rattle.image_docs.specs.DigestText.{digest_of, is_digest, digest_data}
 
 -- the word of a role
@@ -44,7 +45,8 @@ row_in table = do
   role ← required_at role_of (codes "role") table
   place ← required_at (name_of is_short_path) (codes "place") table
   digest ← required_at digest_of (codes "digest") table
-  Ok (record { role = role; place = place; digest = digest })
+  by ← required_at by_of (codes "by") table
+  Ok (record { role = role; place = place; digest = digest; by = by })
 
 abbrev pub is_run : Row → Bool
 is_run row = bytes_eq (role_text row.role) (role_text Run)
@@ -70,14 +72,15 @@ has_digest row = is_digest row.digest
 
 -- a row that can be read
 abbrev pub is_row : Row → Bool
-is_row row = is_short_path row.place
+is_row row = is_short_path row.place && is_by row.by
 
 abbrev pub are_rows : List Row → Bool
 are_rows rows = list_all is_row rows && are_ordered rows
 
 -- what is written of it
 abbrev pub row_members : Row → Members
-row_members row = member (codes "digest") (digest_data row.digest) (member (codes "place") (string row.place) (member (codes "role") (role_data row.role) no_members))
+row_members row =
+    member (codes "by") (string row.by) (member (codes "digest") (digest_data row.digest) (member (codes "place") (string row.place) (member (codes "role") (role_data row.role) no_members)))
 
 abbrev pub rows_data : List Row → Data
 rows_data rows = list_data (table_data row_members) rows

@@ -3,7 +3,7 @@ use Rattle.std.specs.Prelude.{◌≡◌, ◌≤◌, true, List, Ok}
 use Rattle.std.specs.List.{list_all}
 use Rattle.std.proofs.Common.{refl}
 use Rattle.std.proofs.Math.Nat.{le_refl}
-use Rattle.std.proofs.lemmas.Bool.{cond-true}
+use Rattle.std.proofs.lemmas.Bool.{and_parts, cond-true}
 use Rattle.toml.specs.Data.{depth, has_valid_dates}
 use Rattle.cnb_world.specs.Path.{is_short_path}
 use Rattle.cnb_toml.specs.Form.{table_of, list_of}
@@ -12,6 +12,8 @@ use Rattle.cnb_toml.specs.WrittenLaws.{all_true, name_read, list_read, list_date
 use Rattle.image_docs.specs.declared.row.Role.{Role}
 use Rattle.image_docs.specs.declared.row.Role.TheVariants.{Run, Layer, App, Launcher, Process}
 use Rattle.image_docs.specs.declared.row.Row.{Row}
+use Rattle.image_docs.specs.By.{is_by}
+use Rattle.image_docs.specs.ByLaws.{by_read}
 use Rattle.image_docs.specs.DigestTextLaws.{digest_read}
 use Rattle.image_docs.specs.Row.{role_of, role_data, row_in, are_ordered, ordered_rows, has_digest, is_row, row_members, rows_data}
 
@@ -23,7 +25,9 @@ role_read Launcher = refl
 role_read Process = refl
 
 pub row_read : (row : Row) → has_digest row ≡ true → is_row row ≡ true → row_in (row_members row) ≡ Ok row
-row_read row typed sound = rw (role_read row.role, name_read is_short_path row.place sound, digest_read row.digest typed)
+row_read row typed sound =
+    let parts = and_parts (is_short_path row.place) (is_by row.by) sound in
+    rw (role_read row.role, name_read is_short_path row.place parts.0, digest_read row.digest typed, by_read row.by parts.1)
 
 pub rows_read_list : (rows : List Row) → list_all has_digest rows ≡ true → list_all is_row rows ≡ true → list_of (table_of row_in) (rows_data rows) ≡ Ok rows
 rows_read_list rows typed sound = list_read (table_data row_members) (table_of row_in) has_digest is_row row_read rows typed sound

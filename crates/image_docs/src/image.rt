@@ -2,21 +2,23 @@
 ghost use Rattle.std.specs.Prelude.{◌≡◌, true, IfOk, IsTrue, Ok};
 ghost use Rattle.std.proofs.Common.{refl};
 ghost use Rattle.toml.specs.Data.{integer};
+ghost use Rattle.toml.specs.View.{table_view};
 ghost use Rattle.cnb_toml.specs.Document.{document_in};
 ghost use Rattle.cnb_toml.specs.Reading.{Answers};
 ghost use Rattle.cnb_toml.specs.WrittenLaws.{zero_within};
-ghost use Rattle.image_docs.specs.Image.{is_one, version_in, version_of, provided_in, image_table_in, image_in, has_image_names, is_image_doc, image_members};
+ghost use Rattle.image_docs.specs.Image.{is_known, is_one, rows_of_version, version_in, version_of, provided_in, image_table_in, image_in, has_image_names, is_image_doc, image_members};
 ghost use Rattle.image_docs.specs.ImageLaws.{version_read, image_read, image_dates, image_within};
 
 use crate::base::Base;
 use crate::env_rows::EnvRows;
 use crate::launch_doc::LaunchDoc;
 use crate::layer_row::{LayerRow, LayerTable};
+use crate::old_row::old_rows_at;
 use crate::row::{Row, rows_at};
 use crate::store_row::StoreRow;
 use cnb_toml::{
-    DocFault, Form, Label, ListOf, RowsOf, TableForm, TableOf, Written, WrittenTable, list_at,
-    put_at, read_document, required_at, value_or, write_document,
+    DocFault, Form, ImageName, Label, ListOf, RowsOf, TableForm, TableOf, Written, WrittenTable,
+    list_at, put_at, read_document, required_at, value_or, write_document,
 };
 use cnb_world::{Bytes, Env, List, Memory, Path};
 use std::alloc::Global;
@@ -39,7 +41,7 @@ pub struct ImageDoc {
 /// The version of the layout, as a value.
 struct Version;
 
-const VERSION: i64 = 1;
+const VERSION: i64 = 2;
 
 impl Form for Version {
     type Value = i64;
@@ -59,7 +61,7 @@ impl Written for Version {
 
     ghost is_typed = { λ _. true };
 
-    ghost is_sound = { is_one };
+    ghost is_sound = { is_known };
 
     ghost nesting = { 0 };
 
@@ -78,8 +80,24 @@ fn version_in(alloc: Global, number: i64) -> Result<i64, DocFault>
     ensures { Answers result (version_in number) }
 {
     match number {
-        1 => Ok(number),
+        1 | 2 => Ok(number),
         _ => Err(DocFault::wrong(alloc)),
+    }
+}
+
+// Rows of version 1 don't say what made them: that is made of the base's name, and of what each holds and where.
+fn rows_of_version(
+    alloc: Global,
+    version: i64,
+    base: &ImageName,
+    table: &Table,
+) -> Result<List<Row>, DocFault>
+    ensures { Answers result (rows_of_version version base.now (table_view table.now)) }
+{
+    if version == 1 {
+        old_rows_at(alloc, base, table)
+    } else {
+        rows_at(alloc, table)
     }
 }
 
@@ -89,9 +107,9 @@ impl TableForm for ImageDoc {
     ghost value_in = { image_table_in };
 
     fn read(alloc: Global, table: &Table) -> Result<ImageDoc, DocFault> {
-        required_at::<Version>(alloc, table, "version")?;
+        let version = required_at::<Version>(alloc, table, "version")?;
         let base = required_at::<TableOf<Base>>(alloc, table, "base")?;
-        let rows = rows_at(alloc, table)?;
+        let rows = rows_of_version(alloc, version, &base.name, table)?;
         let env = value_or::<EnvRows>(alloc, table, "env", Env::new(alloc))?;
         let entrypoint = required_at::<Path>(alloc, table, "entrypoint")?;
         let provided = <Provided as TableForm>::read(alloc, table)?;
@@ -171,7 +189,7 @@ impl WrittenTable for ImageDoc {
     ghost within = { image_within };
 }
 
-/// Reads an image. The first fault in the order of keys and rows is answered, as `rows.0.place`; what holds of a whole
+/// Reads an image of version 1 or 2. The first fault in the order of keys and rows is answered, as `rows.0.place`; what holds of a whole
 /// list is judged behind its rows.
 pub fn read_image(alloc: Global, bytes: &[u8]) -> Result<ImageDoc, DocFault>
     ensures image { Answers result (image_in bytes.now) }
@@ -180,7 +198,7 @@ pub fn read_image(alloc: Global, bytes: &[u8]) -> Result<ImageDoc, DocFault>
     read_document::<ImageDoc>(alloc, bytes)
 }
 
-/// The text of an image.
+/// The text of an image, in version 2.
 pub fn write_image(alloc: Global, value: &ImageDoc) -> Result<Bytes, Memory>
     ensures written { IfOk result (λ bytes. IsTrue (is_image_doc value.now)
         → document_in bytes ≡ Ok (image_members value.now)) }

@@ -8,11 +8,12 @@ ghost use Rattle.cnb_toml.specs.WrittenLaws.{zero_within};
 ghost use Rattle.image_docs.specs.Row.{role_text, role_in, role_of, role_data, row_in, is_run, run_rows_first, are_ordered, ordered_rows, rows_at, has_digest, is_row, row_members};
 ghost use Rattle.image_docs.specs.RowLaws.{role_read, row_read};
 
+use crate::by::ByText;
 use crate::digest_text::DigestText;
 use cnb_toml::{
     DocFault, Form, TableForm, TableOf, Written, WrittenTable, list_at, put_at, required_at,
 };
-use cnb_world::{List, Memory, Path};
+use cnb_world::{List, Memory, Path, Text};
 use std::alloc::Global;
 use toml::{Table, Value};
 use tree_canon::Digest;
@@ -27,12 +28,14 @@ pub enum Role {
     Process,
 }
 
-/// A row of an image: what it holds, where it is laid, and its tree.
+/// A row of an image: what it holds, where it is laid, its tree, and what made it, in one line for people, as
+/// `example/jvm@1.0.0:jre`.
 #[derive(Drop)]
 pub struct Row {
     pub role: Role,
     pub place: Path,
     pub digest: Digest,
+    pub by: Text,
 }
 
 impl Role {
@@ -92,10 +95,12 @@ impl TableForm for Row {
         let role = required_at::<Role>(alloc, table, "role")?;
         let place = required_at::<Path>(alloc, table, "place")?;
         let digest = required_at::<DigestText>(alloc, table, "digest")?;
+        let by = required_at::<ByText>(alloc, table, "by")?;
         Ok(Row {
             role,
             place,
             digest,
+            by,
         })
     }
 }
@@ -114,6 +119,7 @@ impl WrittenTable for Row {
         put_at::<Role>(alloc, &mut table, "role", &row.role)?;
         put_at::<Path>(alloc, &mut table, "place", &row.place)?;
         put_at::<DigestText>(alloc, &mut table, "digest", &row.digest)?;
+        put_at::<ByText>(alloc, &mut table, "by", &row.by)?;
         Ok(table)
     }
 
@@ -176,7 +182,8 @@ fn are_ordered(rows: &[Row]) -> bool
     }
 }
 
-fn ordered_rows(alloc: Global, rows: List<Row>) -> Result<List<Row>, DocFault>
+/// Rows of which those of the run image stand before all others, and the first of them at `/`.
+pub fn ordered_rows(alloc: Global, rows: List<Row>) -> Result<List<Row>, DocFault>
     ensures { Answers result (ordered_rows rows) }
 {
     if are_ordered(rows.as_slice()) {
