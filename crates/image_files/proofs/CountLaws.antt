@@ -1,14 +1,11 @@
 -- What images that are read and written do to the counts.
-use Rattle.std.proofs.Common.{◌≡◌, ℕ, List}
+use Rattle.std.proofs.Common.{ℕ, List}
 use Rattle.image_docs.specs.declared.image.ImageDoc.{ImageDoc}
-use Rattle.image_docs.specs.Image.{image_in}
 use Rattle.image_docs.specs.declared.run_image.RunDoc.{RunDoc}
 use Rattle.steps.proofs.EndLaws.{Obeys, reads_counts, writes_counts}
 use Rattle.steps.specs.Counts.{FileCounts}
-use Rattle.image_files.specs.Documents.{is_fit_document}
 use Rattle.image_files.specs.Faults.{cause_of}
-use Rattle.image_files.specs.Images.{image_at, reads_image, reads_run_image, run_image_at, writes_readable_image, writes_readable_run_image}
-use Rattle.image_files.specs.Paths.{image_path, run_path}
+use Rattle.image_files.specs.Images.{reads_image, reads_run_image, writes_readable_image, writes_readable_run_image}
 
 pub image_counts : (store name : List ℕ) → Obeys FileCounts cause_of (reads_image store name)
 unfolding reads_image

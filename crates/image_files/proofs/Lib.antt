@@ -4,5 +4,6 @@ pub mod ReadLemmas
 pub mod ReadableLaws
 pub mod RunPartLaws
 pub mod StandLaws
+pub mod TargetLaws
 pub mod ToldReads
 pub mod WriteLemmas

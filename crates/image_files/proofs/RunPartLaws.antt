@@ -10,9 +10,10 @@ use Rattle.std.proofs.lemmas.Bool.{and_from, and_parts, cond-false, not-true}
 use Rattle.cnb_world.specs.Env.{is_ascending, set_before, value_of, with_value}
 use Rattle.cnb_world.specs.declared.env.Variable.{Variable}
 use Rattle.cnb_world.proofs.EnvLemmas.{with_value-ascends}
-use Rattle.cnb_toml.specs.Names.{is_target_name}
+use Rattle.cnb_toml.specs.Names.{is_image_name, is_target_name}
 use Rattle.cnb_toml.specs.Written.{is_filled}
 use Rattle.image_docs.specs.Base.{is_base}
+use Rattle.image_docs.specs.ByLaws.{run_by_read}
 use Rattle.image_docs.specs.EnvRows.{is_env, is_name_byte, is_variable}
 use Rattle.image_docs.specs.Row.{are_ordered, is_row, is_run, run_rows_first}
 use Rattle.image_docs.specs.RunImage.{is_run_doc}
@@ -81,19 +82,20 @@ run_filled run h = (and_parts (is_filled run.rows) (is_env run.env) (and_parts (
 abbrev pub has_no_run_row : List Row → Bool
 has_no_run_row rows = list_all (λ row. not (is_run row)) rows
 
-pub run_rows_sound : (digests : List (List ℕ)) (above : List Row) → list_all is_row above ≡ true → list_all is_row (map run_row digests ++ above) ≡ true
-run_rows_sound [] above h = h
-run_rows_sound (digest ∷ digests) above h = run_rows_sound digests above h
+pub run_rows_sound : (name : List ℕ) (digests : List (List ℕ)) (above : List Row) → is_image_name name ≡ true → list_all is_row above ≡ true → list_all is_row (map (run_row name) digests ++ above) ≡ true
+run_rows_sound name [] above named h = h
+run_rows_sound name (digest ∷ digests) above named h =
+    and_from (is_row (run_row name digest)) (list_all is_row (map (run_row name) digests ++ above)) (run_by_read name named) (run_rows_sound name digests above named h)
 
 none_first : (rows : List Row) → has_no_run_row rows ≡ true → run_rows_first rows ≡ true
 none_first [] h = refl
 none_first (row ∷ rows) h = let parts = and_parts (not (is_run row)) (has_no_run_row rows) h in cond-false (is_run row) (run_rows_first rows) (has_no_run_row rows) (not-true (is_run row) parts.0) ∙ parts.1
 
-run_first : (digests : List (List ℕ)) (above : List Row) → has_no_run_row above ≡ true → run_rows_first (map run_row digests ++ above) ≡ true
-run_first [] above h = none_first above h
-run_first (digest ∷ digests) above h = run_first digests above h
+run_first : (name : List ℕ) (digests : List (List ℕ)) (above : List Row) → has_no_run_row above ≡ true → run_rows_first (map (run_row name) digests ++ above) ≡ true
+run_first name [] above h = none_first above h
+run_first name (digest ∷ digests) above h = run_first name digests above h
 
 -- the rows of a run image, and above them others
-pub run_rows_ordered : (digests : List (List ℕ)) (above : List Row) → is_filled digests ≡ true → has_no_run_row above ≡ true → are_ordered (map run_row digests ++ above) ≡ true
-run_rows_ordered [] above filled h = absurd (cc)
-run_rows_ordered (digest ∷ digests) above filled h = run_first digests above h
+pub run_rows_ordered : (name : List ℕ) (digests : List (List ℕ)) (above : List Row) → is_filled digests ≡ true → has_no_run_row above ≡ true → are_ordered (map (run_row name) digests ++ above) ≡ true
+run_rows_ordered name [] above filled h = absurd (cc)
+run_rows_ordered name (digest ∷ digests) above filled h = run_first name digests above h

@@ -3,3 +3,4 @@ pub mod Faults
 pub mod Images
 pub mod Paths
 pub mod RunPart
+pub mod Target

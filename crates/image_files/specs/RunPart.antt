@@ -2,6 +2,7 @@
 use Rattle.std.specs.Prelude.{ℕ, List, [], ◌∷◌, ◌++◌, codes, Option, Some, None}
 use Rattle.cnb_world.specs.Env.{value_of, with_value}
 use Rattle.cnb_world.specs.declared.env.Variable.{Variable}
+use Rattle.image_docs.specs.By.{run_by}
 use Rattle.image_docs.specs.declared.base.Base.{Base}
 use Rattle.image_docs.specs.declared.row.Role.TheVariants.{Run}
 use Rattle.image_docs.specs.declared.row.Row.{Row}
@@ -16,9 +17,9 @@ top_or other (digest ∷ digests) = top_or digest digests
 abbrev pub base_of : List ℕ → RunDoc → List ℕ → Base
 base_of name run other = record { name = name; top = top_or other run.rows; os = run.os; arch = run.arch }
 
--- a row of a run image, in an image
-abbrev pub run_row : List ℕ → Row
-run_row digest = record { role = Run; place = codes "/"; digest = digest }
+-- a row of the run image of this name, in an image
+abbrev pub run_row : List ℕ → List ℕ → Row
+run_row name digest = record { role = Run; place = codes "/"; digest = digest; by = run_by name }
 
 -- the image's own folders, and behind them what the run image has in `PATH`
 abbrev pub path_value : Option (List ℕ) → List ℕ

@@ -23,7 +23,7 @@ pub(crate) fn document_name(alloc: Global, name: &ImageName) -> Result<Text, Mem
 
 /// The folder of the images of a store.
 #[tactic(auto, using(cnb_world::proofs::Lengths::length_joined))]
-pub(crate) fn images_folder(alloc: Global, store: &Path) -> Result<Path, Memory>
+pub fn images_folder(alloc: Global, store: &Path) -> Result<Path, Memory>
     requires { length store.now ≤ 4096 }
     ensures path { IfOk result (λ path. path ≡ images_folder store.now) }
     ensures short { IfOk result (λ path. length path ≤ 4352) }
@@ -34,7 +34,7 @@ pub(crate) fn images_folder(alloc: Global, store: &Path) -> Result<Path, Memory>
 
 /// The folder of the run images of a store.
 #[tactic(auto, using(cnb_world::proofs::Lengths::length_joined))]
-pub(crate) fn runs_folder(alloc: Global, store: &Path) -> Result<Path, Memory>
+pub fn runs_folder(alloc: Global, store: &Path) -> Result<Path, Memory>
     requires { length store.now ≤ 4096 }
     ensures path { IfOk result (λ path. path ≡ runs_folder store.now) }
     ensures short { IfOk result (λ path. length path ≤ 4352) }

@@ -6,7 +6,7 @@ ghost use Rattle.image_files.specs.RunPart.{base_of, image_env, path_value, run_
 
 use cnb_toml::ImageName;
 use cnb_world::{Env, List, Memory, Path, PathFault, Text};
-use image_docs::{Base, Role, Row, RunDoc};
+use image_docs::{Base, Role, Row, RunDoc, run_by};
 use std::alloc::Global;
 use tree_canon::Digest;
 
@@ -46,16 +46,23 @@ fn root(alloc: Global) -> Result<Path, Memory>
     }
 }
 
-/// Adds the rows of a run image, which are laid at `/`.
-pub fn push_run_rows(alloc: Global, rows: &mut List<Row>, run: &[Digest]) -> Result<(), Memory>
-    ensures { OnOk result (rows.new ≡ rows.old ++ map run_row run.now) }
+/// Adds the rows of the run image of this name, which are laid at `/`.
+pub fn push_run_rows(
+    alloc: Global,
+    rows: &mut List<Row>,
+    name: &ImageName,
+    run: &[Digest],
+) -> Result<(), Memory>
+    ensures { OnOk result (rows.new ≡ rows.old ++ map (run_row name.now) run.now) }
 {
     for digest in run {
         let place = root(alloc)?;
+        let by = run_by(alloc, name)?;
         rows.push(Row {
             role: Role::Run,
             place,
             digest: *digest,
+            by,
         })?;
     }
     Ok(())
