@@ -7,7 +7,7 @@ use Rattle.std.proofs.lemmas.Bool.{and_from, and_parts, cond-true}
 use Rattle.cnb_world.specs.Path.{is_short_path}
 use Rattle.cnb_world.specs.declared.env.Variable.{Variable}
 use Rattle.cnb_toml.specs.Label.{is_label}
-use Rattle.cnb_toml.specs.Names.{is_target_name}
+use Rattle.cnb_toml.specs.Names.{is_image_name, is_target_name}
 use Rattle.cnb_toml.specs.Written.{is_filled}
 use Rattle.image_docs.specs.Base.{is_base}
 use Rattle.image_docs.specs.EnvRows.{is_env}
@@ -62,19 +62,19 @@ above_first (row ∷ rows) h = by (is_run row) refl h (above_first rows)
 abbrev keeps : ImageDoc → Bool
 keeps image = is_short_path image.entrypoint && (list_all is_label image.labels && (is_launch_doc image.launch && (are_layers false image.layers && is_store image.store)))
 
-on_run_readable : (image : ImageDoc) (name : List ℕ) (run : RunDoc) → is_image_doc image ≡ true → is_run_doc run ≡ true → is_image_doc (on_run image name run) ≡ true
-on_run_readable image name run h k =
+on_run_readable : (image : ImageDoc) (name : List ℕ) (run : RunDoc) → is_image_name name ≡ true → is_image_doc image ≡ true → is_run_doc run ≡ true → is_image_doc (on_run image name run) ≡ true
+on_run_readable image name run named h k =
     let behind_base = (and_parts (is_base image.base) (are_rows image.rows && (is_env image.env && keeps image)) h).1 in
     let at_rows = and_parts (are_rows image.rows) (is_env image.env && keeps image) behind_base in
     let rows = and_parts (list_all is_row image.rows) (are_ordered image.rows) at_rows.0 in
     let kept = (and_parts (is_env image.env) (keeps image) at_rows.1).1 in
     and_from _ _ (base_readable name image.base.top run k)
-    (and_from _ _ (and_from _ _ (run_rows_sound run.rows (rows_above image.rows) (drop_sound (prefix_len is_run image.rows) image.rows rows.0))
-    (run_rows_ordered run.rows (rows_above image.rows) (run_filled run k) (above_first image.rows (ordered_first image.rows rows.1))))
+    (and_from _ _ (and_from _ _ (run_rows_sound name run.rows (rows_above image.rows) named (drop_sound (prefix_len is_run image.rows) image.rows rows.0))
+    (run_rows_ordered name run.rows (rows_above image.rows) (run_filled run k) (above_first image.rows (ordered_first image.rows rows.1))))
     (and_from _ _ (env_readable run.env (run_env run k)) kept))
 
-pub rebased_readable : (image new : ImageDoc) (name : List ℕ) (run : RunDoc) → is_image_doc image ≡ true → is_run_doc run ≡ true → rebased image name run ≡ Ok new → is_image_doc new ≡ true
-rebased_readable image new name run h k is = ap is_image_doc (sym (by (same_top image) (same_target image.base run) is)) ∙ on_run_readable image name run h k
+pub rebased_readable : (image new : ImageDoc) (name : List ℕ) (run : RunDoc) → is_image_name name ≡ true → is_image_doc image ≡ true → is_run_doc run ≡ true → rebased image name run ≡ Ok new → is_image_doc new ≡ true
+rebased_readable image new name run named h k is = ap is_image_doc (sym (by (same_top image) (same_target image.base run) is)) ∙ on_run_readable image name run named h k
   where
     by : (top target : Result (Unit {0}) RebaseFault) → and_then top (λ one. and_then target (λ other. Ok (on_run image name run))) ≡ Ok new → on_run image name run ≡ new
     by (Ok one) (Ok other) e = cc
@@ -83,10 +83,10 @@ rebased_readable image new name run h k is = ap is_image_doc (sym (by (same_top 
 
 -- ---- an image that was changed where it stands
 
-pub put_readable : (image new : ImageDoc) (name : List ℕ) (run : RunDoc) (result : Result (Unit {0}) RebaseFault) → is_run_doc run ≡ true → IsAnswer cause_of (and_then result (λ done. Ok new)) (rebased image name run)
+pub put_readable : (image new : ImageDoc) (name : List ℕ) (run : RunDoc) (result : Result (Unit {0}) RebaseFault) → is_image_name name ≡ true → is_run_doc run ≡ true → IsAnswer cause_of (and_then result (λ done. Ok new)) (rebased image name run)
     → is_image_doc image ≡ true → OnOk result (IsTrue (is_image_doc new))
-put_readable image new name run (Ok done) k h readable = rebased_readable image new name run readable k h
-put_readable image new name run (Err fault) k h readable = tt
+put_readable image new name run (Ok done) named k h readable = rebased_readable image new name run named readable k h
+put_readable image new name run (Err fault) named k h readable = tt
 
 pub put_so : (image new : ImageDoc) (name : List ℕ) (run : RunDoc) (result : Result (Unit {0}) RebaseFault) (old : Seen) → IsAnswer cause_of (and_then result (λ done. Ok new)) (rebased image name run)
     → IfErr result (λ fault. IsGivenCause (cause_of fault)) → gives cause_of (rebased image name run) old (and_then result (λ done. Ok new)) old

@@ -43,7 +43,7 @@ same_target base run =
 abbrev pub on_run : ImageDoc → List ℕ → RunDoc → ImageDoc
 on_run image name run = record image {
   base = base_of name run image.base.top;
-  rows = map run_row run.rows ++ rows_above image.rows;
+  rows = map (run_row name) run.rows ++ rows_above image.rows;
   env = image_env run.env;
 }
 

@@ -19,9 +19,9 @@ rebased_text name image = codes "rebased " ++ name ++ codes " " ++ decimal (run_
 abbrev pub base_text : List ℕ → RunDoc → List ℕ
 base_text name image = codes "run " ++ name ++ codes " " ++ decimal (length image.rows) ++ codes " rows" ++ line_feed
 
--- a row: what it holds, where it stands, and the digest of its tree
+-- a row: what it holds, where it stands, the digest of its tree, and what made it
 abbrev pub row_line : Row → List ℕ
-row_line row = role_text row.role ++ codes " " ++ row.place ++ codes " " ++ encode_lower row.digest ++ line_feed
+row_line row = role_text row.role ++ codes " " ++ row.place ++ codes " " ++ encode_lower row.digest ++ codes " " ++ row.by ++ line_feed
 
 -- what starts an image
 abbrev pub entrypoint_line : List ℕ → List ℕ

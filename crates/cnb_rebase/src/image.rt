@@ -90,21 +90,28 @@ fn push_rows(alloc: Global, rows: &mut List<Row>, more: &[Row]) -> Result<(), Me
 {
     for row in more {
         let place = row.place.copy(alloc)?;
+        let by = row.by.copy(alloc)?;
         rows.push(Row {
             role: row.role,
             place,
             digest: row.digest,
+            by,
         })?;
     }
     Ok(())
 }
 
-// The rows of a run image, and above them those of an image that aren't of its run image.
-fn rows_on(alloc: Global, run: &[Digest], old: &[Row]) -> Result<List<Row>, Memory>
-    ensures { IfOk result (λ rows. rows ≡ map run_row run.now ++ rows_above old.now) }
+// The rows of the run image of this name, and above them those of an image that aren't of its run image.
+fn rows_on(
+    alloc: Global,
+    name: &ImageName,
+    run: &[Digest],
+    old: &[Row],
+) -> Result<List<Row>, Memory>
+    ensures { IfOk result (λ rows. rows ≡ map (run_row name.now) run.now ++ rows_above old.now) }
 {
     let mut rows = List::new(alloc);
-    push_run_rows(alloc, &mut rows, run)?;
+    push_run_rows(alloc, &mut rows, name, run)?;
     push_rows(alloc, &mut rows, &old[run_count(old)..])?;
     Ok(rows)
 }
@@ -114,7 +121,7 @@ fn put_on(alloc: Global, image: &mut ImageDoc, name: &ImageName, run: &RunDoc) -
     ensures { OnOk result (image.new ≡ on_run image.old name.now run.now) }
 {
     image.base = base_of(alloc, name, run, image.base.top)?;
-    image.rows = rows_on(alloc, run.rows.as_slice(), image.rows.as_slice())?;
+    image.rows = rows_on(alloc, name, run.rows.as_slice(), image.rows.as_slice())?;
     image.env = image_env(alloc, &run.env)?;
     Ok(())
 }

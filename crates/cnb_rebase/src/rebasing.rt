@@ -1,5 +1,6 @@
 // The command `rebase`.
 ghost use Rattle.std.specs.Prelude.{◌≤◌, IfOk, IsTrue, Ok, OnOk, length};
+ghost use Rattle.cnb_toml.specs.Names.{is_image_name};
 ghost use Rattle.cnb_words.specs.Rebase.{KeepsLimits};
 ghost use Rattle.image_docs.specs.Image.{is_image_doc};
 ghost use Rattle.image_files.specs.Images.{ImageStands};
@@ -17,6 +18,13 @@ use image_docs::ImageDoc;
 use image_files::{read_image, read_run_image, save_image};
 use std::alloc::Global;
 
+// What the type of an image's name says of it.
+fn named(name: &ImageName)
+    ensures { IsTrue (is_image_name name.now) }
+{
+    let _name = name.as_str();
+}
+
 // Puts an image on the run image of a name.
 fn put_on_run<W: World>(
     alloc: Global,
@@ -30,6 +38,7 @@ fn put_on_run<W: World>(
         (seen W.World world.old) (and_then result (λ done. Ok image.new)) (seen W.World world.new) }
     ensures readable { IsTrue (is_image_doc image.old) → OnOk result (IsTrue (is_image_doc image.new)) }
 {
+    named(run);
     let base = read_run_image(alloc, world, store, run)?;
     rebased(alloc, image, run, &base)
 }

@@ -41,6 +41,8 @@ fn push_row_line(alloc: Global, text: &mut String, row: &Row) -> Result<(), Memo
     text.push_str(row.place.as_str())?;
     text.push_str(" ")?;
     text.push_str(digest.as_str())?;
+    text.push_str(" ")?;
+    text.push_str(row.by.as_str())?;
     text.push_str("\n")?;
     Ok(())
 }
