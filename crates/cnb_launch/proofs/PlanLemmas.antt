@@ -77,8 +77,3 @@ all_as dir lists other env old new result same h = let P : List (List (List ℕ)
 
 pub execs_as : (dir : List ℕ) (paths other : List (List ℕ)) (env : List Variable) (old new : Seen) (result : Result (List Variable) LaunchFault) → paths ≡ other → runs_execs dir paths env old result new → runs_execs dir other env old result new
 execs_as dir paths other env old new result same h = let P : List (List ℕ) → Type 0 = λ ps. runs_execs dir ps env old result new in subst P same h
-
--- an answer that is known, whatever it is
-pub answered : {A : Type 0} (want result : Result A LaunchFault) (old : Seen) → IsAnswer cause_of result want → IfErr result (λ fault. IsGivenCause (cause_of fault)) → gives cause_of want old result old
-unfolding gives
-answered want result old answer cause = (refl, answer, cause)

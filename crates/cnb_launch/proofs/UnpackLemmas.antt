@@ -3,7 +3,8 @@ use Rattle.std.proofs.Common.{◌≡◌, ◌∙◌, refl, ap, subst, ℕ, ◌<�
 use Rattle.std.specs.List.{list_all}
 use Rattle.std.proofs.lemmas.Bool.{and_parts, leb-true}
 use Rattle.std.proofs.lemmas.List.Sums.{AllPass-from_list_all}
-use Rattle.cnb_world.specs.Path.{is_path}
+use Rattle.cnb_world.specs.Path.{is_path, is_short_path}
+use Rattle.image_docs.specs.By.{is_by}
 use Rattle.image_docs.specs.Row.{is_row}
 use Rattle.image_docs.specs.declared.row.Row.{Row}
 use Rattle.steps.specs.Each.{for_each}
@@ -21,7 +22,10 @@ one_row rows i row lt is all = ap is_row is ∙ AllPass-from_list_all is_row row
 
 -- the place of a row leaves room for the root
 pub row_short : (row : Row) → IsTrue (is_row row) → length row.place ≤ 4096
-row_short row h = let (short, path) = and_parts (nat_le (length row.place) 4096) (is_path row.place) h in leb-true (length row.place) 4096 short
+row_short row h =
+    let (place, by) = and_parts (is_short_path row.place) (is_by row.by) h in
+    let (short, path) = and_parts (nat_le (length row.place) 4096) (is_path row.place) place in
+    leb-true (length row.place) 4096 short
 
 pub made : {S : Type 0} (Says : List ℕ → Type 0) (old : S) (bytes : List ℕ) → Says bytes → makes {S = S} cause_of Says old (Ok bytes) old
 unfolding makes

@@ -1,9 +1,8 @@
 use Rattle.std.proofs.Common.{Ok}
 use Rattle.std.proofs.lemmas.Result.{err_from_is_err_and}
-use Rattle.steps.proofs.StepLemmas.{ended, went}
+use Rattle.steps.proofs.StepLemmas.{answered, ended, went}
 use Rattle.cnb_launch.specs.Exec.{runs_exec}
 use Rattle.cnb_launch.proofs.ExecLemmas.{not_run, run_as, run_as_refused}
-use Rattle.cnb_launch.proofs.PlanLemmas.{answered}
 use Rattle.cnb_launch.proofs.exec.run_exec.Goals as goal
 
 pub returns-in_err-job : goal.returns-in_err-job
@@ -21,4 +20,4 @@ returns-in_err-end g c =
 pub returns : goal.returns
 unfolding runs_exec
 returns g c =
-    record { step = went _ _ _ _ _ _ _ (run_as _ _ _ _ (Ok _) c.in_ok-job.ensures c.in_ok-end.ensures.step) (answered _ _ _ c.after_exec.ensures.answer c.after_exec.ensures.given) }
+    record { step = went _ _ _ _ _ _ _ (run_as _ _ _ _ (Ok _) c.in_ok-job.ensures c.in_ok-end.ensures.step) (answered _ _ _ _ c.after_exec.ensures.answer c.after_exec.ensures.given) }
