@@ -8,16 +8,25 @@ use Rattle.cnb_words.specs.Build as build
 use Rattle.cnb_words.specs.Create as create
 use Rattle.cnb_words.specs.Detect as detect
 use Rattle.cnb_words.specs.Export as export
+use Rattle.cnb_words.specs.Prune as prune
 use Rattle.cnb_words.specs.Rebase as rebase
 use Rattle.cnb_words.specs.Restore as restore
 use Rattle.cnb_words.specs.Show as show
 use Rattle.cnb_words.specs.Unpack as unpack
+use Rattle.cnb_words.specs.Verify as verify
 use Rattle.cnb_words.specs.Words.{asks}
 use Rattle.cnb_words.specs.declared.fault.WordsFault.{WordsFault}
 use Rattle.cnb_words.specs.declared.fault.WordsFault.TheVariants.{Usage}
 use Rattle.cnb_words.specs.declared.options.Given.{Given}
 use Rattle.cnb_words.specs.declared.words.Asked.{Asked}
-use Rattle.cnb_words.specs.declared.words.Asked.TheVariants.{Detect, Analyze, Restore, Build, Export, Create, Rebase, Base, Unpack, Show}
+use Rattle.cnb_words.specs.declared.words.Asked.TheVariants.{Detect, Analyze, Restore, Build, Export, Create, Rebase, Base, Unpack, Show, Prune, Verify}
+
+-- a command on the files of a store
+abbrev pub store_chosen : List ℕ → Option (List Given) → Result Asked WordsFault
+store_chosen command options =
+    if bytes_eq command (codes "prune") then asks Prune (option_and_then prune.prune_in options)
+    else if bytes_eq command (codes "verify") then asks Verify (option_and_then verify.verify_in options)
+    else Err Usage
 
 -- a command on whole images
 abbrev pub image_chosen : List ℕ → Option (List Given) → Result Asked WordsFault
@@ -27,7 +36,7 @@ image_chosen command options =
     else if bytes_eq command (codes "base") then asks Base (option_and_then base.base_in options)
     else if bytes_eq command (codes "unpack") then asks Unpack (option_and_then unpack.unpack_in options)
     else if bytes_eq command (codes "show") then asks Show (option_and_then show.show_in options)
-    else Err Usage
+    else store_chosen command options
 
 -- a command that is a part of building an image
 abbrev pub phase_chosen : List ℕ → Option (List Given) → Result Asked WordsFault

@@ -12,10 +12,12 @@ pub mod Launch
 pub mod OptionValues
 pub mod Options
 pub mod Program
+pub mod Prune
 pub mod Reading
 pub mod Rebase
 pub mod Restore
 pub mod Show
 pub mod Unpack
 pub mod Values
+pub mod Verify
 pub mod Words

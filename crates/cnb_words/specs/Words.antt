@@ -11,20 +11,29 @@ use Rattle.cnb_words.specs.Export as export
 use Rattle.cnb_words.specs.Launch as launch
 use Rattle.cnb_words.specs.Options.{options_in}
 use Rattle.cnb_words.specs.Program.{is_launcher, process_type, root_of}
+use Rattle.cnb_words.specs.Prune as prune
 use Rattle.cnb_words.specs.Rebase as rebase
 use Rattle.cnb_words.specs.Restore as restore
 use Rattle.cnb_words.specs.Show as show
 use Rattle.cnb_words.specs.Unpack as unpack
+use Rattle.cnb_words.specs.Verify as verify
 use Rattle.cnb_words.specs.declared.fault.WordsFault.{WordsFault}
 use Rattle.cnb_words.specs.declared.fault.WordsFault.TheVariants.{Usage}
 use Rattle.cnb_words.specs.declared.options.Given.{Given}
 use Rattle.cnb_words.specs.declared.words.Asked.{Asked}
-use Rattle.cnb_words.specs.declared.words.Asked.TheVariants.{Detect, Analyze, Restore, Build, Export, Create, Rebase, Base, Unpack, Show, Drill, Launch}
+use Rattle.cnb_words.specs.declared.words.Asked.TheVariants.{Detect, Analyze, Restore, Build, Export, Create, Rebase, Base, Unpack, Show, Prune, Verify, Drill, Launch}
 
 -- what is asked for; where there is nothing, the words are refused
 abbrev pub asks : {T : Type 0} → (T → Asked) → Option T → Result Asked WordsFault
 asks command None = Err Usage
 asks command (Some words) = Ok (command words)
+
+-- a command on the files of a store, with its options
+abbrev pub store_asked : List ℕ → List Given → Result Asked WordsFault
+store_asked command options =
+    if bytes_eq command (codes "prune") then asks Prune (prune.prune_in options)
+    else if bytes_eq command (codes "verify") then asks Verify (verify.verify_in options)
+    else Err Usage
 
 -- a command on whole images, with its options
 abbrev pub image_asked : List ℕ → List Given → Result Asked WordsFault
@@ -34,7 +43,7 @@ image_asked command options =
     else if bytes_eq command (codes "base") then asks Base (base.base_in options)
     else if bytes_eq command (codes "unpack") then asks Unpack (unpack.unpack_in options)
     else if bytes_eq command (codes "show") then asks Show (show.show_in options)
-    else Err Usage
+    else store_asked command options
 
 -- a command that is a part of building an image, with its options
 abbrev pub phase_asked : List ℕ → List Given → Result Asked WordsFault
@@ -94,6 +103,8 @@ caches_asked (Rebase words) = []
 caches_asked (Base words) = []
 caches_asked (Unpack words) = []
 caches_asked (Show words) = []
+caches_asked (Prune words) = []
+caches_asked (Verify words) = []
 caches_asked (Drill words) = []
 caches_asked (Launch words) = []
 
@@ -109,5 +120,7 @@ AsksWithinLimits (Rebase words) = rebase.KeepsLimits words
 AsksWithinLimits (Base words) = base.KeepsLimits words
 AsksWithinLimits (Unpack words) = unpack.KeepsLimits words
 AsksWithinLimits (Show words) = show.KeepsLimits words
+AsksWithinLimits (Prune words) = prune.KeepsLimits words
+AsksWithinLimits (Verify words) = verify.KeepsLimits words
 AsksWithinLimits (Drill words) = drill.KeepsLimits words
 AsksWithinLimits (Launch words) = launch.KeepsLimits words

@@ -1,7 +1,7 @@
 // The words of a command line.
 ghost use Rattle.std.specs.Prelude.{◌≡◌, ◌∷◌, IfOk, IsTrue, map, string_bytes};
 ghost use Rattle.cnb_toml.specs.Names.{is_process_type};
-ghost use Rattle.cnb_words.specs.Chosen.{image_chosen, phase_chosen};
+ghost use Rattle.cnb_words.specs.Chosen.{image_chosen, phase_chosen, store_chosen};
 ghost use Rattle.cnb_words.specs.Options.{options_in};
 ghost use Rattle.steps.specs.Causes.{IsAnswer};
 ghost use Rattle.cnb_words.specs.Faults.{cause_of};
@@ -17,10 +17,12 @@ use crate::export::{ExportWords, export_in};
 use crate::fault::WordsFault;
 use crate::launch::{LaunchWords, launch_at, launch_in, process_at};
 use crate::program::{is_launcher, process_type, root_of};
+use crate::prune::{PruneWords, prune_in};
 use crate::rebase::{RebaseWords, rebase_in};
 use crate::restore::{RestoreWords, restore_in};
 use crate::show::{ShowWords, show_in};
 use crate::unpack::{UnpackWords, unpack_in};
+use crate::verify::{VerifyWords, verify_in};
 use cnb_world::Path;
 use std::alloc::Global;
 
@@ -37,6 +39,8 @@ pub enum Asked {
     Base(BaseWords),
     Unpack(UnpackWords),
     Show(ShowWords),
+    Prune(PruneWords),
+    Verify(VerifyWords),
     Drill(DrillWords),
     Launch(LaunchWords),
 }
@@ -90,6 +94,20 @@ fn image_asked(alloc: Global, command: &str, words: &[String]) -> Result<Asked, 
         unpack_in(alloc, words).map(Asked::Unpack)
     } else if command == "show" {
         show_in(alloc, words).map(Asked::Show)
+    } else {
+        store_asked(alloc, command, words)
+    }
+}
+
+// A command on the files of a store.
+fn store_asked(alloc: Global, command: &str, words: &[String]) -> Result<Asked, WordsFault>
+    ensures words { IsAnswer cause_of result (store_chosen command.now (options_in (map string_bytes words.now))) }
+    ensures limits { IfOk result AsksWithinLimits }
+{
+    if command == "prune" {
+        prune_in(alloc, words).map(Asked::Prune)
+    } else if command == "verify" {
+        verify_in(alloc, words).map(Asked::Verify)
     } else {
         Err(WordsFault::Usage)
     }
