@@ -1,12 +1,20 @@
 -- Images that were read, as steps.
-use Rattle.std.proofs.Common.{◌≡◌, refl, subst, ℕ, List, true, Option, Some, None, Result, Ok}
-use Rattle.std.specs.Prelude.{IfSome}
+use Rattle.std.proofs.Common.{◌≡◌, refl, subst, ℕ, ◌&&◌, List, true, Option, Some, None, Result, Ok, Err}
+use Rattle.std.specs.Prelude.{IfOk, IfSome, IsTrue}
+use Rattle.std.proofs.lemmas.Bool.{and_parts}
+use Rattle.cnb_toml.specs.Names.{is_target_name}
 use Rattle.cnb_world.specs.Tree.{Tree}
 use Rattle.doc_files.specs.Faults.{read_cause}
 use Rattle.doc_files.specs.declared.fault.ReadFault.{ReadFault}
 use Rattle.doc_files.specs.declared.fault.ReadFault.TheVariants as read
 use Rattle.image_docs.specs.declared.analyzed.Analyzed.{Analyzed}
 use Rattle.image_docs.specs.declared.image.ImageDoc.{ImageDoc}
+use Rattle.image_docs.specs.declared.run_image.RunDoc.{RunDoc}
+use Rattle.image_docs.specs.EnvRows.{is_env}
+use Rattle.image_docs.specs.RunImage.{is_run_doc, table_in}
+use Rattle.cnb_toml.specs.Written.{is_filled}
+use Rattle.image_files.specs.Documents.{IsRead}
+use Rattle.image_files.proofs.ReadableLaws.{run_image_readable}
 use Rattle.steps.specs.Causes.{IsAnswer}
 use Rattle.steps.specs.Outside.{Seen}
 use Rattle.steps.specs.Steps.{reads}
@@ -38,3 +46,11 @@ previous_as store name want old result new same h = subst (λ n. reads cause_of 
 
 pub analyzes_as : (store run : List ℕ) (previous want : Option (List ℕ)) (old : Seen) (result : Result Analyzed RestoreFault) (new : Seen) → previous ≡ want → analyzes store run previous old result new → analyzes store run want old result new
 analyzes_as store run previous want old result new same h = subst (λ p. analyzes store run p old result new) same h
+
+-- a run image that was found was read
+pub readable_named : (found : Option RunDoc) (result : Result RunDoc RestoreFault) → IfSome found (IsRead table_in) → IfOk result (λ image. found ≡ Some image) → IfOk result (λ image. IsTrue (is_run_doc image))
+readable_named found (Err fault) read is = tt
+readable_named found (Ok image) read is = run_image_readable image (let at : IfSome (Some image) (IsRead table_in) = subst (λ o. IfSome o (IsRead table_in)) is read in at)
+
+pub run_named : (run : RunDoc) → IsTrue (is_run_doc run) → IsTrue (is_target_name run.os && is_target_name run.arch)
+run_named run h = (and_parts (is_target_name run.os && is_target_name run.arch) (is_filled run.rows && is_env run.env) h).0

@@ -20,6 +20,7 @@ use Rattle.cnb_restore.specs.declared.refusal.RestoreRefusal.{RestoreRefusal}
 use Rattle.cnb_restore.specs.declared.refusal.RestoreRefusal.TheVariants.{BuildpackApi, Fault}
 use Rattle.cnb_restore.specs.Analyzes.{analyzes}
 use Rattle.image_files.specs.Documents.{document_in, is_fit_document}
+use Rattle.image_files.specs.Target.{analyzed_document}
 use Rattle.cnb_restore.specs.Faults.{cause_of, of_read_fault}
 use Rattle.cnb_restore.specs.Report.{analyzed_text, restored_text}
 use Rattle.cnb_restore.specs.Restores.{restores}
@@ -27,9 +28,6 @@ use Rattle.cnb_restore.specs.Restores.{restores}
 abbrev pub refusal_cause : RestoreRefusal → Cause
 refusal_cause (Fault fault) = cause_of fault
 refusal_cause (BuildpackApi text) = Decided
-
-abbrev pub analyzed_document : List ℕ → List ℕ
-analyzed_document work = joined work (codes "analyzed.toml")
 
 abbrev pub group_document : List ℕ → List ℕ
 group_document work = joined work (codes "group.toml")

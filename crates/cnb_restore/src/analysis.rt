@@ -1,6 +1,7 @@
 // What the run image and the previous image are.
-ghost use Rattle.std.specs.Prelude.{◌≤◌, length};
+ghost use Rattle.std.specs.Prelude.{◌≤◌, IfOk, IsTrue, length};
 ghost use Rattle.std.specs.Option.{option_copied};
+ghost use Rattle.image_docs.specs.Analyzed.{is_analyzed};
 ghost use Rattle.steps.specs.Outside.{seen};
 ghost use Rattle.cnb_restore.specs.Analyzes.{analyzes};
 
@@ -23,6 +24,7 @@ pub fn analyze<W: World>(
     requires { length store.now ≤ 4096 }
     ensures steps { analyzes store.now run.now (option_copied previous.entry)
         (seen W.World world.old) result (seen W.World world.new) }
+    ensures named { IfOk result (λ analyzed. IsTrue (is_analyzed analyzed)) }
 {
     let image = read_run_image(alloc, world, store, run)?;
     let known = known_previous(alloc, world, store, previous)?;

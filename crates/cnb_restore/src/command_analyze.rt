@@ -3,8 +3,9 @@ ghost use Rattle.std.specs.Prelude.{◌≤◌, IfOk, length};
 ghost use Rattle.cnb_words.specs.Analyze.{KeepsLimits};
 ghost use Rattle.steps.specs.Outside.{seen};
 ghost use Rattle.steps.specs.Steps.{writes};
-ghost use Rattle.cnb_restore.specs.Commands.{ReadsAsAnalyzed, analyzed_document, analyzes_command};
+ghost use Rattle.cnb_restore.specs.Commands.{ReadsAsAnalyzed, analyzes_command};
 ghost use Rattle.cnb_restore.specs.Faults.{cause_of};
+ghost use Rattle.image_files.specs.Target.{analyzed_document};
 
 use crate::analysis::analyze;
 use crate::fault::RestoreFault;

@@ -7,8 +7,9 @@ ghost use Rattle.shelf_set.specs.Dropping.{AreStanding};
 ghost use Rattle.steps.specs.Causes.{IsAnswer, IsGivenCause};
 ghost use Rattle.steps.specs.Outside.{seen};
 ghost use Rattle.steps.specs.Steps.{reads};
-ghost use Rattle.cnb_restore.specs.Commands.{analyzed_at, analyzed_document, group_at, group_document, needed, refusal_cause, restores_analyzed, restores_command, served};
+ghost use Rattle.cnb_restore.specs.Commands.{analyzed_at, group_at, group_document, needed, refusal_cause, restores_analyzed, restores_command, served};
 ghost use Rattle.image_files.specs.Documents.{is_fit_document};
+ghost use Rattle.image_files.specs.Target.{analyzed_document};
 ghost use Rattle.cnb_restore.specs.Faults.{cause_of};
 
 use crate::fault::RestoreFault;

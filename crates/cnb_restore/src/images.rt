@@ -1,9 +1,10 @@
 // The images that a command names.
-ghost use Rattle.std.specs.Prelude.{◌≤◌, IfErr, Some, length};
+ghost use Rattle.std.specs.Prelude.{◌≡◌, ◌≤◌, IfErr, IfOk, IsTrue, Some, length};
 ghost use Rattle.std.specs.Option.{option_copied};
 ghost use Rattle.steps.specs.Causes.{IsAnswer, IsGivenCause};
 ghost use Rattle.steps.specs.Outside.{seen};
 ghost use Rattle.steps.specs.Steps.{reads};
+ghost use Rattle.image_docs.specs.RunImage.{is_run_doc};
 ghost use Rattle.cnb_restore.specs.Analyzes.{is_fit_image, known_in, name_of, named, previous_in, run_image_in, some_named};
 ghost use Rattle.image_files.specs.Documents.{is_fit_document};
 ghost use Rattle.cnb_restore.specs.Faults.{cause_of};
@@ -19,6 +20,7 @@ use std::alloc::Global;
 // An image that must be there.
 fn named<T: Drop>(alloc: Global, name: &ImageName, found: Option<T>) -> Result<T, RestoreFault>
     ensures answer { IsAnswer cause_of result (named name.now found) }
+    ensures same { IfOk result (λ image. found ≡ Some image) }
     ensures cause { IfErr result (λ fault. IsGivenCause (cause_of fault)) }
 {
     match found {
@@ -66,6 +68,7 @@ pub(crate) fn read_run_image<W: World>(
     requires { length store.now ≤ 4096 }
     ensures step { reads cause_of (is_fit_document (run_path store.now name.now)) (run_image_in store.now name.now)
         (seen W.World world.old) result (seen W.World world.new) }
+    ensures readable { IfOk result (λ image. IsTrue (is_run_doc image)) }
 {
     let path = run_path(alloc, store, name)?;
     let found = find_document::<W, RunDoc>(alloc, world, &path)?;
