@@ -5,6 +5,7 @@ use Rattle.std.proofs.lemmas.Bool.{and_from}
 use Rattle.std.proofs.lemmas.List.Folds.{list_all-append}
 use Rattle.cnb_world.specs.Path.{is_short_path}
 use Rattle.cnb_toml.specs.Label.{is_label}
+use Rattle.cnb_toml.specs.Names.{is_image_name}
 use Rattle.cnb_toml.specs.Process.{is_process}
 use Rattle.image_docs.specs.Image.{is_image_doc}
 use Rattle.image_docs.specs.Row.{are_rows, is_row, is_run}
@@ -27,11 +28,11 @@ use Rattle.cnb_export.proofs.PlaceLaws.{are_placed}
 
 -- ---- the rows above those of the run image
 
-abbrev above_rows : List ImageLayer → Digests → List Row
-above_rows layers digests = map layer_row layers ++ (map app_row digests.app ++ (launcher_row digests.launcher ∷ process_rows digests.process))
+abbrev above_rows : List GroupRow → List ImageLayer → Digests → List Row
+above_rows group layers digests = map (layer_row group) layers ++ (map app_row digests.app ++ (launcher_row digests.launcher ∷ process_rows digests.process))
 
-rows_are : (run : RunDoc) (layers : List ImageLayer) (digests : Digests) → rows_of run layers digests ≡ map run_row run.rows ++ above_rows layers digests
-rows_are run layers digests = simp append_assoc
+rows_are : (name : List ℕ) (run : RunDoc) (group : List GroupRow) (layers : List ImageLayer) (digests : Digests) → rows_of name run group layers digests ≡ map (run_row name) run.rows ++ above_rows group layers digests
+rows_are name run group layers digests = simp append_assoc
 
 -- a test that all rows above the layers pass
 module _ (test : Row → Bool) (app : (digest : List ℕ) → test (app_row digest) ≡ true) (launcher : (digest : List ℕ) → test (launcher_row digest) ≡ true)
@@ -41,11 +42,11 @@ module _ (test : Row → Bool) (app : (digest : List ℕ) → test (app_row dige
   top_pass (digest ∷ digests) last links =
       and_from (test (app_row digest)) (list_all test (map app_row digests ++ (launcher_row last ∷ process_rows links))) (app digest) (top_pass digests last links)
 
-  above_pass : (layers : List ImageLayer) (digests : Digests) → list_all test (map layer_row layers) ≡ true
-      → list_all test (above_rows layers digests) ≡ true
-  above_pass layers digests h =
-      list_all-append test (map layer_row layers) (map app_row digests.app ++ (launcher_row digests.launcher ∷ process_rows digests.process))
-      ∙ and_from (list_all test (map layer_row layers)) (list_all test (map app_row digests.app ++ (launcher_row digests.launcher ∷ process_rows digests.process))) h
+  above_pass : (group : List GroupRow) (layers : List ImageLayer) (digests : Digests) → list_all test (map (layer_row group) layers) ≡ true
+      → list_all test (above_rows group layers digests) ≡ true
+  above_pass group layers digests h =
+      list_all-append test (map (layer_row group) layers) (map app_row digests.app ++ (launcher_row digests.launcher ∷ process_rows digests.process))
+      ∙ and_from (list_all test (map (layer_row group) layers)) (list_all test (map app_row digests.app ++ (launcher_row digests.launcher ∷ process_rows digests.process))) h
       (top_pass digests.app digests.launcher digests.process)
 
 links_placed : (digest : Option (List ℕ)) → list_all is_row (process_rows digest) ≡ true
@@ -56,19 +57,19 @@ links_other : (digest : Option (List ℕ)) → has_no_run_row (process_rows dige
 links_other None = refl
 links_other (Some digest) = refl
 
-layers_other : (layers : List ImageLayer) → has_no_run_row (map layer_row layers) ≡ true
-layers_other [] = refl
-layers_other (layer ∷ layers) = layers_other layers
+layers_other : (group : List GroupRow) (layers : List ImageLayer) → has_no_run_row (map (layer_row group) layers) ≡ true
+layers_other group [] = refl
+layers_other group (layer ∷ layers) = layers_other group layers
 
 -- ---- the image
 
-pub image_readable : (name : List ℕ) (run : RunDoc) (group : List GroupRow) (gathered : Gathered) (digests : Digests) → is_run_doc run ≡ true → Gathers [] gathered → are_placed gathered.layers ≡ true
+pub image_readable : (name : List ℕ) (run : RunDoc) (group : List GroupRow) (gathered : Gathered) (digests : Digests) → is_image_name name ≡ true → is_run_doc run ≡ true → Gathers [] gathered → are_placed group gathered.layers ≡ true
     → is_short_path (entrypoint_of (default_of gathered.processes)) ≡ true → is_image_doc (image_of name run group gathered digests) ≡ true
-image_readable name run group gathered digests is-run h placed started =
-    let above = above_rows gathered.layers digests in
+image_readable name run group gathered digests named is-run h placed started =
+    let above = above_rows group gathered.layers digests in
     and_from _ _ (base_readable name digests.launcher run is-run)
-    (and_from _ _ (ap are_rows (rows_are run gathered.layers digests) ∙ and_from _ _ (run_rows_sound run.rows above (above_pass is_row (λ digest. refl) (λ digest. refl) links_placed gathered.layers digests placed))
-    (run_rows_ordered run.rows above (run_filled run is-run) (above_pass (λ row. not (is_run row)) (λ digest. refl) (λ digest. refl) links_other gathered.layers digests (layers_other gathered.layers))))
+    (and_from _ _ (ap are_rows (rows_are name run group gathered.layers digests) ∙ and_from _ _ (run_rows_sound name run.rows above named (above_pass is_row (λ digest. refl) (λ digest. refl) links_placed group gathered.layers digests placed))
+    (run_rows_ordered name run.rows above (run_filled run is-run) (above_pass (λ row. not (is_run row)) (λ digest. refl) (λ digest. refl) links_other group gathered.layers digests (layers_other group gathered.layers))))
     (and_from _ _ (env_readable run.env (run_env run is-run))
     (and_from _ _ started
     (and_from _ _ (last_hold label_key is_label gathered.labels h.labels)

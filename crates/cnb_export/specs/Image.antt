@@ -29,7 +29,7 @@ launch_of group processes default = record { buildpacks = map key_of group; proc
 abbrev pub image_of : List ℕ → RunDoc → List GroupRow → Gathered → Digests → ImageDoc
 image_of name run group gathered digests = record {
   base = base_of name run digests.launcher;
-  rows = rows_of run gathered.layers digests;
+  rows = rows_of name run group gathered.layers digests;
   env = image_env run.env;
   entrypoint = entrypoint_of (default_of gathered.processes);
   labels = last_of_each label_key gathered.labels;

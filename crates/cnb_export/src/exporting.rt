@@ -1,6 +1,7 @@
 // The export of an image.
 ghost use Rattle.std.specs.Prelude.{◌≡◌, IfOk, IsTrue, OnOk, map};
 ghost use Rattle.std.specs.List.{list_all};
+ghost use Rattle.cnb_toml.specs.Names.{is_image_name};
 ghost use Rattle.cnb_world.specs.Path.{is_short_path};
 ghost use Rattle.image_docs.specs.CacheRows.{is_cache_doc};
 ghost use Rattle.image_docs.specs.Image.{is_image_doc};
@@ -65,7 +66,7 @@ fn assemble(
     digests: &Digests,
 ) -> Result<Gained, Memory>
     ensures gained { IfOk result (λ gained. gained ≡ gained_of name.now run.now group.now gathered digests.now) }
-    ensures placed { OnOk result (IsTrue (list_all is_row (map layer_row gathered.layers))) }
+    ensures placed { OnOk result (IsTrue (list_all is_row (map (layer_row group.now) gathered.layers))) }
     ensures started { OnOk result (IsTrue (is_short_path
         (processes.entrypoint_of (processes.default_of gathered.processes)))) }
 {
@@ -77,6 +78,13 @@ fn assemble(
         cached: gathered.cached,
         trees: gathered.trees,
     })
+}
+
+// What the type of an image's name says of it.
+fn named(name: &ImageName)
+    ensures { IsTrue (is_image_name name.now) }
+{
+    let _name = name.as_str();
 }
 
 // What is gained over a run image and the layers of the previous image.
@@ -97,6 +105,7 @@ fn gain_over<W: World>(
     ensures cacheable { IsTrue (is_group_doc group.now) → IfOk result (λ gained. IsTrue (is_cache_doc gained.cached)) }
     ensures matched { IfOk result (λ gained. map digest_of_row gained.cached ≡ map digest_of_tree gained.trees) }
 {
+    named(name);
     let gathered = export_group(alloc, world, frame, previous, group.as_slice())?;
     let digests = put_trees(alloc, world, frame, gathered.processes.as_slice())?;
     let gained = assemble(alloc, name, run, group, gathered, &digests)?;

@@ -128,13 +128,13 @@ pub(crate) fn make_image(
     digests: &Digests,
 ) -> Result<ImageDoc, Memory>
     ensures image { IfOk result (λ image. image ≡ image_of name.now run.now group.now gathered.now digests.now) }
-    ensures placed { OnOk result (IsTrue (list_all is_row (map layer_row gathered.now.layers))) }
+    ensures placed { OnOk result (IsTrue (list_all is_row (map (layer_row group.now) gathered.now.layers))) }
     ensures started { OnOk result (IsTrue (is_short_path
         (processes.entrypoint_of (processes.default_of gathered.now.processes)))) }
 {
     let default = default_of(gathered.processes.as_slice());
     let base = base_of(alloc, name, run, digests.launcher)?;
-    let rows = image_rows(alloc, run, gathered, digests)?;
+    let rows = image_rows(alloc, name, run, group.as_slice(), gathered, digests)?;
     let env = image_env(alloc, &run.env)?;
     let entrypoint = entrypoint(alloc, default)?;
     let Provided {

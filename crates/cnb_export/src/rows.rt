@@ -2,13 +2,15 @@
 ghost use Rattle.std.specs.Prelude.{◌≡◌, ◌++◌, ◌∷◌, [], IfOk, IsTrue, OnOk, map};
 ghost use Rattle.std.specs.List.{list_all};
 ghost use Rattle.cnb_world.specs.Path.{is_path, is_short_path};
-ghost use Rattle.image_docs.specs.Row.{is_row};
-ghost use Rattle.cnb_export.specs.Rows.{app_row, launcher_row, layer_place, layer_row, process_rows, rows_of};
+ghost use Rattle.image_docs.specs.Row.{is_row, role_text};
+ghost use Rattle.cnb_export.specs.Rows.{app_row, launcher_row, layer_by, layer_place, layer_row, process_rows, rows_of, version_of};
 
 use crate::exported::{Digests, Gathered, ImageLayer};
-use cnb_world::{List, Memory, Path, PathFault};
-use image_docs::{LayerRow, Role, Row, RunDoc};
+use cnb_toml::{BpId, ImageName};
+use cnb_world::{List, Memory, Path, PathFault, Text};
+use image_docs::{LayerRow, Role, Row, RunDoc, plain};
 use image_files::push_run_rows;
+use run_docs::GroupRow;
 use std::alloc::Global;
 use tree_canon::Digest;
 
@@ -37,6 +39,7 @@ fn layer_place(alloc: Global, row: &LayerRow) -> Result<Path, Memory>
     Ok(place)
 }
 
+// A row of which the word of its role says what made it.
 fn add_row(
     alloc: Global,
     rows: &mut List<Row>,
@@ -45,27 +48,61 @@ fn add_row(
     digest: &Digest,
 ) -> Result<(), Memory>
     requires { IsTrue (is_path place.now) }
-    ensures { OnOk result (rows.new ≡ rows.old ++ record { role = role; place = place.now; digest = digest.now } ∷ []) }
+    ensures { OnOk result (rows.new ≡ rows.old
+        ++ record { role = role; place = place.now; digest = digest.now; by = role_text role } ∷ []) }
 {
     let place = constant(alloc, place)?;
+    let by = Text::of(alloc, role.as_str())?;
     rows.push(Row {
         role,
         place,
         digest: *digest,
+        by,
     })
 }
 
+// The version of the group's first buildpack of this id; nothing where there is none.
+fn version_of<'a>(group: &'a [GroupRow], id: &BpId) -> &'a str
+    ensures { result.now ≡ version_of group.now id.now }
+{
+    for row in group {
+        if row.key.id == *id {
+            return row.key.version.as_str();
+        }
+    }
+    ""
+}
+
+// What made a layer, as `example/jvm@1.0.0:jre`.
+fn layer_by(alloc: Global, group: &[GroupRow], row: &LayerRow) -> Result<Text, Memory>
+    ensures { IfOk result (λ by. by ≡ layer_by group.now row.now) }
+{
+    let mut by = String::from_str(alloc, row.id.as_str())?;
+    by.push_str("@")?;
+    by.push_str(version_of(group, &row.id))?;
+    by.push_str(":")?;
+    by.push_str(row.layer.as_str())?;
+    plain(alloc, by.as_str())
+}
+
 #[tactic(auto, using(crate::proofs::PlaceLaws::placed_more))]
-fn add_layer_rows(alloc: Global, rows: &mut List<Row>, layers: &[ImageLayer]) -> Result<(), Memory>
-    ensures rows { OnOk result (rows.new ≡ rows.old ++ map layer_row layers.now) }
-    ensures placed { OnOk result (IsTrue (list_all is_row (map layer_row layers.now))) }
+fn add_layer_rows(
+    alloc: Global,
+    rows: &mut List<Row>,
+    group: &[GroupRow],
+    layers: &[ImageLayer],
+) -> Result<(), Memory>
+    ensures rows { OnOk result (rows.new ≡ rows.old ++ map (layer_row group.now) layers.now) }
+    ensures placed { OnOk result (IsTrue (list_all is_row (map (layer_row group.now) layers.now))) }
 {
     for layer in layers {
         let place = layer_place(alloc, &layer.row)?;
+        let by = layer_by(alloc, group, &layer.row)?;
         rows.push(Row {
             role: Role::Layer,
             place,
             digest: layer.row.digest,
+            by,
         })?;
     }
     Ok(())
@@ -97,16 +134,18 @@ fn add_process_row(
 /// links of its process types, where there are any.
 pub(crate) fn image_rows(
     alloc: Global,
+    name: &ImageName,
     run: &RunDoc,
+    group: &[GroupRow],
     gathered: &Gathered,
     digests: &Digests,
 ) -> Result<List<Row>, Memory>
-    ensures rows { IfOk result (λ rows. rows ≡ rows_of run.now gathered.now.layers digests.now) }
-    ensures placed { OnOk result (IsTrue (list_all is_row (map layer_row gathered.now.layers))) }
+    ensures rows { IfOk result (λ rows. rows ≡ rows_of name.now run.now group.now gathered.now.layers digests.now) }
+    ensures placed { OnOk result (IsTrue (list_all is_row (map (layer_row group.now) gathered.now.layers))) }
 {
     let mut rows = List::new(alloc);
-    push_run_rows(alloc, &mut rows, run.rows.as_slice())?;
-    add_layer_rows(alloc, &mut rows, gathered.layers.as_slice())?;
+    push_run_rows(alloc, &mut rows, name, run.rows.as_slice())?;
+    add_layer_rows(alloc, &mut rows, group, gathered.layers.as_slice())?;
     add_app_rows(alloc, &mut rows, digests.app.as_slice())?;
     add_row(
         alloc,

@@ -45,7 +45,7 @@ returns-clause-step g c =
 pub returns-clause-readable : goal.returns-clause-readable
 returns-clause-readable g c = λ distinct.
     subst (λ (gained : Gained). IsTrue (is_image_doc gained.image)) (sym c.in_ok-gained.ensures.gained)
-    (image_readable c.args.name.now c.args.run.now c.args.group.now c.in_ok-gathered.gathered c.in_ok-digests.digests c.requires.run
+    (image_readable c.args.name.now c.args.run.now c.args.group.now c.in_ok-gathered.gathered c.in_ok-digests.digests c.named.ensures c.requires.run
     (group_gathers _ _ _ _ _ _ (ap is_group_doc c.as_slice.ensures ∙ distinct) c.in_ok-gathered.ensures.step) c.in_ok-gained.ensures.placed c.in_ok-gained.ensures.started)
 
 pub returns-clause-cacheable : goal.returns-clause-cacheable
