@@ -9,6 +9,7 @@ use Rattle.cnb_toml.specs.declared.names.Key.{Key}
 use Rattle.doc_files.specs.Faults.{read_cause}
 use Rattle.doc_files.specs.declared.fault.ReadFault.{ReadFault}
 use Rattle.order_expand.specs.Check.{cause_of as order_cause}
+use Rattle.order_expand.specs.declared.member.Member.{Member}
 use Rattle.order_expand.specs.declared.order.OrderFault.{OrderFault}
 use Rattle.order_expand.specs.declared.order.OrderFault.TheVariants as order
 use Rattle.detect_core.specs.Answer.{build_plan, says}
@@ -17,6 +18,7 @@ use Rattle.detect_core.specs.Search.{DetectsAs, OnDetected, RunsAsked, end_cause
 use Rattle.detect_core.specs.declared.chosen.DetectEnd.{DetectEnd}
 use Rattle.detect_core.specs.declared.chosen.DetectEnd.TheVariants as end
 use Rattle.detect_core.specs.declared.chosen.Chosen.{Chosen}
+use Rattle.detect_core.specs.declared.chosen.Verdict.{Verdict}
 use Rattle.steps.specs.Asking.{AreSome, AskedBy, AsksBy, SpawnersBy, asks}
 use Rattle.steps.specs.Causes.{Cause, FileFailed, ChildFailed, OutOfMemory, Decided, FilesBy, IsAnswer, WhereDecided}
 use Rattle.cnb_world.specs.declared.world.World as world
@@ -82,8 +84,11 @@ told_spawners end.Memory before now h = h
 
 -- children that were asked, and that decided or did not
 module _ (prepared : Prepared) (old new : List SpawnerSeen) where
+  abbrev said : List Ran → Member → Verdict
+  said = says prepared.frame.target build_plan
+
   pub asked_chosen : (chosen : Chosen) → faults_of new ≡ faults_of old → RunsAsked prepared.frame prepared.catalog prepared.order old (Ok chosen) new → ((finished : List Ran) → AskedBy finished old new
-      → DetectsAs (Ok chosen) (first_trial (says build_plan finished) prepared.catalog prepared.order) (asked_keys (says build_plan finished) prepared.catalog prepared.order) (has_erred (says build_plan finished) prepared.catalog prepared.order))
+      → DetectsAs (Ok chosen) (first_trial (said finished) prepared.catalog prepared.order) (asked_keys prepared.frame.target (said finished) prepared.catalog prepared.order) (has_erred prepared.frame.target (said finished) prepared.catalog prepared.order))
       → asks cause_of (listed_jobs prepared) (jobs_of prepared) (choice_of prepared) old (as_choice (Ok chosen)) new
   unfolding asks choice_of
   asked_chosen chosen counts r detects = record {
@@ -94,14 +99,14 @@ module _ (prepared : Prepared) (old new : List SpawnerSeen) where
   }
 
   pub asked_refused : (end : DetectEnd) → SpawnersBy (end_cause end) (faults_of old) (faults_of new) → RunsAsked prepared.frame prepared.catalog prepared.order old (Err end) new → ((finished : List Ran) → AskedBy finished old new
-      → DetectsAs (Err end) (first_trial (says build_plan finished) prepared.catalog prepared.order) (asked_keys (says build_plan finished) prepared.catalog prepared.order) (has_erred (says build_plan finished) prepared.catalog prepared.order))
+      → DetectsAs (Err end) (first_trial (said finished) prepared.catalog prepared.order) (asked_keys prepared.frame.target (said finished) prepared.catalog prepared.order) (has_erred prepared.frame.target (said finished) prepared.catalog prepared.order))
       → asks cause_of (listed_jobs prepared) (jobs_of prepared) (choice_of prepared) old (as_choice (Err (of_detect_end end))) new
   unfolding asks choice_of
   asked_refused end counts r detects = record {
     answers = r.answers;
     asked = r.asked;
     meets = asks_by (cause_of (of_detect_end end)) (AreSome (map (λ ran. ran.job) r.answers) (listed_jobs prepared)) (map (λ ran. ran.job) r.answers ≡ jobs_of prepared r.answers)
-        (choice_by (has_erred (says build_plan r.answers) prepared.catalog prepared.order) (first_trial (says build_plan r.answers) prepared.catalog prepared.order) ≡ Err (of_detect_end end)) (no_file end) r.some
+        (choice_by (has_erred prepared.frame.target (said r.answers) prepared.catalog prepared.order) (first_trial (said r.answers) prepared.catalog prepared.order) ≡ Err (of_detect_end end)) (no_file end) r.some
         (jobs_where end (map (λ ran. ran.job) r.answers ≡ jobs_of prepared r.answers) r.exactly)
         (refused_so end _ _ _ (detects r.answers r.asked));
     counts = told_spawners end (faults_of old) (faults_of new) counts;

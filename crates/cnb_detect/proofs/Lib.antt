@@ -4,4 +4,5 @@ pub mod DetectSteps
 pub mod DocumentLemmas
 pub mod FitLemmas
 pub mod OutcomeLaws
+pub mod TargetLemmas
 pub mod WritingLaws

@@ -8,7 +8,7 @@ use Rattle.run_docs.specs.declared.plan.PlanEntry.{PlanEntry}
 use Rattle.order_expand.specs.Groups.{listed_groups}
 use Rattle.detect_core.specs.declared.chosen.Chosen.{Chosen}
 use Rattle.detect_core.specs.Answer.{says, build_plan}
-use Rattle.detect_core.specs.Detection.{Ending, TooManyTrials, FirstTrial, first_trial, asked_members, has_erred, members_of}
+use Rattle.detect_core.specs.Detection.{Ending, TooManyTrials, FirstTrial, first_trial, asked_members, fitting, has_erred, members_of}
 use Rattle.detect_core.specs.Job.{detect_job}
 use Rattle.detect_core.specs.Search.{group_rows}
 use Rattle.cnb_detect.specs.declared.preparation.Prepared.{Prepared}
@@ -29,15 +29,17 @@ choice_by erred None = Err (NoGroup erred)
 -- the choice by what the children answered
 unfoldable pub choice_of : Prepared → List Ran → Result Choice DetectRefusal
 choice_of prepared answers =
-    choice_by (has_erred (says build_plan answers) prepared.catalog prepared.order) (first_trial (says build_plan answers) prepared.catalog prepared.order)
+    choice_by (has_erred prepared.frame.target (says prepared.frame.target build_plan answers) prepared.catalog prepared.order)
+    (first_trial (says prepared.frame.target build_plan answers) prepared.catalog prepared.order)
 
 -- the children that have to be asked, by what they answered
 abbrev pub jobs_of : Prepared → List Ran → List DetectJob
-jobs_of prepared answers = map (detect_job prepared.frame) (asked_members (says build_plan answers) prepared.catalog prepared.order)
+jobs_of prepared answers =
+    map (detect_job prepared.frame) (asked_members prepared.frame.target (says prepared.frame.target build_plan answers) prepared.catalog prepared.order)
 
--- the children of all buildpacks that the order lists, each once
+-- the children of all buildpacks that the order lists and that fit the target, each once
 abbrev pub listed_jobs : Prepared → List DetectJob
-listed_jobs prepared = map (detect_job prepared.frame) (members_of (listed_groups prepared.catalog prepared.order))
+listed_jobs prepared = map (detect_job prepared.frame) (members_of (fitting prepared.frame.target (listed_groups prepared.catalog prepared.order)))
 
 abbrev pub choice_in : Chosen → Choice
 choice_in chosen = record { group = chosen.group; plan = chosen.plan }

@@ -5,3 +5,4 @@ pub mod Outcome
 pub mod Preparation
 pub mod Refusals
 pub mod Report
+pub mod Target

@@ -6,6 +6,7 @@ use Rattle.cnb_world.specs.declared.env.Variable.{Variable}
 use Rattle.cnb_world.specs.Runs.{Ran}
 use Rattle.cnb_world.specs.Tree.{Tree}
 use Rattle.cnb_world.specs.Whole.{written}
+use Rattle.cnb_toml.specs.declared.target.Target.{Target}
 use Rattle.cnb_words.specs.declared.detect.DetectWords.{DetectWords}
 use Rattle.order_files.specs.Catalog.{catalog_in}
 use Rattle.order_files.specs.OrderFile.{order_file_in}
@@ -22,24 +23,27 @@ use Rattle.steps.specs.Results.{◌>>=◌, with_fault}
 use Rattle.cnb_detect.specs.declared.preparation.Prepared.{Prepared}
 use Rattle.cnb_detect.specs.declared.refusal.DetectRefusal.{DetectRefusal}
 use Rattle.cnb_detect.specs.declared.refusal.DetectRefusal.TheVariants.{File, Memory}
+use Rattle.cnb_detect.specs.declared.target.TargetSource.{TargetSource}
 use Rattle.cnb_detect.specs.Choice.{Choice, choice_of}
 use Rattle.cnb_detect.specs.Detects.{is_fit_detect, text_of}
 use Rattle.cnb_detect.specs.Documents.{group_document, plan_document}
 use Rattle.cnb_detect.specs.Preparation.{frame_of}
 use Rattle.cnb_detect.specs.Refusals.{cause_of, of_read_fault, of_order_fault}
+use Rattle.cnb_detect.specs.Target.{target_in}
 
--- the order, the buildpacks, the check of the order, the platform's files: the first refusal decides
-abbrev pub prepared_in : DetectWords → List Variable → Tree → Result Prepared DetectRefusal
-prepared_in options env files = do
+-- the order, the buildpacks, the check of the order, the target, the platform's files: the first refusal decides
+abbrev pub prepared_in : TargetSource → DetectWords → List Variable → Tree → Result Prepared DetectRefusal
+prepared_in source options env files = do
   order ← with_fault of_read_fault (order_file_in options.order files)
   catalog ← with_fault of_read_fault (catalog_in options.buildpacks files)
   groups ← with_fault of_order_fault (checked catalog order)
+  target ← target_in source options.work files
   variables ← with_fault of_read_fault (platform_files_in options.platform files)
-  Ok (record { order = order; catalog = catalog; frame = frame_of options env variables })
+  Ok (record { order = order; catalog = catalog; frame = frame_of options env target variables })
 
 -- the choice
-unfoldable pub detect_choice : DetectWords → List Variable → List Ran → Tree → Result Choice DetectRefusal
-detect_choice options env answers files = prepared_in options env files >>= (λ prepared. choice_of prepared answers)
+unfoldable pub detect_choice : TargetSource → DetectWords → List Variable → List Ran → Tree → Result Choice DetectRefusal
+detect_choice source options env answers files = prepared_in source options env files >>= (λ prepared. choice_of prepared answers)
 
 -- its text
 abbrev pub outcome_of : Result Choice DetectRefusal → Result (List ℕ) DetectRefusal
@@ -66,19 +70,20 @@ WritesBoth (Ok text) work IsChosen old new =
 
 -- What `detect` comes to. The end is that of the choice, by the files and by what the children of this call answered; each of
 -- the two documents is the old one or a whole new one that reads as the choice.
-pub record ComesTo (options : DetectWords) (env : List Variable) (old : Outside) (end : Result (List ℕ) DetectRefusal) (new : Outside) : Type 0 where
+pub record ComesTo (source : TargetSource) (options : DetectWords) (env : List Variable) (old : Outside) (end : Result (List ℕ) DetectRefusal) (new : Outside) : Type 0 where
   pub answers : List Ran
   pub asked : AskedBy answers old.spawners new.spawners
   -- in whatever order all spawners' children finished, they say the same
-  pub any_order : (finished : List Ran) → AskedBy finished old.spawners new.spawners → says build_plan finished ≡ says build_plan answers
-  pub comes : IfSome old.world.files (λ files. IsAnswer cause_of end (outcome_of (detect_choice options env answers files)))
+  pub any_order : (target : Option Target) (finished : List Ran) → AskedBy finished old.spawners new.spawners
+      → says target build_plan finished ≡ says target build_plan answers
+  pub comes : IfSome old.world.files (λ files. IsAnswer cause_of end (outcome_of (detect_choice source options env answers files)))
   pub group : IsOldOrNew old.world.files new.world.files (group_document options.work)
-      (λ bytes. IfSome old.world.files (λ files. IsChoiceWith (detect_choice options env answers files) (λ choice. group_in bytes ≡ Ok choice.group)))
+      (λ bytes. IfSome old.world.files (λ files. IsChoiceWith (detect_choice source options env answers files) (λ choice. group_in bytes ≡ Ok choice.group)))
   pub plan : IsOldOrNew old.world.files new.world.files (plan_document options.work)
-      (λ bytes. IfSome old.world.files (λ files. IsChoiceWith (detect_choice options env answers files) (λ choice. plan_in bytes ≡ Ok choice.plan)))
-  pub written : WritesBoth end options.work (λ choice. IfSome old.world.files (λ files. detect_choice options env answers files ≡ Ok choice)) old.world.files new.world.files
+      (λ bytes. IfSome old.world.files (λ files. IsChoiceWith (detect_choice source options env answers files) (λ choice. plan_in bytes ≡ Ok choice.plan)))
+  pub written : WritesBoth end options.work (λ choice. IfSome old.world.files (λ files. detect_choice source options env answers files ≡ Ok choice)) old.world.files new.world.files
   pub kept : KeepsFiles end old.world.files new.world.files
   pub others : (path : List ℕ) → is_free (touched (group_document options.work)) path ≡ true → is_free (touched (plan_document options.work)) path ≡ true
       → standing new.world.files path ≡ standing old.world.files path
   pub runs : new.world.runs ≡ old.world.runs
-  pub misused : MayMisuse (option_map (is_fit_detect options) old.world.files) old.world.misused new.world.misused
+  pub misused : MayMisuse (option_map (is_fit_detect source options) old.world.files) old.world.misused new.world.misused

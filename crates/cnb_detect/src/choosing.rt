@@ -14,6 +14,7 @@ ghost use Rattle.cnb_detect.specs.Refusals.{cause_of};
 
 use crate::preparation::{Prepared, prepare};
 use crate::refusal::DetectRefusal;
+use crate::target::TargetSource;
 use cnb_words::DetectWords;
 use cnb_world::{Env, Spawner, World};
 use detect_core::{Chosen, detect};
@@ -48,10 +49,11 @@ fn choose<S: Spawner + Send, R: Threads + Sync>(
     Ok(chosen)
 }
 
-/// Chooses the first group that passes, and its plan. Nothing is written (platform.md, "detector").
+/// Chooses the first group that passes, and its plan, for this target. Nothing is written (platform.md, "detector").
 pub fn choose_group<W: World, S: Spawner + Send, R: Threads + Sync>(
     rt: &R,
     alloc: Global,
+    source: &TargetSource,
     options: &DetectWords,
     env: &Env,
     world: &mut W,
@@ -59,13 +61,13 @@ pub fn choose_group<W: World, S: Spawner + Send, R: Threads + Sync>(
 ) -> Result<Chosen, DetectRefusal>
     requires limits { KeepsLimits options.now }
     requires spawners { 0 < length spawners.old.items }
-    ensures steps { chooses options.now env.now
+    ensures steps { chooses source.now options.now env.now
         (outside W.World S.Spawner world.old spawners.old.items)
         (as_choice result)
         (outside W.World S.Spawner world.new spawners.new.items) }
     ensures written { IfOk result (λ chosen. IsTrue (is_group_doc chosen.group) × IsTrue (is_plan_doc chosen.plan)) }
 {
-    let prepared = prepare(alloc, options, env, world)?;
+    let prepared = prepare(alloc, source, options, env, world)?;
     let chosen = choose(rt, alloc, &prepared, spawners, options.workers)?;
     Ok(chosen)
 }

@@ -1,5 +1,5 @@
-//! What the command `detect` does: it reads the order, the buildpacks and the platform's environment files, runs the
-//! detect children that have to be asked, chooses the first group and plan that pass, and writes both.
+//! What the command `detect` does: it reads the order, the buildpacks, the target and the platform's environment files,
+//! runs the detect children that have to be asked, chooses the first group and plan that pass, and writes both.
 #![tactic(auto)]
 
 mod choosing;
@@ -9,6 +9,7 @@ mod faults;
 mod preparation;
 mod refusal;
 mod report;
+mod target;
 
 pub use choosing::choose_group;
 pub use detection::detect;
@@ -16,3 +17,4 @@ pub use documents::write_choice;
 pub use preparation::Prepared;
 pub use refusal::DetectRefusal;
 pub use report::choice_text;
+pub use target::TargetSource;

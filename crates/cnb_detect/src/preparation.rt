@@ -1,5 +1,6 @@
 // What a detection is made of.
 ghost use Rattle.std.specs.Prelude.{◌≡◌, ℕ, List as Seq, IfOk, IsOk, IsTrue};
+ghost use Rattle.cnb_env.specs.Base.{is_named_target};
 ghost use Rattle.cnb_words.specs.Detect.{KeepsLimits};
 ghost use Rattle.order_expand.specs.Check.{checked};
 ghost use Rattle.detect_core.specs.Search.{is_short};
@@ -8,10 +9,13 @@ ghost use Rattle.steps.specs.Causes.{CountsFiles};
 ghost use Rattle.steps.specs.Outside.{seen};
 ghost use Rattle.cnb_detect.specs.Preparation.{frame_of, prepares};
 ghost use Rattle.cnb_detect.specs.Refusals.{cause_of};
+ghost use Rattle.cnb_detect.specs.Target.{is_named};
 
 use crate::refusal::DetectRefusal;
+use crate::target::{TargetSource, take_target};
 use bp_docs::Order;
 use cnb_env::{EnvFile, platform_files};
+use cnb_toml::Target;
 use cnb_words::DetectWords;
 use cnb_world::{Env, List, Memory, World};
 use detect_core::DetectFrame;
@@ -31,9 +35,10 @@ fn frame(
     alloc: Global,
     options: &DetectWords,
     env: &Env,
+    target: Option<Target>,
     files: List<EnvFile>,
 ) -> Result<DetectFrame, Memory>
-    ensures { IfOk result (λ frame. frame ≡ frame_of options.now env.now files) }
+    ensures { IfOk result (λ frame. frame ≡ frame_of options.now env.now target files) }
 {
     Ok(DetectFrame {
         buildpacks: options.buildpacks.copy(alloc)?,
@@ -42,26 +47,32 @@ fn frame(
         work: options.work.copy(alloc)?,
         env: env.copy()?,
         files,
+        target,
     })
 }
 
-/// Reads the order, the buildpacks and the platform's environment files, and refuses an order that can't be expanded.
+/// Reads the order, the buildpacks, the target, unless it is given, and the platform's environment files, and refuses
+/// an order that can't be expanded.
 pub(crate) fn prepare<W: World>(
     alloc: Global,
+    source: &TargetSource,
     options: &DetectWords,
     env: &Env,
     world: &mut W,
 ) -> Result<Prepared, DetectRefusal>
     requires { KeepsLimits options.now }
-    ensures step { prepares options.now env.now (seen W.World world.old) result (seen W.World world.new) }
+    ensures step { prepares source.now options.now env.now (seen W.World world.old) result (seen W.World world.new) }
     ensures checked { IfOk result (λ prepared. IsOk (checked prepared.catalog prepared.order)) }
     ensures short { IfOk result (λ prepared. IsTrue (is_short prepared.frame)) }
+    ensures named { IsTrue (is_named source.now)
+        → IfOk result (λ prepared. IsTrue (is_named_target prepared.frame.target)) }
 {
     let order = read_order_file(alloc, world, &options.order)?;
     let catalog = read_catalog(alloc, world, &options.buildpacks)?;
     check(alloc, &order, &catalog)?;
+    let target = take_target(alloc, source, world, &options.work)?;
     let files = platform_files(alloc, world, &options.platform)?;
-    let frame = frame(alloc, options, env, files)?;
+    let frame = frame(alloc, options, env, target, files)?;
     Ok(Prepared {
         order,
         catalog,

@@ -4,6 +4,7 @@ use Rattle.steps.proofs.StepLemmas.{ended, given, no_memory, went, within, yield
 use Rattle.run_docs.specs.declared.plan.PlanEntry.{PlanEntry}
 use Rattle.cnb_detect.specs.declared.refusal.DetectRefusal.{DetectRefusal}
 use Rattle.cnb_detect.specs.declared.refusal.DetectRefusal.TheVariants.{Memory}
+use Rattle.cnb_detect.specs.declared.target.TargetSource.TheVariants.{Document}
 use Rattle.cnb_detect.specs.Choice.{choice_in}
 use Rattle.cnb_detect.specs.Detects.{detects}
 use Rattle.cnb_detect.specs.Report.{choice_text}
@@ -34,13 +35,13 @@ returns-clause-steps g c =
     went _ _ _ _ _ (choice_in c.in_ok-chosen.chosen) _ c.in_ok-chosen.ensures.steps (went _ _ _ _ _ _ _ (given _ _ _ _ (ap Ok (sym (c.in_ok-text.ensures ∙ ap (λ (plan : List PlanEntry). choice_text c.in_ok-chosen.chosen.group (length plan)) c.as_slice.ensures)))) (went _ _ _ _ _ _ _ (within _ _ _ _ _ c.in_ok-write_choice.ensures.step) (yielded DetectRefusal _ _)))
 
 pub returns-in_err-chosen-clause-outcome : goal.returns-in_err-chosen-clause-outcome
-returns-in_err-chosen-clause-outcome g c = comes_to c.args.options.now c.args.env.now c.as_str-work.ensures.is_path _ _ _ (returns-in_err-chosen-clause-steps g c)
+returns-in_err-chosen-clause-outcome g c = comes_to Document c.args.options.now c.args.env.now c.as_str-work.ensures.is_path _ _ _ (returns-in_err-chosen-clause-steps g c)
 
 pub returns-in_err-text-clause-outcome : goal.returns-in_err-text-clause-outcome
-returns-in_err-text-clause-outcome g c = comes_to c.args.options.now c.args.env.now c.as_str-work.ensures.is_path _ _ _ (returns-in_err-text-clause-steps g c)
+returns-in_err-text-clause-outcome g c = comes_to Document c.args.options.now c.args.env.now c.as_str-work.ensures.is_path _ _ _ (returns-in_err-text-clause-steps g c)
 
 pub returns-in_err-write_choice-clause-outcome : goal.returns-in_err-write_choice-clause-outcome
-returns-in_err-write_choice-clause-outcome g c = comes_to c.args.options.now c.args.env.now c.as_str-work.ensures.is_path _ _ _ (returns-in_err-write_choice-clause-steps g c)
+returns-in_err-write_choice-clause-outcome g c = comes_to Document c.args.options.now c.args.env.now c.as_str-work.ensures.is_path _ _ _ (returns-in_err-write_choice-clause-steps g c)
 
 pub returns-clause-outcome : goal.returns-clause-outcome
-returns-clause-outcome g c = comes_to c.args.options.now c.args.env.now c.as_str-work.ensures.is_path _ _ _ (returns-clause-steps g c)
+returns-clause-outcome g c = comes_to Document c.args.options.now c.args.env.now c.as_str-work.ensures.is_path _ _ _ (returns-clause-steps g c)
