@@ -142,11 +142,6 @@ answered_at path (Err (doc_fault.Missing text)) want result is h = subst (λ a. 
 answered_at path (Err (doc_fault.Wrong text)) want result is h = subst (λ a. IsAnswer cause_of result (value_at path a)) is h
 answered_at path (Err (doc_fault.Name text)) want result is h = subst (λ a. IsAnswer cause_of result (value_at path a)) is h
 
--- an answer that is known, whatever it is
-pub answered : {A : Type 0} (want result : Result A BuildFault) (old : Seen) → IsAnswer cause_of result want → IfErr result (λ fault. IsGivenCause (cause_of fault)) → gives cause_of want old result old
-unfolding gives
-answered want result old answer cause = (refl, answer, cause)
-
 -- two spellings of a list
 pub all_same : {X A : Type 0} (step : X → A → Seen → Result A BuildFault → Seen → Type 0) (xs ys : List X) (value : A) (result : Result A BuildFault) (old new : Seen) → xs ≡ ys → for_each step xs value old result new → for_each step ys value old result new
 all_same step xs ys value result old new same h = subst (λ zs. for_each step zs value old result new) same h

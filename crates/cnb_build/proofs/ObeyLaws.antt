@@ -61,7 +61,8 @@ module _ (R : Relation Seen) (links : Links R) (rests : Rests R) (read : (A : Ty
       (λ documents. obeys_bind R cause_of _ _ links (needed_obeys group_in documents.group)
       (λ group. obeys_bind R cause_of _ _ links (obeys_gives R cause_of _ rests)
       (λ known. obeys_bind R cause_of _ _ links (needed_obeys plan_in documents.plan)
-      (λ plan. obeys_bind R cause_of _ _ links (read _ _ _) (λ files. obeys_gives R cause_of _ rests)))))
+      (λ plan. obeys_bind R cause_of _ _ links (read _ _ _)
+      (λ target. obeys_bind R cause_of _ _ links (read _ _ _) (λ files. obeys_gives R cause_of _ rests))))))
 
   as_obeys : {A : Type 0} (form : List ℕ → Result A DocFault) (at : List ℕ) → Obeys R cause_of (reads_as form at)
   unfolding reads_as

@@ -1,5 +1,6 @@
 -- The places of a build are paths, and leave room.
-use Rattle.std.proofs.Common.{◌≡◌, ◌<◌, ◌≤◌, ℕ, true, false, cond, List, [], ◌∷◌, ◌++◌, length, length-append, arith}
+use Rattle.std.proofs.Common.{◌≡◌, refl, ◌<◌, ◌≤◌, ℕ, ◌&&◌, true, false, cond, IsTrue, List, [], ◌∷◌, ◌++◌, length, length-append, arith, Option, Some, None}
+use Rattle.std.specs.Prelude.{IfSome}
 use Rattle.std.specs.List.{All}
 use Rattle.std.specs.Str.{bytes_eq}
 use Rattle.std.proofs.lemmas.List.Elements.{All-push}
@@ -7,7 +8,10 @@ use Rattle.cnb_world.specs.Path.{beside, is_part, is_path, joined}
 use Rattle.cnb_world.specs.Tree.{is_root}
 use Rattle.cnb_world.proofs.Folders.{not_longer}
 use Rattle.cnb_world.proofs.Joins.{path_beside_file}
+use Rattle.cnb_env.specs.Base.{is_named_target}
 use Rattle.cnb_env.specs.Layers.{AreShort, IsShort}
+use Rattle.cnb_toml.specs.Names.{is_target_name}
+use Rattle.cnb_toml.specs.declared.target.Target.{Target}
 use Rattle.cnb_world.proofs.Lengths.{length_joined, part_within}
 
 -- a file of a folder isn't `/`
@@ -34,3 +38,8 @@ no_sets_short at layers less = absurd (omega arith)
 
 pub more_sets_short : (sets : List (List (List ℕ))) (layers : List (List ℕ)) → All AreShort sets → AreShort layers → All AreShort (sets ++ layers ∷ [])
 more_sets_short sets layers short room = All-push AreShort sets layers short room
+
+-- the texts of a target that was read are names
+pub named_so : (target : Option Target) → IfSome target (λ found. IsTrue (is_target_name found.os && is_target_name found.arch)) → IsTrue (is_named_target target)
+named_so None h = refl
+named_so (Some target) h = h

@@ -14,7 +14,7 @@ use Rattle.cnb_build.specs.Refusals.{cause_of}
 
 -- whether a component clears the platform's variables; nothing else is built
 abbrev pub clears_of : List ℕ → Body → Result Bool BuildFault
-clears_of path (Component clear_env) = Ok clear_env
+clears_of path (Component clear_env targets) = Ok clear_env
 clears_of path (Composite order) = Err (Document path (Wrong (codes "order")))
 clears_of path (Foreign api) = Err (Api api)
 

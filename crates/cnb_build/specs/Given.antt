@@ -4,9 +4,11 @@ use Rattle.cnb_world.specs.Path.{joined}
 use Rattle.cnb_world.specs.declared.env.Variable.{Variable}
 use Rattle.cnb_toml.specs.declared.fault.DocFault.{DocFault}
 use Rattle.cnb_toml.specs.declared.fault.DocFault.TheVariants.{Absent}
+use Rattle.cnb_toml.specs.declared.target.Target.{Target}
 use Rattle.cnb_words.specs.declared.build.BuildWords.{BuildWords}
 use Rattle.cnb_env.specs.Files.{is_fit_platform, platform_files_in}
 use Rattle.cnb_env.specs.declared.files.EnvFile.{EnvFile}
+use Rattle.image_files.specs.Target.{is_fit_target, target_at}
 use Rattle.run_docs.specs.Group.{foreign_among, group_in}
 use Rattle.run_docs.specs.Plan.{plan_in}
 use Rattle.run_docs.specs.declared.group.GroupRow.{GroupRow}
@@ -21,8 +23,8 @@ use Rattle.cnb_build.specs.Reading.{reads_document, reads_files, value_at}
 use Rattle.cnb_build.specs.Refusals.{cause_of}
 
 -- what all builds have in common
-abbrev pub frame_of : BuildWords → List Variable → List EnvFile → BuildFrame
-frame_of options env files = record {
+abbrev pub frame_of : BuildWords → List Variable → Option Target → List EnvFile → BuildFrame
+frame_of options env target files = record {
   buildpacks = options.buildpacks;
   app = options.app;
   platform = options.platform;
@@ -30,6 +32,7 @@ frame_of options env files = record {
   work = options.work;
   env = env;
   files = files;
+  target = target;
 }
 
 -- the documents of a work folder
@@ -54,12 +57,13 @@ known_unless (Some row) = Err (Api row.api)
 abbrev pub known_apis : List GroupRow → Result (Unit {0}) BuildFault
 known_apis group = known_unless (foreign_among group)
 
--- the group and the plan are read, and the platform's environment files
+-- the group and the plan are read, the target, which may be none, and the platform's environment files
 unfoldable pub reads_given : BuildWords → List Variable → Seen → Result Given BuildFault → Seen → Type 0
 reads_given options env = do
   documents ← gives cause_of (Ok (documents_of options.work))
   group ← reads_needed group_in documents.group
   known ← gives cause_of (known_apis group)
   plan ← reads_needed plan_in documents.plan
+  target ← reads_files (is_fit_target options.work) (target_at options.work)
   files ← reads_files (is_fit_platform options.platform) (platform_files_in options.platform)
-  gives cause_of (Ok (record { group = group; plan = plan; frame = frame_of options env files }))
+  gives cause_of (Ok (record { group = group; plan = plan; frame = frame_of options env target files }))

@@ -7,6 +7,7 @@ use Rattle.cnb_world.specs.declared.child.ChildJob.{ChildJob}
 use Rattle.cnb_world.specs.declared.child.End.{End}
 use Rattle.cnb_world.specs.declared.env.Variable.{Variable}
 use Rattle.cnb_toml.specs.declared.names.Key.{Key}
+use Rattle.cnb_env.specs.Base.{with_target}
 use Rattle.cnb_env.specs.declared.files.EnvFile.{EnvFile}
 use Rattle.cnb_build.specs.declared.fault.BuildFault.{BuildFault}
 use Rattle.cnb_build.specs.declared.fault.BuildFault.TheVariants.{BuildFailed}
@@ -17,13 +18,14 @@ use Rattle.cnb_build.specs.declared.places.Places.{Places}
 abbrev pub files_for : BuildFrame → Bool → Option (List EnvFile)
 files_for frame clear_env = if clear_env then None else Some frame.files
 
--- an environment with the lifecycle's own variables
+-- an environment with the variables of the target and the lifecycle's own
 abbrev pub with_own : BuildFrame → Places → List Variable → List Variable
 with_own frame places env =
     with_value (codes "CNB_BP_PLAN_PATH") places.plan
     (with_value (codes "CNB_LAYERS_DIR") places.layers
     (with_value (codes "CNB_PLATFORM_DIR") frame.platform
-    (with_value (codes "CNB_BUILDPACK_DIR") places.buildpack env)))
+    (with_value (codes "CNB_BUILDPACK_DIR") places.buildpack
+    (with_target frame.target env))))
 
 abbrev pub build_job : BuildFrame → Places → List Variable → ChildJob
 build_job frame places env = record {

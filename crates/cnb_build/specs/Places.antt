@@ -3,6 +3,7 @@ use Rattle.std.specs.Prelude.{ℕ, ◌≡◌, ◌≤◌, false, IsTrue, List, co
 use Rattle.cnb_world.specs.Path.{beside, is_path, joined}
 use Rattle.cnb_world.specs.Tree.{is_root}
 use Rattle.cnb_toml.specs.declared.names.Key.{Key}
+use Rattle.cnb_env.specs.Base.{is_named_target}
 use Rattle.cnb_env.specs.Buildpack.{buildpack_folder, plan_name_of}
 use Rattle.layer_paths.specs.Paths.{layers_folder}
 use Rattle.cnb_build.specs.declared.frame.BuildFrame.{BuildFrame}
@@ -28,13 +29,14 @@ places_of frame key = record {
   store = joined (layers_folder frame.layers key.id) (codes "store.toml");
 }
 
--- the folders of a frame have at most 4,096 bytes
+-- the folders of a frame have at most 4,096 bytes, and the texts of its target are names
 pub record KeepsLimits (frame : BuildFrame) : Type 0 where
   pub buildpacks : length frame.buildpacks ≤ 4096
   pub app : length frame.app ≤ 4096
   pub platform : length frame.platform ≤ 4096
   pub layers : length frame.layers ≤ 4096
   pub work : length frame.work ≤ 4096
+  pub target : IsTrue (is_named_target frame.target)
 
 -- there is room for what stands in the folders, and a file can be written at the plan's path
 pub record HasRoom (places : Places) : Type 0 where

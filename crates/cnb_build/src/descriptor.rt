@@ -17,7 +17,7 @@ fn clears_of(alloc: Global, path: &Path, body: Body) -> Result<bool, BuildFault>
     ensures cause { IfErr result (λ fault. IsGivenCause (cause_of fault)) }
 {
     match body {
-        Body::Component { clear_env } => Ok(clear_env),
+        Body::Component { clear_env, .. } => Ok(clear_env),
         Body::Composite(_) => {
             let key = Text::of(alloc, "order")?;
             Err(BuildFault::Document(path.copy(alloc)?, DocFault::Wrong(key)))

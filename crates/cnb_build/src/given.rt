@@ -1,7 +1,9 @@
 // What a build is given by files.
 ghost use Rattle.std.specs.Prelude.{◌≡◌, ◌≤◌, IfErr, IfOk, IsTrue, length};
 ghost use Rattle.cnb_words.specs.Build.{KeepsLimits as WithinLimits};
+ghost use Rattle.cnb_env.specs.Base.{is_named_target};
 ghost use Rattle.cnb_env.specs.Files.{is_fit_platform, platform_files_in};
+ghost use Rattle.image_files.specs.Target.{is_fit_target, target_at};
 ghost use Rattle.run_docs.specs.Group.{group_in};
 ghost use Rattle.run_docs.specs.Plan.{is_plan_doc, plan_in};
 ghost use Rattle.steps.specs.Causes.{IsAnswer, IsGivenCause};
@@ -15,7 +17,7 @@ use crate::fault::BuildFault;
 use crate::frame::BuildFrame;
 use crate::reading::{read_document, value_at};
 use cnb_env::{EnvFile, platform_files};
-use cnb_toml::DocFault;
+use cnb_toml::{DocFault, Target};
 use cnb_words::BuildWords;
 use cnb_world::{Bytes, Env, List, Memory, Path, World};
 use run_docs::{GroupDoc, PlanDoc, foreign_among, read_group, read_plan};
@@ -98,6 +100,20 @@ fn check_apis(alloc: Global, group: &GroupDoc) -> Result<(), BuildFault>
     }
 }
 
+fn read_target<W: World>(
+    alloc: Global,
+    world: &mut W,
+    work: &Path,
+) -> Result<Option<Target>, BuildFault>
+    requires { length work.now ≤ 4096 }
+    ensures step { reads_files (is_fit_target work.now) (target_at work.now)
+        (seen W.World world.old) result (seen W.World world.new) }
+    ensures named { IfOk result (λ target. IsTrue (is_named_target target)) }
+{
+    let target = image_files::read_target(alloc, world, work)?;
+    Ok(target)
+}
+
 fn read_files<W: World>(
     alloc: Global,
     world: &mut W,
@@ -115,9 +131,10 @@ fn frame_of(
     alloc: Global,
     options: &BuildWords,
     env: &Env,
+    target: Option<Target>,
     files: List<EnvFile>,
 ) -> Result<BuildFrame, Memory>
-    ensures { IfOk result (λ frame. frame ≡ frame_of options.now env.now files) }
+    ensures { IfOk result (λ frame. frame ≡ frame_of options.now env.now target files) }
 {
     Ok(BuildFrame {
         buildpacks: options.buildpacks.copy(alloc)?,
@@ -127,11 +144,12 @@ fn frame_of(
         work: options.work.copy(alloc)?,
         env: env.copy()?,
         files,
+        target,
     })
 }
 
-/// Reads the group, the plan and the platform's environment files. A group with a buildpack of another Buildpack API is
-/// refused before the plan is read.
+/// Reads the group, the plan, the target, which is none where `analyzed.toml` isn't there, and the platform's
+/// environment files. A group with a buildpack of another Buildpack API is refused before the plan is read.
 pub(crate) fn read_given<W: World>(
     alloc: Global,
     options: &BuildWords,
@@ -147,7 +165,8 @@ pub(crate) fn read_given<W: World>(
     let group = read_group_at(alloc, world, &documents.group)?;
     check_apis(alloc, &group)?;
     let plan = read_plan_at(alloc, world, &documents.plan)?;
+    let target = read_target(alloc, world, &options.work)?;
     let files = read_files(alloc, world, &options.platform)?;
-    let frame = frame_of(alloc, options, env, files)?;
+    let frame = frame_of(alloc, options, env, target, files)?;
     Ok(Given { group, plan, frame })
 }

@@ -10,7 +10,7 @@ ghost use Rattle.cnb_build.specs.Refusals.{cause_of};
 use crate::fault::BuildFault;
 use crate::frame::BuildFrame;
 use crate::places::Places;
-use cnb_env::{EnvFile, set_path};
+use cnb_env::{EnvFile, set_path, set_target};
 use cnb_toml::Key;
 use cnb_world::{ChildJob, End, Env, List, Memory, Path, Text};
 use std::alloc::Global;
@@ -25,6 +25,7 @@ pub(crate) fn files_for(frame: &BuildFrame, clear_env: bool) -> Option<&List<Env
 fn set_own(alloc: Global, frame: &BuildFrame, places: &Places, env: &mut Env) -> Result<(), Memory>
     ensures { OnOk result (env.new ≡ with_own frame.now places.now env.old) }
 {
+    set_target(alloc, env, frame.target.as_ref())?;
     set_path(alloc, env, "CNB_BUILDPACK_DIR", &places.buildpack)?;
     set_path(alloc, env, "CNB_PLATFORM_DIR", &frame.platform)?;
     set_path(alloc, env, "CNB_LAYERS_DIR", &places.layers)?;

@@ -1,7 +1,6 @@
 use Rattle.std.proofs.lemmas.Result.{err_from_is_err_and}
-use Rattle.steps.proofs.StepLemmas.{ended, went}
+use Rattle.steps.proofs.StepLemmas.{answered, ended, went}
 use Rattle.cnb_build.specs.Builds.{closes}
-use Rattle.cnb_build.proofs.BuildSteps.{answered}
 use Rattle.cnb_build.proofs.closing.close.Goals as goal
 
 pub returns-in_err-unmet-clause-step : goal.returns-in_err-unmet-clause-step
@@ -12,4 +11,4 @@ returns-in_err-unmet-clause-step g c =
 
 pub returns-clause-step : goal.returns-clause-step
 unfolding closes
-returns-clause-step g c = went _ _ _ _ _ _ _ c.in_ok-unmet.ensures.step (answered _ _ _ c.pending_after.ensures.answer c.pending_after.ensures.cause)
+returns-clause-step g c = went _ _ _ _ _ _ _ c.in_ok-unmet.ensures.step (answered _ _ _ _ c.pending_after.ensures.answer c.pending_after.ensures.cause)

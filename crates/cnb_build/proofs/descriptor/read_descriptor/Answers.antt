@@ -1,7 +1,6 @@
 use Rattle.std.proofs.lemmas.Result.{err_from_is_err_and}
-use Rattle.steps.proofs.StepLemmas.{ended, went}
+use Rattle.steps.proofs.StepLemmas.{answered, ended, went}
 use Rattle.cnb_build.specs.Descriptor.{reads_descriptor}
-use Rattle.cnb_build.proofs.BuildSteps.{answered}
 use Rattle.cnb_build.proofs.descriptor.read_descriptor.Goals as goal
 
 pub returns-in_err-found : goal.returns-in_err-found
@@ -12,4 +11,4 @@ returns-in_err-found g c =
 
 pub returns : goal.returns
 unfolding reads_descriptor
-returns g c = record { step = went _ _ _ _ _ _ _ c.in_ok-found.ensures.step (answered _ _ _ c.clears_in.ensures.answer c.clears_in.ensures.cause) }
+returns g c = record { step = went _ _ _ _ _ _ _ c.in_ok-found.ensures.step (answered _ _ _ _ c.clears_in.ensures.answer c.clears_in.ensures.cause) }

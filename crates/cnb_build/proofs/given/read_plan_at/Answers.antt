@@ -1,7 +1,6 @@
 use Rattle.std.proofs.lemmas.Result.{err_from_is_err_and}
-use Rattle.steps.proofs.StepLemmas.{ended, went}
+use Rattle.steps.proofs.StepLemmas.{answered, ended, went}
 use Rattle.cnb_build.specs.Given.{reads_needed}
-use Rattle.cnb_build.proofs.BuildSteps.{answered}
 use Rattle.cnb_build.proofs.given.read_plan_at.Goals as goal
 
 pub returns-in_err-found-clause-step : goal.returns-in_err-found-clause-step
@@ -12,4 +11,4 @@ returns-in_err-found-clause-step g c =
 
 pub returns-clause-step : goal.returns-clause-step
 unfolding reads_needed
-returns-clause-step g c = went _ _ _ _ _ _ _ c.in_ok-found.ensures.step (answered _ _ _ c.plan_of.ensures.answer c.plan_of.ensures.cause)
+returns-clause-step g c = went _ _ _ _ _ _ _ c.in_ok-found.ensures.step (answered _ _ _ _ c.plan_of.ensures.answer c.plan_of.ensures.cause)

@@ -3,9 +3,9 @@ use Rattle.std.proofs.lemmas.Result.{err_from_is_err_and}
 use Rattle.std.specs.Prelude.{unwrap_or}
 use Rattle.cnb_toml.specs.Reading.{Answers}
 use Rattle.run_docs.specs.Launch.{launch_in}
-use Rattle.steps.proofs.StepLemmas.{ended, went}
+use Rattle.steps.proofs.StepLemmas.{answered, ended, went}
 use Rattle.cnb_build.specs.Reading.{reads_as}
-use Rattle.cnb_build.proofs.BuildSteps.{answered, answered_at}
+use Rattle.cnb_build.proofs.BuildSteps.{answered_at}
 use Rattle.cnb_build.proofs.leaving.read_launch_toml.Goals as goal
 
 pub returns-in_err-found : goal.returns-in_err-found
@@ -18,4 +18,4 @@ pub returns : goal.returns
 unfolding reads_as
 returns g c =
     let read = subst (λ bytes. Answers c.read_launch.result (launch_in bytes)) c.bytes_of.ensures c.read_launch.ensures in
-    record { step = went _ _ _ _ _ _ _ c.in_ok-found.ensures.step (answered _ _ _ (answered_at c.args.path.now c.read_launch.result (launch_in (unwrap_or c.in_ok-found.found [])) c.value_at.result read c.value_at.ensures.answer) c.value_at.ensures.cause) }
+    record { step = went _ _ _ _ _ _ _ c.in_ok-found.ensures.step (answered _ _ _ _ (answered_at c.args.path.now c.read_launch.result (launch_in (unwrap_or c.in_ok-found.found [])) c.value_at.result read c.value_at.ensures.answer) c.value_at.ensures.cause) }

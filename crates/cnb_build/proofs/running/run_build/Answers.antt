@@ -1,7 +1,6 @@
 use Rattle.std.proofs.lemmas.Result.{err_from_is_err_and}
-use Rattle.steps.proofs.StepLemmas.{ended, went}
+use Rattle.steps.proofs.StepLemmas.{answered, ended, went}
 use Rattle.cnb_build.specs.Builds.{runs_build}
-use Rattle.cnb_build.proofs.BuildSteps.{answered}
 use Rattle.cnb_build.proofs.running.run_build.Goals as goal
 
 pub returns-in_err-env : goal.returns-in_err-env
@@ -19,4 +18,4 @@ returns-in_err-end g c =
 pub returns : goal.returns
 unfolding runs_build
 returns g c =
-    record { step = went _ _ _ _ _ _ _ c.in_ok-env.ensures.step (went _ _ _ _ _ _ _ c.in_ok-end.ensures.step (answered _ _ _ c.passed.ensures.answer c.passed.ensures.cause)) }
+    record { step = went _ _ _ _ _ _ _ c.in_ok-env.ensures.step (went _ _ _ _ _ _ _ c.in_ok-end.ensures.step (answered _ _ _ _ c.passed.ensures.answer c.passed.ensures.cause)) }
