@@ -9,6 +9,9 @@ use Rattle.cnb_export.proofs.CountLaws.{exports_counts, saved_readable_image_cou
 use Rattle.cnb_export.specs.Refusals as exporting
 use Rattle.cnb_restore.proofs.CountLaws.{analyzes_counts, restores_counts}
 use Rattle.cnb_restore.specs.Faults as restoring
+use Rattle.cnb_toml.specs.declared.target.Target.{Target}
+use Rattle.cnb_detect.specs.declared.target.TargetSource.TheVariants.{Given}
+use Rattle.image_files.specs.Target.{target_of}
 use Rattle.cnb_words.specs.declared.create.CreateWords.{CreateWords}
 use Rattle.cnb_words.specs.declared.detect.DetectWords.{DetectWords}
 use Rattle.cnb_world.specs.declared.env.Variable.{Variable}
@@ -63,16 +66,16 @@ looked_counts words =
     obeys_bind _ _ _ _ files_link (analyzes_counts words.store words.run _)
     (λ analyzed. obeys_bind _ _ _ _ files_link (writes_counts restoring.cause_of _ _) (λ written. obeys_yields _ _ _ files_rest))
 
-chosen_counts : (words : DetectWords) (env : List Variable) → Obeys OutsideCounts detection.cause_of (chooses_group words env)
+chosen_counts : (target : Target) (words : DetectWords) (env : List Variable) → Obeys OutsideCounts detection.cause_of (chooses_group target words env)
 unfolding chooses_group
-chosen_counts words env =
-    obeys_bind _ _ _ _ outside_link (choice_counts words env)
+chosen_counts target words env =
+    obeys_bind _ _ _ _ outside_link (choice_counts (Given target) words env)
     (λ choice. obeys_bind _ _ _ _ outside_link (obeys_over_world detection.cause_of _ (files_among detection.cause_of _ (written_choice_counts words.work choice)))
     (λ written. obeys_yields _ _ _ outside_rest))
 
-built_counts : (words : CreateWords) (env : List Variable) (choice : Choice) → Obeys AllCounts building.cause_of (builds_group words env choice)
+built_counts : (target : Target) (words : CreateWords) (env : List Variable) (choice : Choice) → Obeys AllCounts building.cause_of (builds_group target words env choice)
 unfolding builds_group
-built_counts words env choice =
+built_counts target words env choice =
     obeys_bind _ _ _ _ all_link (files_among building.cause_of _ (reads_counts building.cause_of _ _))
     (λ files. obeys_bind _ _ _ _ all_link (obeys_gives _ _ _ all_rest) (λ frame. builds_counts frame choice.plan choice.group))
 
@@ -93,7 +96,7 @@ pub create_counts : (words : CreateWords) (env : List Variable) → Obeys every_
 unfolding creates
 create_counts words env =
     obeys_bind _ _ _ _ every_link (obeys_world cause_of _ (files_among cause_of _ (obeys_told FileCounts restoring.cause_of cause_of Restore _ (λ fault. refl) (looked_counts words))))
-    (λ analyzed. obeys_bind _ _ _ _ every_link (obeys_outside cause_of _ (obeys_told OutsideCounts detection.cause_of cause_of Detect _ (λ fault. refl) (chosen_counts words.detect env)))
+    (λ analyzed. obeys_bind _ _ _ _ every_link (obeys_outside cause_of _ (obeys_told OutsideCounts detection.cause_of cause_of Detect _ (λ fault. refl) (chosen_counts (target_of analyzed) words.detect env)))
     (λ choice. obeys_bind _ _ _ _ every_link (obeys_caches cause_of _ (obeys_told (BesideCaches FileCounts) restoring.cause_of cause_of Restore _ (λ fault. refl) (restores_counts _ _ _ _)))
-    (λ restored. obeys_bind _ _ _ _ every_link (obeys_world cause_of _ (obeys_told AllCounts building.cause_of cause_of Build _ (λ fault. refl) (built_counts words env choice)))
+    (λ restored. obeys_bind _ _ _ _ every_link (obeys_world cause_of _ (obeys_told AllCounts building.cause_of cause_of Build _ (λ fault. refl) (built_counts (target_of analyzed) words env choice)))
     (λ built. obeys_caches cause_of _ (left_counts words _)))))

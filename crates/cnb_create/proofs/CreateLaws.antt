@@ -24,17 +24,22 @@ use Rattle.cnb_detect.specs.Detects.{chooses}
 use Rattle.cnb_detect.specs.Documents.{group_document, plan_document, writes_choice}
 use Rattle.cnb_detect.specs.Preparation.{prepares}
 use Rattle.cnb_detect.specs.Refusals as detection
+use Rattle.cnb_detect.specs.declared.target.TargetSource.{TargetSource}
+use Rattle.cnb_detect.specs.declared.target.TargetSource.TheVariants.{Given}
 use Rattle.cnb_detect.proofs.DetectLaws.{prepares_reads}
 use Rattle.cnb_export.specs.Command.{saves_readable_image}
 use Rattle.cnb_export.specs.Refusals as exporting
 use Rattle.cnb_restore.specs.Analyzes.{analyzes}
-use Rattle.cnb_restore.specs.Commands.{ReadsAsAnalyzed, analyzed_document}
+use Rattle.cnb_restore.specs.Commands.{ReadsAsAnalyzed}
 use Rattle.cnb_restore.specs.Faults as restoring
+use Rattle.cnb_toml.specs.declared.target.Target.{Target}
 use Rattle.cnb_words.specs.declared.create.CreateWords.{CreateWords}
 use Rattle.image_docs.specs.declared.analyzed.Analyzed.{Analyzed}
 use Rattle.image_docs.specs.declared.image.ImageDoc.{ImageDoc}
-use Rattle.image_files.specs.Images.{writes_readable_image}
-use Rattle.image_files.specs.Paths.{document_name, image_path, images_folder}
+use Rattle.image_docs.specs.declared.run_image.RunDoc.{RunDoc}
+use Rattle.image_files.specs.Images.{writes_readable_image, writes_readable_run_image}
+use Rattle.image_files.specs.Paths.{document_name, image_path, images_folder, run_path, runs_folder}
+use Rattle.image_files.specs.Target.{analyzed_document, target_of}
 use Rattle.image_files.proofs.PathLemmas.{document_length}
 use Rattle.run_docs.specs.Group.{group_in}
 use Rattle.run_docs.specs.Plan.{plan_in}
@@ -71,9 +76,9 @@ keeps_images path words free =
     keeps_bind path _ _ (keeps_analyzes path words.store words.run (Some (previous_name words)))
     (λ analyzed. keeps_bind path _ _ (keeps_writes path restoring.cause_of (analyzed_document words.detect.work) (ReadsAsAnalyzed analyzed) free) (λ written. keeps_yields path analyzed))
 
-keeps_prepares : (path : List ℕ) (words : CreateWords) (env : List Variable) → Preserves path (prepares words.detect env)
-keeps_prepares path words env old new result h =
-    let read = prepares_reads words.detect env old new result h in
+keeps_prepares : (path : List ℕ) (source : TargetSource) (words : CreateWords) (env : List Variable) → Preserves path (prepares source words.detect env)
+keeps_prepares path source words env old new result h =
+    let read = prepares_reads source words.detect env old new result h in
     keeps_same path old new read.same.runs (ap (λ files. standing files path) read.same.files)
 
 keeps_choice : (path : List ℕ) (work : List ℕ) (choice : Choice) → is_free (touched (group_document work)) path ≡ true → is_free (touched (plan_document work)) path ≡ true → Preserves path (writes_choice work choice)
@@ -82,11 +87,11 @@ keeps_choice path work choice group plan =
     keeps_bind path _ _ (keeps_writes path detection.cause_of (group_document work) (λ bytes. group_in bytes ≡ Ok choice.group) group)
     (λ first. keeps_bind path _ _ (keeps_writes path detection.cause_of (plan_document work) (λ bytes. plan_in bytes ≡ Ok choice.plan) plan) (λ second. keeps_yields path tt))
 
-keeps_chooses : (path : List ℕ) (words : CreateWords) (env : List Variable) → is_free (touched (group_document words.detect.work)) path ≡ true → is_free (touched (plan_document words.detect.work)) path ≡ true
-    → KeepsIn spawners_world path (chooses_group words.detect env)
+keeps_chooses : (path : List ℕ) (target : Target) (words : CreateWords) (env : List Variable) → is_free (touched (group_document words.detect.work)) path ≡ true → is_free (touched (plan_document words.detect.work)) path ≡ true
+    → KeepsIn spawners_world path (chooses_group target words.detect env)
 unfolding chooses_group chooses
-keeps_chooses path words env group plan =
-    in_bind spawners_world path _ _ (in_bind spawners_world path _ _ (spawners_in_world path _ (keeps_prepares path words env)) (λ prepared. spawners_in_spawners path _))
+keeps_chooses path target words env group plan =
+    in_bind spawners_world path _ _ (in_bind spawners_world path _ _ (spawners_in_world path _ (keeps_prepares path (Given target) words env)) (λ prepared. spawners_in_spawners path _))
     (λ choice. in_bind spawners_world path _ _ (spawners_in_world path _ (keeps_choice path words.detect.work choice group plan)) (λ written. in_yields spawners_world path choice))
 
 -- a group whose builds leave a path alone that is apart from the layers folder and from that of the plans
@@ -110,19 +115,19 @@ in_known view path cause value next keeps old new (Err fault) (inl given) = in_g
 in_known view path cause value next keeps old new (Err fault) (inr (a, mid, given, later)) =
     subst (λ s. Keeps path (view s) (view new)) given.0 (subst (λ v. KeepsIn view path (next v)) (was_given value a given.1) keeps mid new (Err fault) later)
 
-keeps_group : (path : List ℕ) (words : CreateWords) (env : List Variable) (choice : Choice) → are_apart (joined words.detect.work (codes "plans")) path ≡ true → are_apart words.layers path ≡ true
-    → Preserves path (builds_group words env choice)
+keeps_group : (path : List ℕ) (target : Target) (words : CreateWords) (env : List Variable) (choice : Choice) → are_apart (joined words.detect.work (codes "plans")) path ≡ true → are_apart words.layers path ≡ true
+    → Preserves path (builds_group target words env choice)
 unfolding builds_group
-keeps_group path words env choice plans layers =
+keeps_group path target words env choice plans layers =
     keeps_bind path _ _ (keeps_reads path building.cause_of _ _)
-    (λ files. in_known (λ (s : Seen). s) path building.cause_of (build_frame words env files) _
-    (keeps_builds path (build_frame words env files) choice.plan choice.group (all_spared path (build_frame words env files) choice.group plans layers)))
+    (λ files. in_known (λ (s : Seen). s) path building.cause_of (build_frame target words env files) _
+    (keeps_builds path (build_frame target words env files) choice.plan choice.group (all_spared path (build_frame target words env files) choice.group plans layers)))
 
 -- ---- trees stand apart from images
 
-other_behind : (front xs ys : List ℕ) → front ++ 105 ∷ xs ≡ front ++ 116 ∷ ys → ⊥
-other_behind [] xs ys same = let e : ◌≡◌ {A = ℕ} 105 116 = cc in absurd (omega (arith, e))
-other_behind (c ∷ front) xs ys same = let rest : front ++ 105 ∷ xs ≡ front ++ 116 ∷ ys = cc in other_behind front xs ys rest
+other_behind : (c : ℕ) (front xs ys : List ℕ) → (c ≡ 116 → ⊥) → front ++ c ∷ xs ≡ front ++ 116 ∷ ys → ⊥
+other_behind c [] xs ys differs same = differs (cc)
+other_behind c (d ∷ front) xs ys differs same = let rest : front ++ c ∷ xs ≡ front ++ 116 ∷ ys = cc in other_behind c front xs ys differs rest
 
 abbrev front_of_store : List ℕ → List ℕ
 front_of_store store = cond (bytes_eq store (47 ∷ [])) store (store ++ 47 ∷ [])
@@ -149,6 +154,11 @@ images_are store name =
     let b = behind (images_folder store) (document_name name) in
     (109 ∷ 97 ∷ 103 ∷ 101 ∷ 115 ∷ b.0, b.1 ∙ append_assoc (front_of_store store) (codes "images") b.0)
 
+runs_are : (store name : List ℕ) → (more : List ℕ) × (run_path store name ≡ front_of_store store ++ 114 ∷ more)
+runs_are store name =
+    let b = behind (runs_folder store) (document_name name) in
+    (117 ∷ 110 ∷ 115 ∷ b.0, b.1 ∙ append_assoc (front_of_store store) (codes "runs") b.0)
+
 unless_within : (folder path : List ℕ) → is_root folder ≡ false → (Below folder path → ⊥) → not (is_within folder path) ≡ true
 unless_within folder path no_root lacks = by (is_within folder path) refl
   where
@@ -160,14 +170,27 @@ unless_within folder path no_root lacks = by (is_within folder path) refl
     by true is = absurd (either (within_so folder path is))
     by false is = refl
 
-trees_apart : (store name : List ℕ) → are_apart (joined store (codes "trees")) (image_path store name) ≡ true
+-- a document in a folder of the store whose name doesn't begin as that of the trees
+beside_trees : (store path : List ℕ) (c : ℕ) (more : List ℕ) → (c ≡ 116 → ⊥) → is_root path ≡ false → path ≡ front_of_store store ++ c ∷ more → are_apart (joined store (codes "trees")) path ≡ true
+beside_trees store path c more differs no_root at =
+    and_from (not (is_within (joined store (codes "trees")) path)) (not (is_within path (joined store (codes "trees"))))
+    (unless_within _ _ (no_root_behind (front_of_store store) (codes "trees") (omega arith))
+    (λ below. other_behind c (front_of_store store) more (114 ∷ 101 ∷ 101 ∷ 115 ∷ below.0) differs (sym at ∙ below.1 ∙ append_assoc (front_of_store store) (codes "trees") below.0)))
+    (unless_within _ _ no_root
+    (λ below. other_behind c (front_of_store store) (more ++ below.0) (114 ∷ 101 ∷ 101 ∷ 115 ∷ []) differs (sym (append_assoc (front_of_store store) (c ∷ more) below.0) ∙ ap (λ v. v ++ below.0) (sym at) ∙ sym below.1)))
+
+no_document_root : (folder name : List ℕ) → is_root (joined folder (document_name name)) ≡ false
+no_document_root folder name = no_root_behind (cond (bytes_eq folder (47 ∷ [])) folder (folder ++ 47 ∷ [])) (document_name name) (omega (arith, document_length name))
+
+pub trees_apart : (store name : List ℕ) → are_apart (joined store (codes "trees")) (image_path store name) ≡ true
 trees_apart store name =
     let at = images_are store name in
-    and_from (not (is_within (joined store (codes "trees")) (image_path store name))) (not (is_within (image_path store name) (joined store (codes "trees"))))
-    (unless_within _ _ (no_root_behind (front_of_store store) (codes "trees") (omega arith))
-    (λ below. other_behind (front_of_store store) at.0 (114 ∷ 101 ∷ 101 ∷ 115 ∷ below.0) (sym at.1 ∙ below.1 ∙ append_assoc (front_of_store store) (codes "trees") below.0)))
-    (unless_within _ _ (no_root_behind (cond (bytes_eq (images_folder store) (47 ∷ [])) (images_folder store) (images_folder store ++ 47 ∷ [])) (document_name name) (omega (arith, document_length name)))
-    (λ below. other_behind (front_of_store store) (at.0 ++ below.0) (114 ∷ 101 ∷ 101 ∷ 115 ∷ []) (sym (append_assoc (front_of_store store) (105 ∷ at.0) below.0) ∙ ap (λ v. v ++ below.0) (sym at.1) ∙ sym below.1)))
+    beside_trees store (image_path store name) 105 at.0 (λ (e : ◌≡◌ {A = ℕ} 105 116). absurd (omega (arith, e))) (no_document_root (images_folder store) name) at.1
+
+pub trees_apart_from_run : (store name : List ℕ) → are_apart (joined store (codes "trees")) (run_path store name) ≡ true
+trees_apart_from_run store name =
+    let at = runs_are store name in
+    beside_trees store (run_path store name) 114 at.0 (λ (e : ◌≡◌ {A = ℕ} 114 116). absurd (omega (arith, e))) (no_document_root (runs_folder store) name) at.1
 
 -- ---- the image's own document
 
@@ -192,18 +215,22 @@ some_left_itself : (p : List ℕ) (Says : List ℕ → Type 0) (o n : Option Tre
 some_left_itself p Says o n long (inl same) = ap (λ files. standing files p) same
 some_left_itself p Says o n long (inr (bytes, says, (progress, fits, is))) = step_at o n (left_of progress p bytes) p (λ t. left_itself progress bytes t p long) is
 
-long_document : (store name : List ℕ) → 1 < length (image_path store name)
-long_document store name = by (bytes_eq (images_folder store) (47 ∷ []))
+long_document : (folder name : List ℕ) → 1 < length (joined folder (document_name name))
+long_document folder name = by (bytes_eq folder (47 ∷ []))
   where
-    by : (root : Bool) → 1 < length (cond root (images_folder store) (images_folder store ++ 47 ∷ []) ++ document_name name)
-    by true = omega (arith, length-append (images_folder store) (document_name name), document_length name)
-    by false = omega (arith, length-append (images_folder store ++ 47 ∷ []) (document_name name), document_length name)
+    by : (root : Bool) → 1 < length (cond root folder (folder ++ 47 ∷ []) ++ document_name name)
+    by true = omega (arith, length-append folder (document_name name), document_length name)
+    by false = omega (arith, length-append (folder ++ 47 ∷ []) (document_name name), document_length name)
 
-refused_write : (store name : List ℕ) (image : ImageDoc) → KeepsRefused (λ (s : Seen). s) (image_path store name) (writes_readable_image store name image)
+pub refused_write : (store name : List ℕ) (image : ImageDoc) → KeepsRefused (λ (s : Seen). s) (image_path store name) (writes_readable_image store name image)
 unfolding writes_readable_image writes
-refused_write store name image old new fault h = keeps_same (image_path store name) old new h.1.runs (some_left_itself (image_path store name) _ old.files new.files (long_document store name) h.1.files)
+refused_write store name image old new fault h = keeps_same (image_path store name) old new h.1.runs (some_left_itself (image_path store name) _ old.files new.files (long_document (images_folder store) name) h.1.files)
 
-refused_told : {S E F A : Type 0} (view : S → Seen) (path : List ℕ) (of : E → F) (step : S → Result A E → S → Type 0) → KeepsRefused view path step → KeepsRefused view path (map_err of step)
+pub refused_run_write : (store name : List ℕ) (image : RunDoc) → KeepsRefused (λ (s : Seen). s) (run_path store name) (writes_readable_run_image store name image)
+unfolding writes_readable_run_image writes
+refused_run_write store name image old new fault h = keeps_same (run_path store name) old new h.1.runs (some_left_itself (run_path store name) _ old.files new.files (long_document (runs_folder store) name) h.1.files)
+
+pub refused_told : {S E F A : Type 0} (view : S → Seen) (path : List ℕ) (of : E → F) (step : S → Result A E → S → Type 0) → KeepsRefused view path step → KeepsRefused view path (map_err of step)
 unfolding map_err
 refused_told view path of step p old new refusal (fault, is, h) = p old new fault h
 
@@ -239,9 +266,9 @@ keeps_image words env old new refusal long apart did =
     let third = and_parts _ (is_free (touched (plan_document words.detect.work)) (image_document words)) fourth.0 in
     let first = and_parts (is_free (touched (analyzed_document words.detect.work)) (image_document words)) (is_free (touched (group_document words.detect.work)) (image_document words)) third.0 in
     refused_bind all_world _ _ _ (all_over_world _ _ (keeps_told _ Restore _ (keeps_images (image_document words) words first.0)))
-    (λ analyzed. refused_bind all_world _ _ _ (all_over_outside _ _ (in_told spawners_world _ Detect _ (keeps_chooses (image_document words) words env first.1 third.1)))
+    (λ analyzed. refused_bind all_world _ _ _ (all_over_outside _ _ (in_told spawners_world _ Detect _ (keeps_chooses (image_document words) (target_of analyzed) words env first.1 third.1)))
     (λ choice. refused_bind all_world _ _ _ (all_over_caches _ _ (in_told cached_world _ Restore _ (keeps_restores words.layers (image_document words) last.1 long words.store analyzed.previous choice.group)))
-    (λ restored. refused_bind all_world _ _ _ (all_over_world _ _ (keeps_told _ Build _ (keeps_group (image_document words) words env choice fourth.1 last.1)))
+    (λ restored. refused_bind all_world _ _ _ (all_over_world _ _ (keeps_told _ Build _ (keeps_group (image_document words) (target_of analyzed) words env choice fourth.1 last.1)))
     (λ built. refused_over_caches _ _ (refused_leaving words (phases_of analyzed choice restored))))))
     old new refusal did
 

@@ -17,6 +17,7 @@ use Rattle.image_docs.specs.Image.{image_in}
 use Rattle.image_docs.specs.declared.analyzed.Analyzed.{Analyzed}
 use Rattle.image_files.specs.Images.{ReadsAs}
 use Rattle.image_files.specs.Paths.{image_path}
+use Rattle.image_files.specs.Target.{target_of}
 use Rattle.image_files.proofs.StandLaws.{image_reads}
 use Rattle.run_docs.specs.declared.group.GroupRow.{GroupRow}
 use Rattle.run_docs.specs.declared.plan.PlanEntry.{PlanEntry}
@@ -27,8 +28,10 @@ use Rattle.cnb_detect.specs.Refusals as detection
 use Rattle.cnb_detect.specs.declared.preparation.Prepared.{Prepared}
 use Rattle.cnb_detect.specs.declared.refusal.DetectRefusal.{DetectRefusal}
 use Rattle.cnb_detect.specs.declared.refusal.DetectRefusal.TheVariants as detect
+use Rattle.cnb_detect.specs.declared.target.TargetSource.TheVariants.{Given}
 use Rattle.cnb_detect.proofs.DetectLaws.{prepares_reads}
 use Rattle.cnb_detect.proofs.OutcomeLaws.{comes_to}
+use Rattle.cnb_toml.specs.declared.target.Target.{Target}
 use Rattle.cnb_words.specs.declared.create.CreateWords.{CreateWords}
 use Rattle.cnb_words.specs.declared.detect.DetectWords.{DetectWords}
 use Rattle.cnb_world.specs.Path.{is_path}
@@ -49,38 +52,38 @@ use Rattle.cnb_create.specs.declared.refusal.CreateRefusal.{CreateRefusal}
 use Rattle.cnb_create.specs.declared.refusal.CreateRefusal.TheVariants.{Build, Detect, Export, Memory, Restore}
 
 -- the children that decided
-record DecidedBy (words : DetectWords) (env : List Variable) (old : Outside) (choice : Choice) (new : Outside) : Type 0 where
+record DecidedBy (target : Target) (words : DetectWords) (env : List Variable) (old : Outside) (choice : Choice) (new : Outside) : Type 0 where
   answers : List Ran
   asked : AskedBy answers old.spawners new.spawners
   prepared : Prepared
-  read : IfSome old.world.files (λ files. prepared_in words env files ≡ Ok prepared)
+  read : IfSome old.world.files (λ files. prepared_in (Given target) words env files ≡ Ok prepared)
   exactly : map (λ ran. ran.job) answers ≡ jobs_of prepared answers
-  chosen : IfSome old.world.files (λ files. detect_choice words env answers files ≡ Ok choice)
+  chosen : IfSome old.world.files (λ files. detect_choice (Given target) words env answers files ≡ Ok choice)
 
 -- ---- a choice that is written is what `detect` does, but for its text
 
-module _ (words : DetectWords) (env : List Variable) where
-  as_detect : (old new : Outside) (choice : Choice) → chooses_group words env old (Ok choice) new → detects words env old (Ok (text_of choice)) new
+module _ (target : Target) (words : DetectWords) (env : List Variable) where
+  as_detect : (old new : Outside) (choice : Choice) → chooses_group target words env old (Ok choice) new → detects (Given target) words env old (Ok (text_of choice)) new
   unfolding chooses_group detects ◌>>=◌ yields
   as_detect old new choice (c, m, chose, (w, m2, wrote, y)) =
       (c, m, chose, (text_of c, m, given detection.cause_of (Ok (text_of c)) m (text_of c) refl, (w, m2, wrote, (ap text_of y.0, y.1))))
 
-  as_refused : (old new : Outside) (refusal : DetectRefusal) → chooses_group words env old (Err refusal) new → detects words env old (Err refusal) new
+  as_refused : (old new : Outside) (refusal : DetectRefusal) → chooses_group target words env old (Err refusal) new → detects (Given target) words env old (Err refusal) new
   unfolding chooses_group detects ◌>>=◌ yields
   as_refused old new refusal (inl refused) = inl refused
   as_refused old new refusal (inr (c, m, chose, inl refused)) = inr (c, m, chose, inr (text_of c, m, given detection.cause_of (Ok (text_of c)) m (text_of c) refl, inl refused))
   as_refused old new refusal (inr (c, m, chose, inr (w, m2, wrote, y))) = absurd y
 
-  choice_where : (o : Option Tree) (prepared : Prepared) (answers : List Ran) (choice : Choice) → IfSome o (λ files. prepared_in words env files ≡ Ok prepared) → choice_of prepared answers ≡ Ok choice
-      → IfSome o (λ files. detect_choice words env answers files ≡ Ok choice)
+  choice_where : (o : Option Tree) (prepared : Prepared) (answers : List Ran) (choice : Choice) → IfSome o (λ files. prepared_in (Given target) words env files ≡ Ok prepared) → choice_of prepared answers ≡ Ok choice
+      → IfSome o (λ files. detect_choice (Given target) words env answers files ≡ Ok choice)
   unfolding detect_choice
   choice_where None prepared answers choice is e = tt
   choice_where (Some files) prepared answers choice is e = ap (λ p. and_then p (λ q. choice_of q answers)) is ∙ e
 
-  decided : (old new : Outside) (choice : Choice) → chooses_group words env old (Ok choice) new → DecidedBy words env old choice new
+  decided : (old new : Outside) (choice : Choice) → chooses_group target words env old (Ok choice) new → DecidedBy target words env old choice new
   unfolding chooses_group chooses in_world in_spawners asks ◌>>=◌ yields
   decided old new choice (c, m, (prepared, s1, (h1, same), (h2, world)), (w, m2, (wrote, spawners), y)) =
-      let read = prepares_reads words env old.world s1.world (Ok prepared) h1 in
+      let read = prepares_reads (Given target) words env old.world s1.world (Ok prepared) h1 in
       let last : new.spawners ≡ m.spawners = ap (λ s. s.spawners) y.1 ∙ spawners in
       record {
         answers = h2.answers;
@@ -117,14 +120,14 @@ runs_from frame plan group a b c done files runs h = record {
 }
 
 -- the platform's files were read, and each buildpack of the group was built
-built_so : (words : CreateWords) (env : List Variable) (choice : Choice) (old new : Seen) (done : Unit {0}) → builds_group words env choice old (Ok done) new
-    → (files : List EnvFile) × RunsBuilds (build_frame words env files) choice.plan choice.group old (Ok tt) new
+built_so : (target : Target) (words : CreateWords) (env : List Variable) (choice : Choice) (old new : Seen) (done : Unit {0}) → builds_group target words env choice old (Ok done) new
+    → (files : List EnvFile) × RunsBuilds (build_frame target words env files) choice.plan choice.group old (Ok tt) new
 unfolding builds_group reads gives ◌>>=◌
-built_so words env choice old new done (files, m1, reading, (frame, m2, given, building)) = (
+built_so target words env choice old new done (files, m1, reading, (frame, m2, given, building)) = (
   files,
-  runs_from (build_frame words env files) choice.plan choice.group old m1 new done reading.same.files reading.same.runs
-      (subst (λ (s : Seen). RunsBuilds (build_frame words env files) choice.plan choice.group s (Ok done) new) given.0
-      (subst (λ (f : BuildFrame). RunsBuilds f choice.plan choice.group m2 (Ok done) new) (same_frame {E = BuildFault} (build_frame words env files) frame given.1)
+  runs_from (build_frame target words env files) choice.plan choice.group old m1 new done reading.same.files reading.same.runs
+      (subst (λ (s : Seen). RunsBuilds (build_frame target words env files) choice.plan choice.group s (Ok done) new) given.0
+      (subst (λ (f : BuildFrame). RunsBuilds f choice.plan choice.group m2 (Ok done) new) (same_frame {E = BuildFault} (build_frame target words env files) frame given.1)
       (runs_builds frame choice.plan choice.group m2 new (Ok done) building))),
 )
 
@@ -141,10 +144,10 @@ module _ (words : CreateWords) (env : List Variable) (path : is_path words.detec
   unfolding creates leaves_image over_world over_outside over_caches in_cached_world map_err gives yields ◌>>=◌
   makes_image old new text (analyzed, s1, (looked, sp1, ca1), (choice, s2, (chose, ca2), (restored, s3, (restoring, sp3), (built, s4, (building, sp4, ca4), ((exported, m1, exporting, (line, m2, made, (saved, m3, saving, y))), sp5))))) =
       let spawners : new.spawners ≡ s2.spawners = sp5 ∙ sp4 ∙ sp3 in
-      let d = decided words.detect env (outside_of s1) (outside_of s2) choice chose in
-      let comes = comes_to words.detect env path (outside_of s1) (outside_of s2) _ (as_detect words.detect env (outside_of s1) (outside_of s2) choice chose) in
+      let d = decided (target_of analyzed) words.detect env (outside_of s1) (outside_of s2) choice chose in
+      let comes = comes_to (Given (target_of analyzed)) words.detect env path (outside_of s1) (outside_of s2) _ (as_detect (target_of analyzed) words.detect env (outside_of s1) (outside_of s2) choice chose) in
       let asked = λ (answers : List Ran) (h : AskedBy answers old.spawners new.spawners). subst (λ v. AskedBy answers v s2.spawners) (sym sp1) (subst (λ v. AskedBy answers old.spawners v) spawners h) in
-      let builds = built_so words env choice s3.world s4.world built building in
+      let builds = built_so (target_of analyzed) words env choice s3.world s4.world built building in
       let makes = exported_so words analyzed choice.group (caches_beside s4) m1 exported exporting in
       record {
         analyzed = analyzed;
@@ -157,7 +160,7 @@ module _ (words : CreateWords) (env : List Variable) (path : is_path words.detec
           prepared = d.prepared;
           read = d.read;
           exactly = d.exactly;
-          any_order = λ finished by. comes.any_order finished (asked finished by) ∙ sym (comes.any_order d.answers d.asked);
+          any_order = λ finished by. comes.any_order (Some (target_of analyzed)) finished (asked finished by) ∙ sym (comes.any_order (Some (target_of analyzed)) d.answers d.asked);
           chosen = d.chosen;
         };
         restored = restored;
@@ -185,9 +188,9 @@ module _ (words : CreateWords) (env : List Variable) (path : is_path words.detec
         analyzed = analyzed;
         looked_at = s1.world;
         looked = looked;
-        comes = subst (λ r. ComesTo words.detect env (record { world = s1.world; spawners = old.spawners }) (Err r) (outside_of new)) same
-            (subst (λ v. ComesTo words.detect env (record { world = s1.world; spawners = v }) (Err fault) (outside_of new)) sp1
-            (comes_to words.detect env path (outside_of s1) (outside_of new) (Err fault) (as_refused words.detect env (outside_of s1) (outside_of new) fault chose)));
+        comes = subst (λ r. ComesTo (Given (target_of analyzed)) words.detect env (record { world = s1.world; spawners = old.spawners }) (Err r) (outside_of new)) same
+            (subst (λ v. ComesTo (Given (target_of analyzed)) words.detect env (record { world = s1.world; spawners = v }) (Err fault) (outside_of new)) sp1
+            (comes_to (Given (target_of analyzed)) words.detect env path (outside_of s1) (outside_of new) (Err fault) (as_refused (target_of analyzed) words.detect env (outside_of s1) (outside_of new) fault chose)));
       }
   chooses_none old new refusal lacks (inr (analyzed, s1, looked, inr (choice, s2, chose, inl ((fault, is, h), sp)))) = absurd (cc)
   chooses_none old new refusal lacks (inr (analyzed, s1, looked, inr (choice, s2, chose, inr (restored, s3, restoring, inl ((fault, is, h), sp, ca))))) = absurd (cc)

@@ -8,3 +8,4 @@ pub mod PutLemmas
 pub mod RestoreLaws
 pub mod StandLaws
 pub mod SurroundingLemmas
+pub mod TargetLemmas

@@ -1,11 +1,11 @@
 -- What keeps the image's document apart from all else that `create` writes.
 use Rattle.std.specs.Prelude.{ℕ, Bool, ◌&&◌, not, List, codes}
 use Rattle.cnb_detect.specs.Documents.{group_document, plan_document}
-use Rattle.cnb_restore.specs.Commands.{analyzed_document}
 use Rattle.cnb_words.specs.declared.create.CreateWords.{CreateWords}
 use Rattle.cnb_world.specs.Path.{joined}
 use Rattle.cnb_world.specs.Tree.{is_within}
 use Rattle.image_files.specs.Paths.{image_path}
+use Rattle.image_files.specs.Target.{analyzed_document}
 use Rattle.steps.specs.Frames.{is_free, touched}
 
 -- neither path is the other, or lies below it

@@ -9,6 +9,7 @@ use Rattle.cnb_detect.specs.Choice.{Choice}
 use Rattle.cnb_detect.specs.Detects.{chooses}
 use Rattle.cnb_detect.specs.Documents.{writes_choice}
 use Rattle.cnb_detect.specs.declared.refusal.DetectRefusal.{DetectRefusal}
+use Rattle.cnb_detect.specs.declared.target.TargetSource.TheVariants.{Given}
 use Rattle.cnb_env.specs.Files.{is_fit_platform, platform_files_in}
 use Rattle.cnb_env.specs.declared.files.EnvFile.{EnvFile}
 use Rattle.cnb_export.specs.Command.{saves_readable_image}
@@ -18,15 +19,17 @@ use Rattle.cnb_export.specs.declared.exported.ExportFrame.{ExportFrame}
 use Rattle.cnb_export.specs.declared.exported.Exported.{Exported}
 use Rattle.cnb_export.specs.declared.fault.ExportFault.{ExportFault}
 use Rattle.cnb_restore.specs.Analyzes.{analyzes}
-use Rattle.cnb_restore.specs.Commands.{ReadsAsAnalyzed, analyzed_document}
+use Rattle.cnb_restore.specs.Commands.{ReadsAsAnalyzed}
 use Rattle.cnb_restore.specs.Faults as restoring
 use Rattle.cnb_restore.specs.Restores.{restores}
 use Rattle.cnb_restore.specs.declared.fault.RestoreFault.{RestoreFault}
 use Rattle.cnb_restore.specs.declared.restored.Restored.{Restored}
+use Rattle.cnb_toml.specs.declared.target.Target.{Target}
 use Rattle.cnb_words.specs.declared.create.CreateWords.{CreateWords}
 use Rattle.cnb_words.specs.declared.detect.DetectWords.{DetectWords}
 use Rattle.cnb_world.specs.declared.env.Variable.{Variable}
 use Rattle.image_docs.specs.declared.analyzed.Analyzed.{Analyzed}
+use Rattle.image_files.specs.Target.{analyzed_document, target_of}
 use Rattle.run_docs.specs.declared.group.GroupRow.{GroupRow}
 use Rattle.shelf_set.specs.Caches.{WorldAndCaches, in_world}
 use Rattle.steps.specs.Outside.{Outside, Seen}
@@ -50,10 +53,10 @@ looks_at_images words = do
   written ← writes restoring.cause_of (analyzed_document words.detect.work) (ReadsAsAnalyzed analyzed)
   yields analyzed
 
--- a group and its plan are chosen, and they are written
-unfoldable pub chooses_group : DetectWords → List Variable → Outside → Result Choice DetectRefusal → Outside → Type 0
-chooses_group words env = do
-  choice ← chooses words env
+-- a group and its plan are chosen for a target, and they are written
+unfoldable pub chooses_group : Target → DetectWords → List Variable → Outside → Result Choice DetectRefusal → Outside → Type 0
+chooses_group target words env = do
+  choice ← chooses (Given target) words env
   written ← steps.in_world (writes_choice words.work choice)
   yields choice
 
@@ -62,8 +65,8 @@ abbrev pub restores_layers : CreateWords → Analyzed → List GroupRow → Worl
 restores_layers words analyzed group = restores words.store analyzed.previous group words.layers
 
 -- what all builds have in common
-abbrev pub build_frame : CreateWords → List Variable → List EnvFile → BuildFrame
-build_frame words env files = record {
+abbrev pub build_frame : Target → CreateWords → List Variable → List EnvFile → BuildFrame
+build_frame target words env files = record {
   buildpacks = words.detect.buildpacks;
   app = words.detect.app;
   platform = words.detect.platform;
@@ -71,13 +74,14 @@ build_frame words env files = record {
   work = words.detect.work;
   env = env;
   files = files;
+  target = Some target;
 }
 
 -- the platform's environment files are read, and the group is built
-unfoldable pub builds_group : CreateWords → List Variable → Choice → Seen → Result (Unit {0}) BuildFault → Seen → Type 0
-builds_group words env choice = do
+unfoldable pub builds_group : Target → CreateWords → List Variable → Choice → Seen → Result (Unit {0}) BuildFault → Seen → Type 0
+builds_group target words env choice = do
   files ← reads_files (is_fit_platform words.detect.platform) (platform_files_in words.detect.platform)
-  frame ← gives building.cause_of (Ok (build_frame words env files))
+  frame ← gives building.cause_of (Ok (build_frame target words env files))
   builds frame choice.plan choice.group
 
 -- the folders of the export
@@ -102,11 +106,11 @@ leaves_image words phases = do
 abbrev pub phases_of : Analyzed → Choice → Restored → Phases
 phases_of analyzed choice restored = record { analyzed = analyzed; group = choice.group; entries = length choice.plan; restored = restored }
 
--- The phases, one after another; what was analyzed and the choice are handed on as values.
+-- The phases, one after another; what was analyzed, with the target of its run image, and the choice are handed on as values.
 unfoldable pub creates : CreateWords → List Variable → Surroundings → Result (List ℕ) CreateRefusal → Surroundings → Type 0
 creates words env = do
   analyzed ← over_world (map_err Restore (looks_at_images words))
-  choice ← over_outside (map_err Detect (chooses_group words.detect env))
+  choice ← over_outside (map_err Detect (chooses_group (target_of analyzed) words.detect env))
   restored ← over_caches (map_err Restore (restores_layers words analyzed choice.group))
-  built ← over_world (map_err Build (builds_group words env choice))
+  built ← over_world (map_err Build (builds_group (target_of analyzed) words env choice))
   over_caches (leaves_image words (phases_of analyzed choice restored))

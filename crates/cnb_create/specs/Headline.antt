@@ -1,18 +1,20 @@
 -- The headline: with any replies of detect children, with any number of workers and in any order of finishing, `create` takes
 -- the group and plan of the first trial that passes, or ends as `detect` does; and the image that it writes is the one that the
 -- definitions give for this group, the folders after the builds, and the image of before.
-use Rattle.std.specs.Prelude.{ℕ, ◌≡◌, true, List, map, Option, Result, Ok, Err, IfSome}
+use Rattle.std.specs.Prelude.{ℕ, ◌≡◌, true, List, map, Option, Some, Result, Ok, Err, IfSome}
 use Rattle.cnb_build.specs.Outcome.{RunsBuilds}
 use Rattle.cnb_detect.specs.Choice.{Choice, jobs_of}
 use Rattle.cnb_detect.specs.Outcome.{ComesTo, detect_choice, prepared_in}
 use Rattle.cnb_detect.specs.declared.preparation.Prepared.{Prepared}
 use Rattle.cnb_detect.specs.declared.refusal.DetectRefusal.{DetectRefusal}
 use Rattle.cnb_detect.specs.declared.refusal.DetectRefusal.TheVariants as detect
+use Rattle.cnb_detect.specs.declared.target.TargetSource.TheVariants.{Given}
 use Rattle.cnb_env.specs.declared.files.EnvFile.{EnvFile}
 use Rattle.cnb_export.specs.Exports.{exports}
 use Rattle.cnb_export.specs.OneImage.{IsOneImage}
 use Rattle.cnb_export.specs.declared.exported.Exported.{Exported}
 use Rattle.cnb_restore.specs.declared.restored.Restored.{Restored}
+use Rattle.cnb_toml.specs.declared.target.Target.{Target}
 use Rattle.cnb_words.specs.declared.create.CreateWords.{CreateWords}
 use Rattle.cnb_words.specs.declared.detect.DetectWords.{DetectWords}
 use Rattle.cnb_world.specs.Runs.{Ran}
@@ -23,6 +25,7 @@ use Rattle.image_docs.specs.Image.{image_in}
 use Rattle.image_docs.specs.declared.analyzed.Analyzed.{Analyzed}
 use Rattle.image_files.specs.Images.{ReadsAs}
 use Rattle.image_files.specs.Paths.{image_path}
+use Rattle.image_files.specs.Target.{target_of}
 use Rattle.shelf_set.specs.Caches.{WorldAndCaches}
 use Rattle.steps.specs.Asking.{AskedBy}
 use Rattle.steps.specs.Outside.{Seen, SpawnerSeen}
@@ -32,19 +35,19 @@ use Rattle.cnb_create.specs.Creates.{build_frame, export_frame, looks_at_images,
 use Rattle.cnb_create.specs.Report.{created_text}
 use Rattle.cnb_create.specs.Surroundings.{Surroundings, outside_of}
 
--- This choice was made by what the children of this call answered.
-pub record Chooses (words : DetectWords) (env : List Variable) (files : Option Tree) (old new : List SpawnerSeen) (choice : Choice) : Type 0 where
+-- This choice was made for a target, by what the children of this call answered.
+pub record Chooses (target : Target) (words : DetectWords) (env : List Variable) (files : Option Tree) (old new : List SpawnerSeen) (choice : Choice) : Type 0 where
   -- the children that the spawners ran, with their answers,
   pub answers : List Ran
   pub asked : AskedBy answers old new
   -- are those that have to be asked by these files and answers, each once;
   pub prepared : Prepared
-  pub read : IfSome files (λ tree. prepared_in words env tree ≡ Ok prepared)
+  pub read : IfSome files (λ tree. prepared_in (Given target) words env tree ≡ Ok prepared)
   pub exactly : map (λ ran. ran.job) answers ≡ jobs_of prepared answers
   -- in whatever order they finished, they say the same;
-  pub any_order : (finished : List Ran) → AskedBy finished old new → says build_plan finished ≡ says build_plan answers
+  pub any_order : (finished : List Ran) → AskedBy finished old new → says (Some target) build_plan finished ≡ says (Some target) build_plan answers
   -- and the choice is that of the first trial that passes
-  pub chosen : IfSome files (λ tree. detect_choice words env answers tree ≡ Ok choice)
+  pub chosen : IfSome files (λ tree. detect_choice (Given target) words env answers tree ≡ Ok choice)
 
 -- Where `create` is done:
 pub record MakesImage (words : CreateWords) (env : List Variable) (old : Surroundings) (text : List ℕ) (new : Surroundings) : Type 0 where
@@ -52,9 +55,9 @@ pub record MakesImage (words : CreateWords) (env : List Variable) (old : Surroun
   pub analyzed : Analyzed
   pub looked_at : Seen
   pub looked : looks_at_images words old.world (Ok analyzed) looked_at
-  -- a group and its plan were chosen,
+  -- a group and its plan were chosen for the target of the run image,
   pub choice : Choice
-  pub chooses : Chooses words.detect env looked_at.files old.spawners new.spawners choice
+  pub chooses : Chooses (target_of analyzed) words.detect env looked_at.files old.spawners new.spawners choice
   -- layers of the previous image were restored for that group,
   pub restored : Restored
   pub chosen_at : WorldAndCaches
@@ -63,7 +66,7 @@ pub record MakesImage (words : CreateWords) (env : List Variable) (old : Surroun
   -- each buildpack of the group was built, in its order, by a child of its own, over what was restored,
   pub files : List EnvFile
   pub built_at : WorldAndCaches
-  pub builds : RunsBuilds (build_frame words env files) choice.plan choice.group restored_at.world (Ok tt) built_at.world
+  pub builds : RunsBuilds (build_frame (target_of analyzed) words env files) choice.plan choice.group restored_at.world (Ok tt) built_at.world
   -- the image is the one that is defined for the group, for what the builds left and for what was looked at, and no other is,
   pub exported : Exported
   pub exported_at : WorldAndCaches
@@ -78,7 +81,7 @@ pub record ChoosesNone (words : CreateWords) (env : List Variable) (old : Surrou
   pub analyzed : Analyzed
   pub looked_at : Seen
   pub looked : looks_at_images words old.world (Ok analyzed) looked_at
-  pub comes : ComesTo words.detect env (record { world = looked_at; spawners = old.spawners }) (Err refusal) (outside_of new)
+  pub comes : ComesTo (Given (target_of analyzed)) words.detect env (record { world = looked_at; spawners = old.spawners }) (Err refusal) (outside_of new)
 
 -- where memory ran out, no step is named
 abbrev pub ComesToImage : CreateWords → List Variable → Surroundings → Result (List ℕ) CreateRefusal → Surroundings → Type 0

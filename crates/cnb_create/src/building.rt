@@ -5,6 +5,8 @@ ghost use Rattle.cnb_build.specs.Reading.{reads_files};
 ghost use Rattle.cnb_build.specs.Refusals as building;
 ghost use Rattle.cnb_env.specs.Files.{is_fit_platform, platform_files_in};
 ghost use Rattle.cnb_words.specs.Create.{KeepsLimits};
+ghost use Rattle.image_docs.specs.Analyzed.{is_analyzed};
+ghost use Rattle.image_files.specs.Target.{target_of};
 ghost use Rattle.run_docs.specs.Plan.{is_plan_doc};
 ghost use Rattle.steps.specs.Outside.{seen};
 ghost use Rattle.steps.specs.Steps.{map_err};
@@ -12,10 +14,12 @@ ghost use Rattle.cnb_create.specs.Creates.{build_frame, builds_group};
 ghost use Rattle.cnb_create.specs.declared.refusal.CreateRefusal.TheVariants as refused;
 
 use crate::refusal::CreateRefusal;
+use crate::target::target_of;
 use cnb_build::{BuildFault, BuildFrame, build};
 use cnb_env::{EnvFile, platform_files};
 use cnb_words::CreateWords;
 use cnb_world::{Env, List, Memory, Path, World};
+use image_docs::Analyzed;
 use run_docs::{GroupDoc, PlanDoc};
 use std::alloc::Global;
 
@@ -32,16 +36,20 @@ fn read_files<W: World>(
     Ok(files)
 }
 
+#[tactic(auto, using(crate::proofs::TargetLemmas::target_named))]
 fn build_frame(
     alloc: Global,
+    analyzed: &Analyzed,
     options: &CreateWords,
     env: &Env,
     files: List<EnvFile>,
 ) -> Result<BuildFrame, Memory>
-    requires { KeepsLimits options.now }
-    ensures frame { IfOk result (λ frame. frame ≡ build_frame options.now env.now files) }
+    requires limits { KeepsLimits options.now }
+    requires named { IsTrue (is_analyzed analyzed.now) }
+    ensures frame { IfOk result (λ frame. frame ≡ build_frame (target_of analyzed.now) options.now env.now files) }
     ensures limits { IfOk result places.KeepsLimits }
 {
+    let target = target_of(alloc, analyzed)?;
     Ok(BuildFrame {
         buildpacks: options.detect.buildpacks.copy(alloc)?,
         app: options.detect.app.copy(alloc)?,
@@ -50,11 +58,13 @@ fn build_frame(
         work: options.detect.work.copy(alloc)?,
         env: env.copy()?,
         files,
+        target: Some(target),
     })
 }
 
 fn build_all<W: World>(
     alloc: Global,
+    analyzed: &Analyzed,
     options: &CreateWords,
     env: &Env,
     world: &mut W,
@@ -62,19 +72,22 @@ fn build_all<W: World>(
     plan: PlanDoc,
 ) -> Result<(), BuildFault>
     requires limits { KeepsLimits options.now }
+    requires named { IsTrue (is_analyzed analyzed.now) }
     requires plan { IsTrue (is_plan_doc plan) }
-    ensures steps { builds_group options.now env.now (record { group = group.now; plan = plan })
-        (seen W.World world.old) result (seen W.World world.new) }
+    ensures steps { builds_group (target_of analyzed.now) options.now env.now
+        (record { group = group.now; plan = plan }) (seen W.World world.old) result (seen W.World world.new) }
 {
     let files = read_files(alloc, world, &options.detect.platform)?;
-    let frame = build_frame(alloc, options, env, files)?;
+    let frame = build_frame(alloc, analyzed, options, env, files)?;
     build(alloc, world, &frame, group, plan)?;
     Ok(())
 }
 
-/// Reads the platform's environment files, and builds the buildpacks of the group in order.
+/// Reads the platform's environment files, and builds the buildpacks of the group in order, for the run image that was
+/// analyzed.
 pub(crate) fn build_group<W: World>(
     alloc: Global,
+    analyzed: &Analyzed,
     options: &CreateWords,
     env: &Env,
     world: &mut W,
@@ -82,10 +95,12 @@ pub(crate) fn build_group<W: World>(
     plan: PlanDoc,
 ) -> Result<(), CreateRefusal>
     requires limits { KeepsLimits options.now }
+    requires named { IsTrue (is_analyzed analyzed.now) }
     requires plan { IsTrue (is_plan_doc plan) }
-    ensures steps { map_err refused.Build (builds_group options.now env.now (record { group = group.now; plan = plan }))
+    ensures steps { map_err refused.Build
+        (builds_group (target_of analyzed.now) options.now env.now (record { group = group.now; plan = plan }))
         (seen W.World world.old) result (seen W.World world.new) }
 {
-    build_all(alloc, options, env, world, group, plan)?;
+    build_all(alloc, analyzed, options, env, world, group, plan)?;
     Ok(())
 }

@@ -71,11 +71,11 @@ pub fn create_command<W: World, S: Spawner + Send, R: Threads + Sync>(
     let _layers = options.layers.as_str();
     let _work = options.detect.work.as_str();
     let analyzed = look_at_images(alloc, options, world)?;
-    let chosen = choose(rt, alloc, &options.detect, env, world, spawners)?;
+    let chosen = choose(rt, alloc, &analyzed, &options.detect, env, world, spawners)?;
     let Chosen { group, plan, .. } = chosen;
     let restored = restore_layers(alloc, options, world, shelves, places, &analyzed, &group)?;
     let entries = plan.as_slice().len();
-    build_group(alloc, options, env, world, &group, plan)?;
+    build_group(alloc, &analyzed, options, env, world, &group, plan)?;
     let phases = Phases {
         analyzed,
         group,

@@ -1,6 +1,7 @@
 // The run image and the previous image.
-ghost use Rattle.std.specs.Prelude.{◌≡◌, ℕ, List as Seq};
+ghost use Rattle.std.specs.Prelude.{◌≡◌, IfOk, IsTrue};
 ghost use Rattle.cnb_words.specs.Create.{KeepsLimits};
+ghost use Rattle.image_docs.specs.Analyzed.{is_analyzed};
 ghost use Rattle.steps.specs.Outside.{seen};
 ghost use Rattle.steps.specs.Steps.{map_err};
 ghost use Rattle.cnb_create.specs.Creates.{looks_at_images, previous_name};
@@ -32,6 +33,7 @@ pub(crate) fn look_at_images<W: World>(
     requires { KeepsLimits options.now }
     ensures steps { map_err refused.Restore (looks_at_images options.now)
         (seen W.World world.old) result (seen W.World world.new) }
+    ensures named { IfOk result (λ analyzed. IsTrue (is_analyzed analyzed)) }
 {
     let previous = previous_name(options);
     let analyzed = analyze(alloc, world, &options.store, &options.run, Some(previous))?;

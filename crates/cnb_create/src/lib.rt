@@ -12,6 +12,7 @@ mod phases;
 mod refusal;
 mod report;
 mod restoring;
+mod target;
 
 pub use creating::create_command;
 pub use refusal::CreateRefusal;
