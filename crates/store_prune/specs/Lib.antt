@@ -1,0 +1,11 @@
+pub mod Digests
+pub mod Faults
+pub mod Listing
+pub mod Named
+pub mod Prunes
+pub mod Pruning
+pub mod Report
+pub mod Surveys
+pub mod Trees
+pub mod Verifies
+pub mod Verifying
