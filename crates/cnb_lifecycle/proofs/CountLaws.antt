@@ -6,6 +6,7 @@ use Rattle.cnb_create.proofs.CountLaws.{create_counts, every_count, every_link, 
 use Rattle.cnb_create.specs.Refusals as creating
 use Rattle.cnb_create.specs.Surroundings.{Surroundings, outside_of, surroundings}
 use Rattle.cnb_detect.proofs.CountLaws.{detect_counts}
+use Rattle.cnb_detect.specs.declared.target.TargetSource.TheVariants as target
 use Rattle.cnb_detect.specs.Refusals as detection
 use Rattle.cnb_export.proofs.CountLaws.{export_counts}
 use Rattle.cnb_export.specs.Given as exporting
@@ -17,13 +18,15 @@ use Rattle.cnb_restore.proofs.CountLaws.{analyze_counts, restore_counts}
 use Rattle.cnb_restore.specs.Commands as restore_command
 use Rattle.cnb_restore.specs.Faults as restoring
 use Rattle.cnb_words.specs.declared.words.Asked.{Asked}
-use Rattle.cnb_words.specs.declared.words.Asked.TheVariants.{Detect, Analyze, Restore, Build, Export, Create, Rebase, Base, Unpack, Show, Drill, Launch}
+use Rattle.cnb_words.specs.declared.words.Asked.TheVariants.{Detect, Analyze, Restore, Build, Export, Create, Rebase, Base, Unpack, Show, Prune, Verify, Drill, Launch}
 use Rattle.cnb_world.specs.declared.env.Variable.{Variable}
 use Rattle.image_files.specs.Faults as image_files
 use Rattle.shelf_set.proofs.CountLaws.{BesideCaches}
 use Rattle.shelf_set.specs.Caches.{caches_of}
 use Rattle.shelf_set.specs.ShelfState.{ShelfState}
 use Rattle.steps.specs.Causes.{Cause, ended_by}
+use Rattle.store_prune.proofs.CountLaws.{prune_counts, verify_counts}
+use Rattle.store_prune.specs.Faults as store_prune
 use Rattle.steps.specs.Counts.{AllCounts, FileCounts}
 use Rattle.steps.specs.EitherCounts.{OutsideCounts}
 use Rattle.steps.specs.Outside.{Outside}
@@ -32,7 +35,7 @@ use Rattle.steps.proofs.EndLaws.{Obeys, Relation, files_among, obeys_bind, obeys
 use Rattle.cnb_lifecycle.specs.Commands.{On, after_words, asked_of, does, refusal_of}
 use Rattle.cnb_lifecycle.specs.Ends.{Ends}
 use Rattle.cnb_lifecycle.specs.Faults.{cause_of, of_detect}
-use Rattle.cnb_lifecycle.specs.PhaseFaults.{of_base, of_build, of_create, of_export, of_image, of_launch, of_rebase, of_restore, of_restore_refusal}
+use Rattle.cnb_lifecycle.specs.PhaseFaults.{of_base, of_build, of_create, of_export, of_image, of_launch, of_prune, of_rebase, of_restore, of_restore_refusal, of_verify}
 use Rattle.cnb_lifecycle.specs.Printing.{Finishes}
 use Rattle.cnb_lifecycle.specs.Telling.{tells}
 use Rattle.cnb_lifecycle.specs.declared.answer.Answer.{Answer}
@@ -41,7 +44,7 @@ use Rattle.cnb_lifecycle.specs.declared.refusal.Refusal.{Refusal}
 use Rattle.cnb_lifecycle.specs.declared.status.Status.{Status}
 use Rattle.cnb_lifecycle.proofs.CauseLemmas.{same_cause}
 use Rattle.cnb_lifecycle.proofs.EndLemmas.{Did, Step, ends}
-use Rattle.cnb_lifecycle.proofs.PhaseLemmas.{base_cause, build_cause, create_cause, image_cause, launch_cause, rebase_cause, refused_export, refused_restore, restore_cause}
+use Rattle.cnb_lifecycle.proofs.PhaseLemmas.{base_cause, build_cause, create_cause, image_cause, launch_cause, prune_cause, rebase_cause, refused_export, refused_restore, restore_cause, verify_cause}
 
 -- steps that are told as those of a command, with the same causes
 obeys_tells : {S A F : Type 0} (R : Relation S) (cause : F → Cause) (answer : A → Answer) (refusal : F → Refusal) (step : S → Result A F → S → Type 0)
@@ -52,7 +55,7 @@ obeys_tells R cause answer refusal step same p old new (Err told) (fault, is, h)
     subst (λ (c : Cause). R (Some c) old new) (sym (ap cause_of is ∙ same fault)) (p old new (Err fault) h)
 
 does_counts : (asked : Asked) (env : List Variable) → Obeys every_count cause_of (does asked env)
-does_counts (Detect options) env = obeys_outside cause_of _ (obeys_tells OutsideCounts detection.cause_of Printed of_detect _ same_cause (detect_counts options env))
+does_counts (Detect options) env = obeys_outside cause_of _ (obeys_tells OutsideCounts detection.cause_of Printed of_detect _ same_cause (detect_counts target.Document options env))
 does_counts (Analyze options) env = obeys_world cause_of _ (files_among cause_of _ (obeys_tells FileCounts restoring.cause_of Printed of_restore _ restore_cause (analyze_counts options)))
 does_counts (Restore options) env = obeys_caches cause_of _ (obeys_tells (BesideCaches FileCounts) restore_command.refusal_cause Printed of_restore_refusal _ refused_restore (restore_counts options))
 does_counts (Build options) env = obeys_world cause_of _ (obeys_tells AllCounts building.cause_of Printed of_build _ build_cause (build_counts options env))
@@ -62,6 +65,8 @@ does_counts (Rebase options) env = obeys_world cause_of _ (files_among cause_of 
 does_counts (Base options) env = obeys_world cause_of _ (files_among cause_of _ (obeys_tells FileCounts rebasing.base_cause Printed of_base _ base_cause (base_counts options)))
 does_counts (Unpack options) env = obeys_world cause_of _ (files_among cause_of _ (obeys_tells FileCounts launching.cause_of Printed of_launch _ launch_cause (unpack_counts options)))
 does_counts (Show options) env = obeys_world cause_of _ (files_among cause_of _ (obeys_tells FileCounts image_files.cause_of Printed of_image _ image_cause (show_counts options)))
+does_counts (Prune options) env = obeys_world cause_of _ (files_among cause_of _ (obeys_tells FileCounts store_prune.cause_of Printed of_prune _ prune_cause (prune_counts options)))
+does_counts (Verify options) env = obeys_world cause_of _ (files_among cause_of _ (obeys_tells FileCounts store_prune.verify_cause Printed of_verify _ verify_cause (verify_counts options)))
 does_counts (Drill options) env = obeys_gives _ _ _ every_rest
 does_counts (Launch options) env = obeys_world cause_of _ (obeys_tells AllCounts launching.cause_of Launched of_launch _ launch_cause (launch_counts options env))
 

@@ -34,11 +34,16 @@ use Rattle.cnb_rebase.specs.declared.refusal.BaseFault.{BaseFault}
 use Rattle.cnb_rebase.specs.declared.refusal.BaseFault.TheVariants as base
 use Rattle.cnb_rebase.specs.declared.refusal.RebaseFault.{RebaseFault}
 use Rattle.cnb_rebase.specs.declared.refusal.RebaseFault.TheVariants as rebase
+use Rattle.store_prune.specs.Faults as pruning
+use Rattle.store_prune.specs.declared.fault.PruneFault.{PruneFault}
+use Rattle.store_prune.specs.declared.fault.PruneFault.TheVariants as prune
+use Rattle.store_prune.specs.declared.fault.VerifyFault.{VerifyFault}
+use Rattle.store_prune.specs.declared.fault.VerifyFault.TheVariants as verify
 use Rattle.cnb_lifecycle.specs.declared.refusal.Refusal.{Refusal}
 use Rattle.steps.specs.EitherCounts.{EitherBy}
 use Rattle.cnb_lifecycle.specs.Faults.{cause_of}
 use Rattle.cnb_lifecycle.proofs.CauseLemmas.{same_cause}
-use Rattle.cnb_lifecycle.specs.PhaseFaults.{of_base, of_build, of_create, of_export, of_export_fault, of_image, of_launch, of_rebase, of_restore, of_restore_refusal, of_store}
+use Rattle.cnb_lifecycle.specs.PhaseFaults.{of_base, of_build, of_create, of_export, of_export_fault, of_image, of_launch, of_prune, of_rebase, of_restore, of_restore_refusal, of_store, of_verify}
 
 pub build_cause : (fault : BuildFault) → cause_of (of_build fault) ≡ building.cause_of fault
 build_cause (build.BuildFailed id code) = refl
@@ -78,6 +83,18 @@ store_cause store.Memory = refl
 pub base_cause : (fault : BaseFault) → cause_of (of_base fault) ≡ rebasing.base_cause fault
 base_cause (base.Store fault) = store_cause fault
 base_cause (base.Image fault) = image_cause fault
+
+pub prune_cause : (fault : PruneFault) → cause_of (of_prune fault) ≡ pruning.cause_of fault
+prune_cause (prune.Document path fault) = refl
+prune_cause (prune.Limit kind) = refl
+prune_cause (prune.File path) = refl
+prune_cause prune.Memory = refl
+
+pub verify_cause : (fault : VerifyFault) → cause_of (of_verify fault) ≡ pruning.verify_cause fault
+verify_cause (verify.NoImage name) = refl
+verify_cause (verify.Document path fault) = refl
+verify_cause (verify.Limit kind) = refl
+verify_cause (verify.Store fault) = store_cause fault
 
 pub restore_cause : (fault : RestoreFault) → cause_of (of_restore fault) ≡ restoring.cause_of fault
 restore_cause (restore.NoImage name) = refl

@@ -21,6 +21,10 @@ use Rattle.cnb_restore.specs.declared.fault.RestoreFault.{RestoreFault}
 use Rattle.cnb_restore.specs.declared.fault.RestoreFault.TheVariants as restore
 use Rattle.cnb_restore.specs.declared.refusal.RestoreRefusal.{RestoreRefusal}
 use Rattle.cnb_restore.specs.declared.refusal.RestoreRefusal.TheVariants as restore_refusal
+use Rattle.store_prune.specs.declared.fault.PruneFault.{PruneFault}
+use Rattle.store_prune.specs.declared.fault.PruneFault.TheVariants as prune
+use Rattle.store_prune.specs.declared.fault.VerifyFault.{VerifyFault}
+use Rattle.store_prune.specs.declared.fault.VerifyFault.TheVariants as verify
 use Rattle.cnb_lifecycle.specs.Faults.{of_detect}
 use Rattle.cnb_lifecycle.specs.declared.refusal.Refusal.{Refusal}
 use Rattle.cnb_lifecycle.specs.declared.refusal.Refusal.TheVariants.{File, Memory, Document, Child, Limit, OddFile, BuildpackApi, NoTree, Exists, Damaged, NoImage, BuildFailed, UnknownUnmet, NoContents, Clash, NoPrevious, TwoDefaults, TopDiffers, TargetDiffers, ShellProcess, NoProcess, ExecFailed, BadExecOutput}
@@ -63,6 +67,18 @@ of_store store.Memory = Memory
 abbrev pub of_base : BaseFault → Refusal
 of_base (base.Store fault) = of_store fault
 of_base (base.Image fault) = of_image fault
+
+abbrev pub of_prune : PruneFault → Refusal
+of_prune (prune.Document path fault) = Document path fault
+of_prune (prune.Limit kind) = Limit kind
+of_prune (prune.File path) = File path
+of_prune prune.Memory = Memory
+
+abbrev pub of_verify : VerifyFault → Refusal
+of_verify (verify.NoImage name) = NoImage name
+of_verify (verify.Document path fault) = Document path fault
+of_verify (verify.Limit kind) = Limit kind
+of_verify (verify.Store fault) = of_store fault
 
 abbrev pub of_restore : RestoreFault → Refusal
 of_restore (restore.NoImage name) = NoImage name

@@ -7,6 +7,7 @@ use cnb_launch::LaunchFault;
 use cnb_rebase::{BaseFault, RebaseFault};
 use cnb_restore::{RestoreFault, RestoreRefusal};
 use image_files::ImageFault;
+use store_prune::{PruneFault, VerifyFault};
 use tree_store::StoreFault;
 
 impl From<BuildFault> for Refusal {
@@ -94,6 +95,38 @@ impl From<BaseFault> for Refusal {
         match fault {
             BaseFault::Store(fault) => Refusal::from(fault),
             BaseFault::Image(fault) => Refusal::from(fault),
+        }
+    }
+}
+
+impl From<PruneFault> for Refusal {
+    ghost use Rattle.std.specs.Prelude.{◌≡◌};
+    ghost use Rattle.cnb_lifecycle.specs.PhaseFaults.{of_prune};
+
+    ghost from_gives = { λ fault given. given ≡ of_prune fault };
+
+    fn from(fault: PruneFault) -> Self {
+        match fault {
+            PruneFault::Document(path, fault) => Refusal::Document(path, fault),
+            PruneFault::Limit(kind) => Refusal::Limit(kind),
+            PruneFault::File(path) => Refusal::File(path),
+            PruneFault::Memory => Refusal::Memory,
+        }
+    }
+}
+
+impl From<VerifyFault> for Refusal {
+    ghost use Rattle.std.specs.Prelude.{◌≡◌};
+    ghost use Rattle.cnb_lifecycle.specs.PhaseFaults.{of_verify};
+
+    ghost from_gives = { λ fault given. given ≡ of_verify fault };
+
+    fn from(fault: VerifyFault) -> Self {
+        match fault {
+            VerifyFault::NoImage(name) => Refusal::NoImage(name),
+            VerifyFault::Document(path, fault) => Refusal::Document(path, fault),
+            VerifyFault::Limit(kind) => Refusal::Limit(kind),
+            VerifyFault::Store(fault) => Refusal::from(fault),
         }
     }
 }

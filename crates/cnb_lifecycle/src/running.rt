@@ -4,19 +4,24 @@ ghost use Rattle.cnb_words.specs.Analyze as analyze_words;
 ghost use Rattle.cnb_words.specs.Base as base_words;
 ghost use Rattle.cnb_words.specs.Build as build_words;
 ghost use Rattle.cnb_words.specs.Detect.{KeepsLimits};
+ghost use Rattle.cnb_words.specs.Prune as prune_words;
 ghost use Rattle.cnb_words.specs.Rebase as rebase_words;
 ghost use Rattle.cnb_words.specs.Show as show_words;
+ghost use Rattle.cnb_words.specs.Verify as verify_words;
 ghost use Rattle.steps.specs.Outside.{faults_of, outside, seen, spawners_seen};
 ghost use Rattle.cnb_build.specs.Command.{commands_build};
 ghost use Rattle.cnb_detect.specs.Detects.{detects};
+ghost use Rattle.cnb_detect.specs.declared.target.TargetSource.TheVariants as target;
 ghost use Rattle.cnb_detect.specs.Outcome.{ComesTo};
 ghost use Rattle.cnb_rebase.specs.Bases.{bases_command};
 ghost use Rattle.cnb_rebase.specs.Rebases.{rebases_command};
 ghost use Rattle.cnb_rebase.specs.Shows.{shows_command};
 ghost use Rattle.cnb_restore.specs.Commands.{analyzes_command};
+ghost use Rattle.store_prune.specs.Prunes.{prunes_command};
+ghost use Rattle.store_prune.specs.Verifies.{verifies_command};
 ghost use Rattle.cnb_lifecycle.specs.Ends.{CountsChild};
 ghost use Rattle.cnb_lifecycle.specs.Faults.{cause_of, of_detect};
-ghost use Rattle.cnb_lifecycle.specs.PhaseFaults.{of_base, of_build, of_image, of_rebase, of_restore};
+ghost use Rattle.cnb_lifecycle.specs.PhaseFaults.{of_base, of_build, of_image, of_prune, of_rebase, of_restore, of_verify};
 ghost use Rattle.cnb_lifecycle.specs.Telling.{tells};
 
 use crate::answer::Answer;
@@ -25,10 +30,14 @@ use cnb_build::build_command;
 use cnb_detect::detect;
 use cnb_rebase::{base_command, rebase_command, show_command};
 use cnb_restore::analyze_command;
-use cnb_words::{AnalyzeWords, BaseWords, BuildWords, DetectWords, RebaseWords, ShowWords};
+use cnb_words::{
+    AnalyzeWords, BaseWords, BuildWords, DetectWords, PruneWords, RebaseWords, ShowWords,
+    VerifyWords,
+};
 use cnb_world::{Env, Spawner, World};
 use std::alloc::Global;
 use std::thread::Threads;
+use store_prune::{prune_command, verify_command};
 
 /// Does what the options of `detect` ask for.
 pub(crate) fn run_detect<W: World, S: Spawner + Send, R: Threads + Sync>(
@@ -41,11 +50,11 @@ pub(crate) fn run_detect<W: World, S: Spawner + Send, R: Threads + Sync>(
 ) -> Result<Answer, Refusal>
     requires limits { KeepsLimits options.now }
     requires spawners { 0 < length spawners.old.items }
-    ensures steps { tells Answer.Printed of_detect (detects options.now env.now)
+    ensures steps { tells Answer.Printed of_detect (detects target.Document options.now env.now)
         (outside W.World S.Spawner world.old spawners.old.items)
         result
         (outside W.World S.Spawner world.new spawners.new.items) }
-    ensures outcome { tells Answer.Printed of_detect (ComesTo options.now env.now)
+    ensures outcome { tells Answer.Printed of_detect (ComesTo target.Document options.now env.now)
         (outside W.World S.Spawner world.old spawners.old.items)
         result
         (outside W.World S.Spawner world.new spawners.new.items) }
@@ -108,6 +117,34 @@ pub(crate) fn run_show<W: World>(
         (seen W.World world.old) result (seen W.World world.new) }
 {
     let text = show_command(alloc, options, world)?;
+    Ok(Answer::Printed(text))
+}
+
+/// Does what the options of `prune` ask for.
+pub(crate) fn run_prune<W: World>(
+    alloc: Global,
+    options: &PruneWords,
+    world: &mut W,
+) -> Result<Answer, Refusal>
+    requires limits { prune_words.KeepsLimits options.now }
+    ensures steps { tells Answer.Printed of_prune (prunes_command options.now)
+        (seen W.World world.old) result (seen W.World world.new) }
+{
+    let text = prune_command(alloc, options, world)?;
+    Ok(Answer::Printed(text))
+}
+
+/// Does what the options of `verify` ask for.
+pub(crate) fn run_verify<W: World>(
+    alloc: Global,
+    options: &VerifyWords,
+    world: &mut W,
+) -> Result<Answer, Refusal>
+    requires limits { verify_words.KeepsLimits options.now }
+    ensures steps { tells Answer.Printed of_verify (verifies_command options.now)
+        (seen W.World world.old) result (seen W.World world.new) }
+{
+    let text = verify_command(alloc, options, world)?;
     Ok(Answer::Printed(text))
 }
 

@@ -7,6 +7,7 @@ ghost use Rattle.steps.specs.Steps.{gives};
 ghost use Rattle.shelf_set.specs.Caches.{caches_of};
 ghost use Rattle.shelf_set.specs.Dropping.{AreStanding};
 ghost use Rattle.cnb_detect.specs.Outcome.{ComesTo};
+ghost use Rattle.cnb_detect.specs.declared.target.TargetSource.TheVariants as target;
 ghost use Rattle.cnb_lifecycle.specs.Commands.{after_words, asked_of, command_in, does, options_in, options_of_create, options_of_detect, refusal_of, uses_caches, On};
 ghost use Rattle.cnb_lifecycle.specs.Ends.{CauseOfChild, CauseOfFile, Ends};
 ghost use Rattle.cnb_lifecycle.specs.Faults.{cause_of, of_detect};
@@ -26,7 +27,9 @@ use crate::launching::{run_launch, run_unpack};
 use crate::phases::{run_create, run_export, run_restore};
 use crate::printing::finish;
 use crate::refusal::Refusal;
-use crate::running::{run_analyze, run_base, run_build, run_detect, run_rebase, run_show};
+use crate::running::{
+    run_analyze, run_base, run_build, run_detect, run_prune, run_rebase, run_show, run_verify,
+};
 use crate::status::Status;
 use cnb_words::Asked;
 use cnb_world::{Env, List, Shelf, Sink, Spawner, World};
@@ -57,7 +60,7 @@ fn run_asked<W: World, S: Spawner + Send, R: Threads + Sync>(
         (surroundings (outside W.World S.Spawner world.new spawners.new.items)
         (caches_of (map (λ s. shelf_seen (⟦<dyn Shelf as Shelf>⟧ s.vtable) s.value) shelves.new.items) places.new)) }
     ensures outcome { On (options_of_detect asked.now) (λ options.
-        over_outside (tells Answer.Printed of_detect (ComesTo options env.now))
+        over_outside (tells Answer.Printed of_detect (ComesTo target.Document options env.now))
         (surroundings (outside W.World S.Spawner world.old spawners.old.items)
         (caches_of (map (λ s. shelf_seen (⟦<dyn Shelf as Shelf>⟧ s.vtable) s.value) shelves.old.items) places.old))
         result
@@ -87,6 +90,8 @@ fn run_asked<W: World, S: Spawner + Send, R: Threads + Sync>(
         Asked::Base(options) => run_base(alloc, options, world),
         Asked::Unpack(options) => run_unpack(alloc, options, world),
         Asked::Show(options) => run_show(alloc, options, world),
+        Asked::Prune(options) => run_prune(alloc, options, world),
+        Asked::Verify(options) => run_verify(alloc, options, world),
         Asked::Drill(options) => run_drill(rt, alloc, options),
         Asked::Launch(options) => run_launch(alloc, options, env, world),
     }
@@ -123,7 +128,8 @@ fn run_words<W: World, S: Spawner + Send, R: Threads + Sync>(
         (caches_of (map (λ s. shelf_seen (⟦<dyn Shelf as Shelf>⟧ s.vtable) s.value) shelves.new.items) standing))) }
     ensures outcome { let all = range_with_len 0 (length shelves.old.items) in
         On (options_in options_of_detect (command_in (map string_bytes words.now) env.now)) (λ options.
-        (standing : Seq ℕ) × after_words (over_outside (tells Answer.Printed of_detect (ComesTo options env.now)))
+        (standing : Seq ℕ) × after_words
+        (over_outside (tells Answer.Printed of_detect (ComesTo target.Document options env.now)))
         (surroundings (outside W.World S.Spawner world.old spawners.old.items)
         (caches_of (map (λ s. shelf_seen (⟦<dyn Shelf as Shelf>⟧ s.vtable) s.value) shelves.old.items) all))
         result
@@ -195,7 +201,7 @@ pub fn lifecycle<W: World, S: Spawner + Send, O: Sink, R: Threads + Sync>(
     // one or the whole new one, and all other files are as before.
     ensures outcome { let all = range_with_len 0 (length shelves.old.items) in
         On (options_in options_of_detect (command_in (map string_bytes words.now) env.now)) (λ options.
-        Ends (after_words (over_outside (tells Answer.Printed of_detect (ComesTo options env.now))))
+        Ends (after_words (over_outside (tells Answer.Printed of_detect (ComesTo target.Document options env.now))))
         (surroundings (outside W.World S.Spawner world.old spawners.old.items)
         (caches_of (map (λ s. shelf_seen (⟦<dyn Shelf as Shelf>⟧ s.vtable) s.value) shelves.old.items) all))
         (outside W.World S.Spawner world.new spawners.new.items)
