@@ -2,9 +2,11 @@
 use crate::given::{ample, given_bytes};
 use crate::metadata::text_of;
 use bp_docs::{
-    Body, Descriptor, Entry, Order, PlanOption, read_build_plan, read_buildpack, read_order,
+    Body, Descriptor, Entry, Order, PlanOption, TargetRule, read_build_plan, read_buildpack,
+    read_order,
 };
 use cnb_toml::Need;
+use cnb_world::Text;
 use row_files::{Row, RowFault};
 use std::alloc::{AllocError, Global};
 
@@ -45,9 +47,33 @@ pub(crate) fn told_order(alloc: Global, row: &Row) -> Result<String, RowFault> {
     }
 }
 
+// A component, and behind it where it has targets `for` and each, as `linux/amd64`; what may be any is left out.
+fn component_text(
+    alloc: Global,
+    clear_env: bool,
+    targets: &[TargetRule],
+) -> Result<String, AllocError> {
+    let mut text = format!(in alloc; "component, clear-env {clear_env}")?;
+    for (place, rule) in targets.iter().enumerate() {
+        let (os, arch) = (text_or_empty(&rule.os), text_or_empty(&rule.arch));
+        text.push_str(if place == 0 { ", for" } else { "" })?;
+        text.push_str(format!(in alloc; " {os}/{arch}")?.as_str())?;
+    }
+    Ok(text)
+}
+
+fn text_or_empty(text: &Option<Text>) -> &str {
+    match text {
+        Some(text) => text.as_str(),
+        None => "",
+    }
+}
+
 fn body_text(alloc: Global, body: &Body) -> Result<String, AllocError> {
     match body {
-        Body::Component { clear_env } => format!(in alloc; "component, clear-env {clear_env}"),
+        Body::Component { clear_env, targets } => {
+            component_text(alloc, *clear_env, targets.as_slice())
+        }
         Body::Composite(order) => {
             let order = order_text(alloc, order)?;
             format!(in alloc; "composite of {order}")

@@ -2,7 +2,8 @@
 //!
 //! Gone through are names (data/names.toml), metadata and documents as such (data/metadata.toml), orders, descriptors
 //! and Build Plans (data/buildpacks.toml), the documents of a run (data/run.toml) and of images (data/images.toml),
-//! documents in files (data/files.toml) and the words of a command line (data/words.toml, data/options.toml).
+//! documents in files (data/files.toml) and the words of a command line (data/store-words.toml, data/words.toml,
+//! data/options.toml).
 //! data/README.md says how a row is written.
 #![tactic(auto)]
 
@@ -68,6 +69,7 @@ fn main(rt: HostRuntime) -> Result<ExitCode, RowFault> {
             "run.toml",
             "images.toml",
             "files.toml",
+            "store-words.toml",
             "words.toml",
             "options.toml",
         ],

@@ -2,7 +2,7 @@
 use cnb_toml::ImageName;
 use cnb_words::{
     AnalyzeWords, BaseWords, BuildWords, Call, CreateWords, DetectWords, DrillWords, ExportWords,
-    LaunchWords, RebaseWords, RestoreWords, ShowWords, UnpackWords,
+    LaunchWords, PruneWords, RebaseWords, RestoreWords, ShowWords, UnpackWords, VerifyWords,
 };
 use cnb_world::{List, Path, Text};
 use std::alloc::AllocError;
@@ -139,6 +139,18 @@ pub(crate) fn show(text: &mut String, options: &ShowWords) -> Result<(), AllocEr
         ("image", options.image.as_str()),
     ];
     add_all(text, "show", &shown)
+}
+
+pub(crate) fn prune(text: &mut String, options: &PruneWords) -> Result<(), AllocError> {
+    add_all(text, "prune", &[("store", options.store.as_str())])
+}
+
+pub(crate) fn verify(text: &mut String, options: &VerifyWords) -> Result<(), AllocError> {
+    let shown = [
+        ("store", options.store.as_str()),
+        ("image", options.image.as_str()),
+    ];
+    add_all(text, "verify", &shown)
 }
 
 pub(crate) fn drill(text: &mut String, options: &DrillWords) -> Result<(), AllocError> {

@@ -26,6 +26,8 @@ fn add_command(text: &mut String, asked: &Asked) -> Result<(), AllocError> {
         Asked::Base(options) => options::base(text, options),
         Asked::Unpack(options) => options::unpack(text, options),
         Asked::Show(options) => options::show(text, options),
+        Asked::Prune(options) => options::prune(text, options),
+        Asked::Verify(options) => options::verify(text, options),
         Asked::Drill(options) => options::drill(text, options),
         Asked::Launch(options) => options::launch(text, options),
     }
