@@ -107,14 +107,14 @@ fn env_words(alloc: Global, run: &RunDoc) -> Result<String, Fault> {
     Ok(words)
 }
 
-fn row_words(alloc: Global, run: &RunDoc) -> Result<String, Fault> {
+fn row_words(alloc: Global, name: &ImageName, run: &RunDoc) -> Result<String, Fault> {
     let mut rows = List::new(alloc);
-    push_run_rows(alloc, &mut rows, run.rows.as_slice())?;
+    push_run_rows(alloc, &mut rows, name, run.rows.as_slice())?;
     let mut words = String::new(alloc);
     for row in rows.as_slice() {
         let (role, digest) = (row.role.as_str(), row.digest.text(alloc)?);
-        let (place, digest) = (row.place.as_str(), digest.as_str());
-        words.push_str(format!(in alloc; "\n{role} {place} {digest}")?.as_str())?;
+        let (place, digest, by) = (row.place.as_str(), digest.as_str(), row.by.as_str());
+        words.push_str(format!(in alloc; "\n{role} {place} {digest} {by}")?.as_str())?;
     }
     Ok(words)
 }
@@ -131,7 +131,7 @@ fn taken(
     };
     match call {
         "image_env" => env_words(alloc, &run),
-        "push_run_rows" => row_words(alloc, &run),
+        "push_run_rows" => row_words(alloc, name, &run),
         "base_of" => base_words(alloc, name, &run),
         "base_of_no_rows" => {
             run.rows = List::new(alloc);
