@@ -44,8 +44,9 @@ pub(crate) fn compare_orders<R: Threads + Sync>(rt: &R, given: &Given) -> Result
         members: 0,
         asked: 0,
     };
+    let targeted = given.text_or_empty("targeted") == "yes";
     for seed in 0..given.number_or("seeds", 1)? {
-        let row = random_row(alloc, seed)?;
+        let row = random_row(alloc, seed, targeted)?;
         let given = Given {
             alloc,
             clock,

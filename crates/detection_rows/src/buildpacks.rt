@@ -1,9 +1,11 @@
 // Buildpacks, orders and groups of buildpacks as rows write them.
 use crate::fault::Fault;
 use crate::given::Given;
-use bp_docs::{Body, Descriptor, Order, PlanOption, read_build_plan, read_buildpack, read_order};
-use cnb_toml::{BpId, BpVersion, DocFault, Key};
-use cnb_world::List;
+use bp_docs::{
+    Body, Descriptor, Order, PlanOption, TargetRule, read_build_plan, read_buildpack, read_order,
+};
+use cnb_toml::{BpId, BpVersion, DocFault, Key, Target};
+use cnb_world::{List, Text};
 use order_expand::Catalog;
 use row_files::RowFault;
 use std::alloc::Global;
@@ -51,17 +53,71 @@ fn descriptor(alloc: Global, text: &str) -> Result<Descriptor, Fault> {
     }
 }
 
-fn component(alloc: Global, name: &str) -> Result<Descriptor, Fault> {
-    let body = Body::Component { clear_env: false };
-    let key = key(alloc, name)?;
+fn component(given: &Given, name: &str) -> Result<Descriptor, Fault> {
+    let body = Body::Component {
+        clear_env: false,
+        targets: rules(given, name)?,
+    };
+    let key = key(given.alloc, name)?;
     Ok(Descriptor { key, body })
+}
+
+// The targets of a component: those of its lines, each a name as among the components and targets as `linux/amd64`.
+fn rules(given: &Given, name: &str) -> Result<List<TargetRule>, Fault> {
+    let mut rules = List::new(given.alloc);
+    for line in given.text_or_empty("targets").lines() {
+        let mut words = line.split_whitespace();
+        if words.next() == Some(name) {
+            for word in words {
+                rules.push(rule(given.alloc, word)?)?;
+            }
+        }
+    }
+    Ok(rules)
+}
+
+// One target, as `linux/amd64`, `linux/`, `/amd64` or `/`.
+fn rule(alloc: Global, text: &str) -> Result<TargetRule, Fault> {
+    let (os, arch) = os_and_arch(alloc, text)?;
+    Ok(TargetRule {
+        os: text_or_none(alloc, os)?,
+        arch: text_or_none(alloc, arch)?,
+    })
+}
+
+fn os_and_arch<'a>(alloc: Global, text: &'a str) -> Result<(&'a str, &'a str), Fault> {
+    match text.split_once('/') {
+        Some(parts) => Ok(parts),
+        None => Err(Fault::wrong(alloc, "no target:", text)),
+    }
+}
+
+fn text_or_none(alloc: Global, text: &str) -> Result<Option<Text>, Fault> {
+    if text.is_empty() {
+        Ok(None)
+    } else {
+        Ok(Some(Text::of(alloc, text)?))
+    }
+}
+
+/// The image that a row builds for, as `linux/amd64`, where it has one.
+pub(crate) fn target(given: &Given) -> Result<Option<Target>, Fault> {
+    let text = given.text_or_empty("target");
+    if text.is_empty() {
+        return Ok(None);
+    }
+    let (os, arch) = os_and_arch(given.alloc, text)?;
+    Ok(Some(Target {
+        os: Text::of(given.alloc, os)?,
+        arch: Text::of(given.alloc, arch)?,
+    }))
 }
 
 /// The descriptors of a row: its components, and behind them its documents between blank lines.
 pub(crate) fn descriptors(given: &Given) -> Result<Vec<Descriptor>, Fault> {
     let mut descriptors = Vec::new(given.alloc);
     for name in given.text_or_empty("components").split_whitespace() {
-        descriptors.push(component(given.alloc, name)?)?;
+        descriptors.push(component(given, name)?)?;
     }
     let documents = given.expanded(given.text_or_empty("descriptors"))?;
     for document in documents.as_str().split("\n\n") {

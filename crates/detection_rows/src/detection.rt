@@ -3,14 +3,15 @@ ghost use Rattle.std.specs.Prelude.{◌<◌, IfOk, IsOk, IsTrue, length};
 ghost use Rattle.order_expand.specs.Check.{checked};
 ghost use Rattle.detect_core.specs.Search.{is_short};
 
-use crate::buildpacks::{catalog, order, push_key};
+use crate::buildpacks::{catalog, order, push_key, target};
+use crate::environments::platform_env;
 use crate::fault::Fault;
 use crate::given::{Given, path};
 use crate::meeting::Meeting;
 use crate::plans::push_plan;
 use bp_docs::{Order, PlanOption};
 use cnb_toml::Key;
-use cnb_world::{Bytes, Env, List, MemSpawner, Probed, Reply, Text};
+use cnb_world::{Bytes, DetectJob, Env, List, MemSpawner, Probed, Reply, Text};
 use detect_core::{Chosen, DetectEnd, DetectFrame, Verdict, answer, detect};
 use order_expand::{Catalog, check};
 use std::alloc::Global;
@@ -88,16 +89,19 @@ fn reply(alloc: Global, part: &str) -> Result<Reply, Fault> {
     })
 }
 
-fn frame(alloc: Global) -> Result<DetectFrame, Fault>
+fn frame(given: &Given) -> Result<DetectFrame, Fault>
     ensures { IfOk result (λ frame. IsTrue (is_short frame)) }
 {
+    let alloc = given.alloc;
+    let (files, target) = (platform_env(given)?, target(given)?);
     Ok(DetectFrame {
         buildpacks: path(alloc, "/buildpacks")?,
         app: path(alloc, "/app")?,
         platform: path(alloc, "/platform")?,
         work: path(alloc, "/work")?,
         env: Env::new(alloc),
-        files: List::new(alloc),
+        files,
+        target,
     })
 }
 
@@ -163,7 +167,7 @@ pub(crate) fn detect_by<R: Threads + Sync>(
         return Err(Fault::wrong(given.alloc, "none of", "spawners"));
     }
     let end = end_by(rt, given, order, catalog, &mut spawners)?;
-    let ran = ran(given.alloc, spawners.as_slice())?;
+    let ran = ran(given, spawners.as_slice())?;
     Ok(Detected { end, ran })
 }
 
@@ -178,7 +182,7 @@ fn end_by<R: Threads + Sync>(
     requires checked { IsOk (checked catalog.now order.now) }
     requires spawners { 0 < length spawners.old.items }
 {
-    let frame = frame(given.alloc)?;
+    let frame = frame(given)?;
     let workers = spawners.len();
     Ok(detect(rt, given.alloc, order, catalog, spawners, workers, &frame))
 }
@@ -224,18 +228,29 @@ fn push_keys(told: &mut String, keys: &[Key]) -> Result<(), Fault> {
     Ok(())
 }
 
-fn ran(alloc: Global, spawners: &[Meeting<'_>]) -> Result<Vec<String>, Fault> {
-    let mut names = Vec::new(alloc);
+fn ran(given: &Given, spawners: &[Meeting<'_>]) -> Result<Vec<String>, Fault> {
+    let mut names = Vec::new(given.alloc);
     for spawner in spawners {
         for run in spawner.children.runs() {
-            let (id, version) = (run.job.id.as_str(), run.job.version.as_str());
-            names.push(format!(in alloc; "{id}@{version}")?)?;
+            names.push(ran_job(given, &run.job)?)?;
         }
     }
     if spawners.len() > 1 {
         names.sort()?;
     }
     Ok(names)
+}
+
+// A child that ran, and those of the variables under `shown` that it had.
+fn ran_job(given: &Given, job: &DetectJob) -> Result<String, Fault> {
+    let (id, version) = (job.id.as_str(), job.version.as_str());
+    let mut told = format!(in given.alloc; "{id}@{version}")?;
+    for name in given.text_or_empty("shown").split_whitespace() {
+        if let Some(value) = job.env.get(name) {
+            write!(told, " {name}={}", value.as_str())?;
+        }
+    }
+    Ok(told)
 }
 
 /// Adds the names of the children that ran.

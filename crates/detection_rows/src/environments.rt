@@ -3,13 +3,13 @@ ghost use Rattle.std.specs.Prelude.{◌≡◌, ◌≤◌, IfOk, length};
 ghost use Rattle.std.specs.List.{All};
 ghost use Rattle.cnb_env.specs.Layers.{AreShort, IsShort};
 
-use crate::buildpacks::key;
+use crate::buildpacks::{key, target};
 use crate::fault::Fault;
 use crate::files::{refusal, world};
 use crate::given::{Given, path};
 use cnb_env::{
     EnvFault, EnvFile, LayerSet, When, apply_file, base_env, build_env, buildpack_folder, contents,
-    env_folder, launch_env, layer_paths, plan_name, platform, platform_files, set_path,
+    env_folder, launch_env, layer_paths, plan_name, platform, platform_files, set_path, set_target,
 };
 use cnb_toml::ProcType;
 use cnb_world::{Env, List, Text};
@@ -39,8 +39,8 @@ fn env_files(given: &Given, name: &str) -> Result<List<EnvFile>, Fault> {
     Ok(files)
 }
 
-// The environment files of the row's platform.
-fn platform_env(given: &Given) -> Result<List<EnvFile>, Fault> {
+/// The environment files of the row's platform.
+pub(crate) fn platform_env(given: &Given) -> Result<List<EnvFile>, Fault> {
     env_files(given, "platform files")
 }
 
@@ -193,6 +193,14 @@ pub(crate) fn put_path(given: &Given) -> Result<String, Fault> {
         given.text("name")?,
         &given.path("path")?,
     )?;
+    told(given, &env)
+}
+
+/// The variables of the image that a row builds for.
+pub(crate) fn put_target(given: &Given) -> Result<String, Fault> {
+    let mut env = variables(given, "env")?;
+    let target = target(given)?;
+    set_target(given.alloc, &mut env, target.as_ref())?;
     told(given, &env)
 }
 

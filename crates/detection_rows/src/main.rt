@@ -84,6 +84,7 @@ fn told_of_environments(call: &str, given: &Given) -> Result<String, Fault> {
         "platform" => environments::apply_platform(given),
         "base_env" => environments::begin(given),
         "set_path" => environments::put_path(given),
+        "set_target" => environments::put_target(given),
         "buildpack_folder" => environments::places(given),
         "contents" => environments::measure(given),
         call => Err(Fault::wrong(given.alloc, "no such call:", call)),

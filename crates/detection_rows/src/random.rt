@@ -8,15 +8,40 @@ use std::collections::BTreeMap;
 
 const NAMES: [&str; 4] = ["p", "q", "r", "s"];
 
+const SYSTEMS: [&str; 3] = ["", "linux", "windows"];
+
+const ARCHITECTURES: [&str; 3] = ["", "amd64", "arm64"];
+
 /// What a row of `detect` is given: an order over composites and a few buildpacks, or in one of 128 rows two hundred;
-/// what each child answers, or that it gives no answer; and how much time children take.
-pub(crate) fn random_row(alloc: Global, seed: u64) -> Result<Row, Fault> {
+/// what each child answers, or that it gives no answer; and how much time children take. Where the row is targeted also
+/// an image that is built for, and targets of buildpacks.
+pub(crate) fn random_row(alloc: Global, seed: u64, targeted: bool) -> Result<Row, Fault> {
+    let mut maker = Maker::new(seed);
+    let mut given = random_given(alloc, &mut maker)?;
+    if targeted {
+        insert_targets(alloc, &mut maker, &mut given)?;
+    }
     Ok(Row {
         name: format!(in alloc; "random {seed}")?,
         call: text(alloc, "detect")?,
-        given: random_given(alloc, &mut Maker::new(seed))?,
+        given,
         want: String::new(alloc),
     })
+}
+
+// What is drawn last: an image that is built for, or in one of four rows none, and targets of the buildpacks.
+fn insert_targets(
+    alloc: Global,
+    maker: &mut Maker,
+    given: &mut BTreeMap<String, String>,
+) -> Result<(), Fault> {
+    let mut target = String::new(alloc);
+    if !maker.is_one_in(4) {
+        let (os, arch) = (maker.system(1), maker.architecture(1));
+        write!(target, "{os}/{arch}")?;
+    }
+    insert(alloc, given, "target", target)?;
+    insert(alloc, given, "targets", maker.targets(alloc)?)
 }
 
 fn random_given(alloc: Global, maker: &mut Maker) -> Result<BTreeMap<String, String>, Fault> {
@@ -183,6 +208,34 @@ impl Maker {
             )?;
         }
         Ok(())
+    }
+
+    // The more buildpacks there are, the fewer of them have targets, which are one or two then.
+    fn targets(&mut self, alloc: Global) -> Result<String, Fault> {
+        let mut text = String::new(alloc);
+        for number in 0..self.buildpacks {
+            if self.is_one_in(self.buildpacks / 4) {
+                let (id, version) = key(number);
+                write!(text, "b{id}@{version}.0.0")?;
+                for _ in 0..self.below(2).saturating_add(1) {
+                    let (os, arch) = (self.system(0), self.architecture(0));
+                    write!(text, " {os}/{arch}")?;
+                }
+                text.push_str("\n")?;
+            }
+        }
+        Ok(text)
+    }
+
+    // The name of an operating system, or where the least is 0 also none.
+    fn system(&mut self, least: u64) -> &'static str {
+        let place = self.below(3u64.saturating_sub(least)).saturating_add(least) as usize;
+        SYSTEMS.get(place).unwrap_or(&"")
+    }
+
+    fn architecture(&mut self, least: u64) -> &'static str {
+        let place = self.below(3u64.saturating_sub(least)).saturating_add(least) as usize;
+        ARCHITECTURES.get(place).unwrap_or(&"")
     }
 
     fn name(&mut self) -> &'static str {

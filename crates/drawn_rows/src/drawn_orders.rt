@@ -6,11 +6,12 @@ use crate::drawn_trials::key;
 use crate::draws::Draws;
 use crate::fault::Fault;
 use crate::plain_groups::{
-    PlainEntry, PlainGroup, PlainOrder, clears_env, groups_of, id_and_version, told_groups,
+    PlainEntry, PlainGroup, PlainOrder, clears_env, groups_of, id_and_version, target_count,
+    told_groups,
 };
-use bp_docs::{Body, Descriptor, Entry, Order};
+use bp_docs::{Body, Descriptor, Entry, Order, TargetRule};
 use cnb_toml::Key;
-use cnb_world::List;
+use cnb_world::{List, Text};
 use order_expand::{Catalog, Member, Walk, check};
 use std::alloc::Global;
 use std::ops::Range;
@@ -79,8 +80,18 @@ fn push_group(told: &mut String, group: &[Member]) -> Result<(), Fault> {
         write!(told, " {id}@{version}")?;
         told.push_str(if member.optional { "?" } else { "" })?;
         told.push_str(if member.clear_env { "!" } else { "" })?;
+        push_targets(told, member.targets.as_slice())?;
     }
     told.push_str(".\n")?;
+    Ok(())
+}
+
+fn push_targets(told: &mut String, rules: &[TargetRule]) -> Result<(), Fault> {
+    for rule in rules {
+        if let (Some(os), None) = (&rule.os, &rule.arch) {
+            write!(told, "~{}", os.as_str())?;
+        }
+    }
     Ok(())
 }
 
@@ -129,7 +140,8 @@ fn catalog_of(alloc: Global, order: &PlainOrder) -> Result<Catalog, Fault> {
     let mut catalog = Catalog::new(alloc);
     for number in 0..order.buildpacks {
         let clear_env = clears_env(number);
-        let body = Body::Component { clear_env };
+        let targets = rules_of(alloc, number)?;
+        let body = Body::Component { clear_env, targets };
         let key = buildpack_key(alloc, number)?;
         add(alloc, &mut catalog, Descriptor { key, body })?;
     }
@@ -139,6 +151,19 @@ fn catalog_of(alloc: Global, order: &PlainOrder) -> Result<Catalog, Fault> {
         add(alloc, &mut catalog, Descriptor { key, body })?;
     }
     Ok(catalog)
+}
+
+// The targets of a buildpack, each of an operating system alone.
+fn rules_of(alloc: Global, number: u64) -> Result<List<TargetRule>, Fault> {
+    let mut rules = List::new(alloc);
+    for place in 0..target_count(number) {
+        let os = format!(in alloc; "{number}.{place}")?;
+        rules.push(TargetRule {
+            os: Some(Text::of(alloc, os.as_str())?),
+            arch: None,
+        })?;
+    }
+    Ok(rules)
 }
 
 fn add(alloc: Global, catalog: &mut Catalog, descriptor: Descriptor) -> Result<(), Fault> {

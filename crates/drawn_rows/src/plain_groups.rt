@@ -138,6 +138,11 @@ pub(crate) fn clears_env(number: u64) -> bool {
     number % 3 == 0
 }
 
+/// How many targets a buildpack has.
+pub(crate) fn target_count(number: u64) -> u64 {
+    number % 4
+}
+
 /// The groups as text: their number, and each on a line.
 pub(crate) fn told_groups(alloc: Global, groups: &Vec<PlainGroup>) -> Result<String, Fault> {
     if groups.len() == MOST {
@@ -157,6 +162,9 @@ fn push_members(told: &mut String, group: &PlainGroup) -> Result<(), Fault> {
         write!(told, " b{id}@{version}.0.0")?;
         told.push_str(if member.optional { "?" } else { "" })?;
         told.push_str(if clears_env(member.number) { "!" } else { "" })?;
+        for place in 0..target_count(member.number) {
+            write!(told, "~{}.{place}", member.number)?;
+        }
     }
     Ok(())
 }
