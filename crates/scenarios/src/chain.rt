@@ -2,7 +2,7 @@
 use crate::fault::Fault;
 use crate::items::{play, push_files, push_stored, push_text, push_trees};
 use crate::short::{
-    composite_text, descriptor_path, descriptor_text, order_text, reply, reply_with,
+    composite_text, descriptor_path, descriptor_text, order_text, reply, reply_with, targeted_text,
 };
 use crate::trees::Trees;
 use cnb_world::{Env, List, Placed, Play, Reply, Text};
@@ -142,6 +142,14 @@ fn push_documents(alloc: Global, items: &mut List<Placed>, row: Fields) -> Resul
     }
     for name in row.text_or_empty("buildpacks").split_whitespace() {
         push_descriptor(alloc, items, name, descriptor_text(alloc, name)?)?;
+    }
+    for (name, targets) in &row.members(alloc, "targets")? {
+        push_descriptor(
+            alloc,
+            items,
+            name,
+            targeted_text(alloc, name, text_of(targets))?,
+        )?;
     }
     for (name, order) in &row.members(alloc, "composites")? {
         push_descriptor(

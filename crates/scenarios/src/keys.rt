@@ -41,6 +41,7 @@ const SCENARIO: Form = Form {
         ("order", Shape::Text),
         ("buildpacks", Shape::Text),
         ("composites", TEXTS_BY_NAME),
+        ("targets", TEXTS_BY_NAME),
         ("stored", Shape::Text),
         ("lays", TEXTS_BY_NAME),
         ("files", FILES),

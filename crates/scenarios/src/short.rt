@@ -21,6 +21,30 @@ pub(crate) fn descriptor_text(alloc: Global, name: &str) -> Result<String, Alloc
     format!(in alloc; "api = \"0.10\"\n[buildpack]\nid = \"{id}\"\nversion = \"{version}\"\n")
 }
 
+/// The descriptor of a component with these targets, as `linux/arm64 linux/ /amd64`: an operating system and an
+/// architecture each, of which either may be left out.
+pub(crate) fn targeted_text(
+    alloc: Global,
+    name: &str,
+    targets: &str,
+) -> Result<String, AllocError> {
+    let mut text = descriptor_text(alloc, name)?;
+    for target in targets.split_whitespace() {
+        let (os, arch) = target.split_once('/').unwrap_or((target, ""));
+        text.push_str("[[targets]]\n")?;
+        push_target(&mut text, "os", os)?;
+        push_target(&mut text, "arch", arch)?;
+    }
+    Ok(text)
+}
+
+fn push_target(text: &mut String, key: &str, value: &str) -> Result<(), AllocError> {
+    if value.is_empty() {
+        return Ok(());
+    }
+    writeln!(text, "{key} = \"{value}\"")
+}
+
 /// The descriptor of a composite with this order.
 pub(crate) fn composite_text(alloc: Global, name: &str, order: &str) -> Result<String, AllocError> {
     let mut text = descriptor_text(alloc, name)?;
