@@ -11,7 +11,7 @@ chmod 755 "$room"
 at=$room/at
 lifecycle=$room/lifecycle
 cp "${LIFECYCLE:-$samples/../bin/lifecycle}" "$lifecycle"
-unset CNB_PLATFORM_API
+unset CNB_PLATFORM_API CNB_LOG_LEVEL
 allowed=20
 as_expected=0
 differing=0

@@ -10,6 +10,22 @@ component() {
     chmod 755 "$folder/bin/detect"
 }
 
+# targeted BUILDPACKS ID TARGET..: a buildpack of version 1.0.0 has these targets too, as `linux/arm64`, `linux/` or `/arm64`.
+targeted() {
+    local target
+    for target in "${@:3}"; do
+        echo '[[targets]]'
+        [ -z "${target%/*}" ] || echo "os = \"${target%/*}\""
+        [ -z "${target#*/}" ] || echo "arch = \"${target#*/}\""
+    done >> "$1/${2//\//_}/1.0.0/buildpack.toml"
+}
+
+# analyzed WORK OS ARCH: `analyzed.toml` of a work folder, for a run image of this target.
+analyzed() {
+    mkdir -p "$1"
+    printf 'run = "run"\nos = "%s"\narch = "%s"\n' "$2" "$3" > "$1/analyzed.toml"
+}
+
 # builder BUILDPACKS ID VERSION: the bin/build of a buildpack is the script on standard input.
 builder() {
     local program=$1/${2//\//_}/$3/bin/build
