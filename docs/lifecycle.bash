@@ -15,7 +15,8 @@ _lifecycle_options() {
         rebase) echo --store --image --run ;;
         base) echo --store --run --os --arch --tree ;;
         unpack) echo --store --image --root ;;
-        show) echo --store --image ;;
+        show | verify) echo --store --image ;;
+        prune) echo --store ;;
         launch) echo --root -- ;;
     esac
 }
@@ -46,7 +47,7 @@ _lifecycle() {
     local current=${COMP_WORDS[COMP_CWORD]} words
     COMPREPLY=()
     if [ "$COMP_CWORD" -eq 1 ]; then
-        words='analyze base build create detect drill export launch rebase restore show unpack'
+        words='analyze base build create detect drill export launch prune rebase restore show unpack verify'
     else
         case ${COMP_WORDS[COMP_CWORD - 1]} in
             --order) mapfile -t COMPREPLY < <(compgen -f -- "$current") && return ;;
