@@ -3,6 +3,7 @@ use Rattle.std.specs.Prelude.{ℕ, ◌≡◌, if◌then◌else◌, List, Option,
 use Rattle.cnb_world.specs.Listing.{names_in}
 use Rattle.cnb_world.specs.Tree.{Tree, can_list, is_file_or_absent, item_at}
 use Rattle.cnb_world.specs.Whole.{whole_of}
+use Rattle.cnb_world.specs.declared.limits.LimitKind.{LimitKind}
 use Rattle.cnb_world.specs.declared.limits.LimitKind.TheVariants.{Document as DocumentLimit}
 use Rattle.cnb_world.specs.declared.whole.Whole.{Whole}
 use Rattle.cnb_world.specs.declared.whole.Whole.TheVariants as whole
@@ -37,15 +38,20 @@ BlamesOne Among Memory = Unit {0}
 abbrev pub BlamesOnly : List ℕ → ReadFault → Type 0
 BlamesOnly path fault = BlamesOne (λ blamed. blamed ≡ path) fault
 
--- the bytes of a document, where one is there
-abbrev pub document_of : Whole → Result (Option (List ℕ)) ReadFault
-document_of whole.Absent = Ok None
-document_of (whole.Large len) = Err (Limit DocumentLimit)
-document_of (whole.Bytes bytes) = Ok (Some bytes)
+-- the bytes of a file, where one is there and has no more than the limit of its kind
+abbrev pub limited_by : LimitKind → Whole → Result (Option (List ℕ)) ReadFault
+limited_by kind whole.Absent = Ok None
+limited_by kind (whole.Large len) = Err (Limit kind)
+limited_by kind (whole.Bytes bytes) = Ok (Some bytes)
 
--- the document at a path; what is neither a file nor absent can't be read
+-- the file at a path; what is neither a file nor absent can't be read
+abbrev pub file_at : ℕ → LimitKind → Tree → List ℕ → Result (Option (List ℕ)) ReadFault
+file_at limit kind files path =
+    if is_file_or_absent (item_at files path) then limited_by kind (whole_of limit (item_at files path)) else Err (File path)
+
+-- the document at a path
 abbrev pub document_at : Tree → List ℕ → Result (Option (List ℕ)) ReadFault
-document_at files path = if is_file_or_absent (item_at files path) then document_of (whole_of 1048576 (item_at files path)) else Err (File path)
+document_at files path = file_at 1048576 DocumentLimit files path
 
 -- the names in a folder, ascending; what is no folder can't be listed
 abbrev pub names_at : Tree → List ℕ → Result (List (List ℕ)) ReadFault
