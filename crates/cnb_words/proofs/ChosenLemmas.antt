@@ -34,4 +34,4 @@ phase_law command None =
     (same_both (is (codes "build")) (Err Usage) _ (same_both (is (codes "export")) (Err Usage) _ (same_both (is (codes "create")) (Err Usage) _
     (same_both (is (codes "rebase")) (Err Usage) _ (same_both (is (codes "base")) (Err Usage) _ (same_both (is (codes "unpack")) (Err Usage) _
     (same_both (is (codes "show")) (Err Usage) _ (same_both (is (codes "prune")) (Err Usage) _ (same_both (is (codes "verify")) (Err Usage) _
-    refl)))))))))))
+    (same_both (is (codes "check")) (Err Usage) _ refl))))))))))))

@@ -5,6 +5,7 @@ use Rattle.std.specs.Str.{bytes_eq}
 use Rattle.cnb_words.specs.Analyze as analyze
 use Rattle.cnb_words.specs.Base as base
 use Rattle.cnb_words.specs.Build as build
+use Rattle.cnb_words.specs.Check as check
 use Rattle.cnb_words.specs.Create as create
 use Rattle.cnb_words.specs.Detect as detect
 use Rattle.cnb_words.specs.Export as export
@@ -19,13 +20,14 @@ use Rattle.cnb_words.specs.declared.fault.WordsFault.{WordsFault}
 use Rattle.cnb_words.specs.declared.fault.WordsFault.TheVariants.{Usage}
 use Rattle.cnb_words.specs.declared.options.Given.{Given}
 use Rattle.cnb_words.specs.declared.words.Asked.{Asked}
-use Rattle.cnb_words.specs.declared.words.Asked.TheVariants.{Detect, Analyze, Restore, Build, Export, Create, Rebase, Base, Unpack, Show, Prune, Verify}
+use Rattle.cnb_words.specs.declared.words.Asked.TheVariants.{Detect, Analyze, Restore, Build, Export, Create, Rebase, Base, Unpack, Show, Prune, Verify, Check}
 
--- a command on the files of a store
+-- a command on what is there already
 abbrev pub store_chosen : List ℕ → Option (List Given) → Result Asked WordsFault
 store_chosen command options =
     if bytes_eq command (codes "prune") then asks Prune (option_and_then prune.prune_in options)
     else if bytes_eq command (codes "verify") then asks Verify (option_and_then verify.verify_in options)
+    else if bytes_eq command (codes "check") then asks Check (option_and_then check.check_in options)
     else Err Usage
 
 -- a command on whole images

@@ -1,7 +1,7 @@
 -- What the options of `create` ask for (platform.md, "creator").
 use Rattle.std.specs.Prelude.{List, [], ◌∷◌, ◌<◌, ◌≤◌, ◌^◌, All, codes, length, Option, Some}
-use Rattle.cnb_words.specs.Detect as detection
-use Rattle.cnb_words.specs.Detect.{detect_values}
+use Rattle.cnb_words.specs.Choice as choice
+use Rattle.cnb_words.specs.Choice.{choice_values}
 use Rattle.cnb_words.specs.Options.{check_names}
 use Rattle.cnb_words.specs.OptionValues.{◌>>=◌, caches_of, image_of, optional_image_of, path_of}
 use Rattle.cnb_words.specs.declared.options.Given.{Given}
@@ -22,7 +22,7 @@ image_options options = do
 -- what the options ask for, where each that must be given is
 abbrev pub create_values : List Given → Option CreateWords
 create_values options = do
-  detect ← detect_values options
+  detect ← choice_values options
   layers ← path_of (codes "--layers") options
   image ← image_options options
   Some (record {
@@ -52,9 +52,9 @@ pub record ImageKeepsLimits (image : ImageOptions) : Type 0 where
   pub caches : All (λ path. length path ≤ 4096) image.caches
   pub few_caches : length image.caches < 2 ^ 32
 
--- limits of detection, paths of at most 4,096 bytes, and fewer than 2 ^ 32 caches
+-- limits of a choice, paths of at most 4,096 bytes, and fewer than 2 ^ 32 caches
 pub record KeepsLimits (words : CreateWords) : Type 0 where
-  pub detect : detection.KeepsLimits words.detect
+  pub detect : choice.KeepsLimits words.detect
   pub layers : length words.layers ≤ 4096
   pub store : length words.store ≤ 4096
   pub launcher : length words.launcher ≤ 4096

@@ -1,13 +1,19 @@
 -- What the definitions say of some words.
-use Rattle.std.specs.Prelude.{◌≡◌, refl, ℕ, List, [], ◌∷◌, codes, Ok, Err}
+use Rattle.std.specs.Prelude.{◌≡◌, refl, ℕ, List, [], ◌∷◌, codes, None, Option, Some, Ok, Err}
 use Rattle.cnb_words.specs.Words.{asked_by}
 use Rattle.cnb_words.specs.declared.detect.DetectWords.{DetectWords}
 use Rattle.cnb_words.specs.declared.fault.WordsFault.TheVariants.{Usage}
 use Rattle.cnb_words.specs.declared.launch.Call.TheVariants.{Entry}
 use Rattle.cnb_words.specs.declared.words.Asked.TheVariants.{Detect, Drill, Launch}
 
+abbrev detect_into : ℕ → Option (List ℕ) → DetectWords
+detect_into workers proof_path = record {
+  choice = record { order = codes "/o"; buildpacks = codes "/b"; app = codes "/a"; platform = codes "/p"; work = codes "/w"; workers = workers };
+  proof_path = proof_path;
+}
+
 abbrev detect_with : ℕ → DetectWords
-detect_with workers = record { order = codes "/o"; buildpacks = codes "/b"; app = codes "/a"; platform = codes "/p"; work = codes "/w"; workers = workers }
+detect_with workers = detect_into workers None
 
 -- the words `detect` with all its options but `--workers`, in front of others
 abbrev detect_before : List (List ℕ) → List (List ℕ)
@@ -23,6 +29,15 @@ a_number_of_workers = refl
 
 pub no_65_workers : asked_by (detect_before (codes "--workers" ∷ codes "65" ∷ [])) ≡ Err Usage
 no_65_workers = refl
+
+pub a_record_may_be_beside_the_documents : asked_by (detect_before (codes "--record=/w/record" ∷ [])) ≡ Ok (Detect (detect_into 8 (Some (codes "/w/record"))))
+a_record_may_be_beside_the_documents = refl
+
+pub no_record_is_a_document : asked_by (detect_before (codes "--record" ∷ codes "/w/plan.toml" ∷ [])) ≡ Err Usage
+no_record_is_a_document = refl
+
+pub no_record_is_the_root : asked_by (detect_before (codes "--record" ∷ codes "/" ∷ [])) ≡ Err Usage
+no_record_is_the_root = refl
 
 pub no_option_stands_twice : asked_by (detect_before (codes "--work=/w" ∷ [])) ≡ Err Usage
 no_option_stands_twice = refl

@@ -1,6 +1,8 @@
 pub mod Analyze
 pub mod Base
 pub mod Build
+pub mod Check
+pub mod Choice
 pub mod Chosen
 pub mod Create
 pub mod Detect
@@ -15,6 +17,7 @@ pub mod Program
 pub mod Prune
 pub mod Reading
 pub mod Rebase
+pub mod RecordPath
 pub mod Restore
 pub mod Show
 pub mod Unpack

@@ -4,6 +4,7 @@ use Rattle.std.specs.Str.{bytes_eq}
 use Rattle.cnb_words.specs.Analyze as analyze
 use Rattle.cnb_words.specs.Base as base
 use Rattle.cnb_words.specs.Build as build
+use Rattle.cnb_words.specs.Check as check
 use Rattle.cnb_words.specs.Create as create
 use Rattle.cnb_words.specs.Detect as detect
 use Rattle.cnb_words.specs.Drill as drill
@@ -21,18 +22,19 @@ use Rattle.cnb_words.specs.declared.fault.WordsFault.{WordsFault}
 use Rattle.cnb_words.specs.declared.fault.WordsFault.TheVariants.{Usage}
 use Rattle.cnb_words.specs.declared.options.Given.{Given}
 use Rattle.cnb_words.specs.declared.words.Asked.{Asked}
-use Rattle.cnb_words.specs.declared.words.Asked.TheVariants.{Detect, Analyze, Restore, Build, Export, Create, Rebase, Base, Unpack, Show, Prune, Verify, Drill, Launch}
+use Rattle.cnb_words.specs.declared.words.Asked.TheVariants.{Detect, Analyze, Restore, Build, Export, Create, Rebase, Base, Unpack, Show, Prune, Verify, Check, Drill, Launch}
 
 -- what is asked for; where there is nothing, the words are refused
 abbrev pub asks : {T : Type 0} → (T → Asked) → Option T → Result Asked WordsFault
 asks command None = Err Usage
 asks command (Some words) = Ok (command words)
 
--- a command on the files of a store, with its options
+-- a command on what is there already, with its options
 abbrev pub store_asked : List ℕ → List Given → Result Asked WordsFault
 store_asked command options =
     if bytes_eq command (codes "prune") then asks Prune (prune.prune_in options)
     else if bytes_eq command (codes "verify") then asks Verify (verify.verify_in options)
+    else if bytes_eq command (codes "check") then asks Check (check.check_in options)
     else Err Usage
 
 -- a command on whole images, with its options
@@ -105,6 +107,7 @@ caches_asked (Unpack words) = []
 caches_asked (Show words) = []
 caches_asked (Prune words) = []
 caches_asked (Verify words) = []
+caches_asked (Check words) = []
 caches_asked (Drill words) = []
 caches_asked (Launch words) = []
 
@@ -122,5 +125,6 @@ AsksWithinLimits (Unpack words) = unpack.KeepsLimits words
 AsksWithinLimits (Show words) = show.KeepsLimits words
 AsksWithinLimits (Prune words) = prune.KeepsLimits words
 AsksWithinLimits (Verify words) = verify.KeepsLimits words
+AsksWithinLimits (Check words) = check.KeepsLimits words
 AsksWithinLimits (Drill words) = drill.KeepsLimits words
 AsksWithinLimits (Launch words) = launch.KeepsLimits words

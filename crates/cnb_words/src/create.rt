@@ -5,7 +5,7 @@ ghost use Rattle.cnb_words.specs.Faults.{AreReadAs};
 ghost use Rattle.cnb_words.specs.Options.{options_in};
 ghost use Rattle.cnb_words.specs.Create.{create_in, create_values, image_options, ImageKeepsLimits, KeepsLimits};
 
-use crate::detect::{DetectWords, detect_values};
+use crate::choice::{ChoiceWords, choice_values};
 use crate::fault::WordsFault;
 use crate::option_values::{caches_of, image_of, optional_image_of, path_of};
 use crate::options::Options;
@@ -17,7 +17,7 @@ use std::alloc::Global;
 /// What the words of `create` ask for (platform.md, "creator").
 #[derive(Drop)]
 pub struct CreateWords {
-    pub detect: DetectWords,
+    pub detect: ChoiceWords,
     pub layers: Path,
     pub store: Path,
     pub run: ImageName,
@@ -62,7 +62,7 @@ fn create_values(alloc: Global, options: &Options) -> Result<CreateWords, WordsF
     ensures reads { AreReadAs result (create_values options.now) }
     ensures limits { IfOk result KeepsLimits }
 {
-    let detect = detect_values(alloc, options)?;
+    let detect = choice_values(alloc, options)?;
     let layers = path_of(alloc, options, "layers")?;
     let image = image_options(alloc, options)?;
     Ok(CreateWords {

@@ -10,6 +10,7 @@ ghost use Rattle.cnb_words.specs.Words.{AsksWithinLimits, asked_by, asked_of, ca
 use crate::analyze::{AnalyzeWords, analyze_in};
 use crate::base::{BaseWords, base_in};
 use crate::build::{BuildWords, build_in};
+use crate::check::{CheckWords, check_in};
 use crate::create::{CreateWords, create_in};
 use crate::detect::{DetectWords, detect_in};
 use crate::drill::{DrillWords, drill_in};
@@ -41,6 +42,7 @@ pub enum Asked {
     Show(ShowWords),
     Prune(PruneWords),
     Verify(VerifyWords),
+    Check(CheckWords),
     Drill(DrillWords),
     Launch(LaunchWords),
 }
@@ -99,7 +101,7 @@ fn image_asked(alloc: Global, command: &str, words: &[String]) -> Result<Asked, 
     }
 }
 
-// A command on the files of a store.
+// A command on what is there already.
 fn store_asked(alloc: Global, command: &str, words: &[String]) -> Result<Asked, WordsFault>
     ensures words { IsAnswer cause_of result (store_chosen command.now (options_in (map string_bytes words.now))) }
     ensures limits { IfOk result AsksWithinLimits }
@@ -108,6 +110,8 @@ fn store_asked(alloc: Global, command: &str, words: &[String]) -> Result<Asked, 
         prune_in(alloc, words).map(Asked::Prune)
     } else if command == "verify" {
         verify_in(alloc, words).map(Asked::Verify)
+    } else if command == "check" {
+        check_in(alloc, words).map(Asked::Check)
     } else {
         Err(WordsFault::Usage)
     }
