@@ -63,7 +63,7 @@ pub ascending_way : (trial : List TrialRow) (set : List ℕ) → IsOnTheWay tria
 ascending_way trial set way = ascending_part (λ place. is_in place set) set (length trial) way.part
 
 -- a place that does not hold is in no closed set
-differs : (trial : List TrialRow) (set other : List ℕ) (place i : ℕ) → holds trial set place ≡ false → is_closed trial other ≡ true → Within other set →
+pub differs : (trial : List TrialRow) (set other : List ℕ) (place i : ℕ) → holds trial set place ≡ false → is_closed trial other ≡ true → Within other set →
     is_in i other ≡ true → not (i == place) ≡ true
 differs trial set other place i fail closed w h = elim (cases_Bool (i == place)) as (λ _. not (i == place) ≡ true) [
   | inr e ↦ ap not e
@@ -86,7 +86,8 @@ still_required trial set place i free stay =
       ]
     ]
 
-without_place : (trial : List TrialRow) (set : List ℕ) (place : ℕ) → IsOnTheWay trial set → holds trial set place ≡ false →
+-- what is left of a set on the way without an optional place that does not hold is on the way too
+pub without_place : (trial : List TrialRow) (set : List ℕ) (place : ℕ) → IsOnTheWay trial set → holds trial set place ≡ false →
     is_optional_at (slice_get trial place) ≡ true → IsOnTheWay trial (filter (λ j. not (j == place)) set)
 without_place trial set place way fail free =
     let p : ℕ → Bool = λ j. not (j == place) in

@@ -29,6 +29,7 @@ impl<'a> Model for BorrowedRow<'a> {
 }
 
 impl<'a> BorrowedRow<'a> {
+    /// A row as it stands in a trial.
     pub fn of(row: &'a TrialRow) -> BorrowedRow<'a>
         ensures { result ≡ row.now }
     {
@@ -50,18 +51,21 @@ impl<'a> BorrowedRow<'a> {
         }
     }
 
+    /// Whether a trial can pass without the row's buildpack.
     pub fn is_optional(&self) -> bool
         ensures { result ≡ self.now.optional }
     {
         self.optional
     }
 
+    /// The names that the buildpack provides.
     pub fn provides(&self) -> &'a [Text]
         ensures { result.now ≡ self.now.provides }
     {
         self.provides
     }
 
+    /// What the buildpack requires.
     pub fn needs(&self) -> &'a [Need]
         ensures { result.now ≡ self.now.needs }
     {

@@ -1,5 +1,5 @@
 // The trials of a group by their numbers.
-ghost use Rattle.std.specs.Prelude.{◌≡◌, ◌<◌, ◌^◌, IsTrue, IfOk, IfSome, IfNone, Some, None, length, slice_get, nat_lt, if◌then◌else◌};
+ghost use Rattle.std.specs.Prelude.{◌≡◌, ◌<◌, ◌^◌, IsTrue, IfOk, IfSome, IfNone, OnOk, Some, None, length, slice_get, nat_lt, if◌then◌else◌};
 ghost use Rattle.std.specs.List.{list_all};
 ghost use Rattle.plan_resolve.specs.Choices.{choices_of, choice_count};
 ghost use Rattle.plan_resolve.specs.Prefixes.{AllFail};
@@ -56,4 +56,29 @@ pub fn choose<'a>(
         }
     }
     Ok(None)
+}
+
+/// The rows of the trial of a number, counted from 0, in place of what `out` had. After want of memory `out` has some of
+/// them.
+pub fn chosen_trial<'a>(
+    rows: &'a [AliveRow],
+    trials: u32,
+    number: u32,
+    out: &mut Vec<BorrowedRow<'a>>,
+) -> Result<(), Memory>
+    requires count { trials ≡ choice_count rows.now }
+    requires within { number < trials }
+    ensures trial { OnOk result (slice_get (choices_of rows.now) number ≡ Some out.new.items) }
+    ensures len { OnOk result (length out.new.items ≡ length rows.now) }
+{
+    out.clear();
+    let mut later = trials;
+    let mut left = number;
+    for row in rows {
+        let options = row.options.as_slice();
+        later /= options.len() as u32;
+        out.push(BorrowedRow::chosen(row, &options[(left / later) as usize]))?;
+        left %= later;
+    }
+    Ok(())
 }

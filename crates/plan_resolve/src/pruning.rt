@@ -18,13 +18,15 @@ pub fn has_name(names: &[Text], name: &str) -> bool
     names.iter().any(|other| name == other.as_str())
 }
 
-fn has_need(needs: &[Need], name: &str) -> bool
+/// Whether one of the requirements has the name.
+pub fn has_need(needs: &[Need], name: &str) -> bool
     ensures { result ≡ has_need needs.now name.now }
 {
     needs.iter().any(|need| name == need.name.as_str())
 }
 
-fn provides(trial: &[BorrowedRow], place: u32, name: &str) -> bool
+/// Whether the buildpack at a place provides a name; past the end nobody does.
+pub fn provides(trial: &[BorrowedRow], place: u32, name: &str) -> bool
     ensures { result ≡ has_name (provided_at trial.now place) name.now }
 {
     match trial.get(place as usize) {
@@ -33,7 +35,8 @@ fn provides(trial: &[BorrowedRow], place: u32, name: &str) -> bool
     }
 }
 
-fn requires_name(trial: &[BorrowedRow], place: u32, name: &str) -> bool
+/// Whether the buildpack at a place requires a name; past the end nobody does.
+pub fn requires_name(trial: &[BorrowedRow], place: u32, name: &str) -> bool
     ensures { result ≡ has_need (required_at trial.now place) name.now }
 {
     match trial.get(place as usize) {
@@ -96,7 +99,8 @@ fn holds(trial: &[BorrowedRow], set: &[u32], index: usize) -> bool
     }
 }
 
-fn is_optional(trial: &[BorrowedRow], place: u32) -> bool
+/// Whether a trial can pass without the buildpack at a place.
+pub fn is_optional(trial: &[BorrowedRow], place: u32) -> bool
     ensures { result ≡ is_optional_at (slice_get trial.now place) }
 {
     match trial.get(place as usize) {

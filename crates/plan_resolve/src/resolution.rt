@@ -33,8 +33,8 @@ fn list_of(alloc: Global, places: &[u32]) -> Result<List<u32>, Memory>
     Ok(list)
 }
 
-/// What is resolved where the trial of a number keeps these places.
-fn resolved<'a>(
+/// What is resolved where the trial of a number keeps these places: the number, the places, and their plan.
+pub fn resolved_at<'a>(
     alloc: Global,
     rows: &'a [AliveRow],
     trials: u32,
@@ -76,7 +76,7 @@ fn first_passing(alloc: Global, rows: &[AliveRow], trials: u32) -> Result<Option
         if let Some(index) = failing(trial, all.as_slice(), likely) {
             likely = index;
         } else if let Some(places) = kept_places(alloc, trial)? {
-            let resolved = resolved(alloc, rows, trials, number, trial, places.as_slice())?;
+            let resolved = resolved_at(alloc, rows, trials, number, trial, places.as_slice())?;
             return Ok(Some(resolved));
         }
         number += 1;
