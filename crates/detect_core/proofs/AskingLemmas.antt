@@ -18,12 +18,14 @@ use Rattle.order_expand.specs.declared.member.Member.{Member}
 use Rattle.steps.specs.Asking.{AskedBy, AreSome}
 use Rattle.steps.specs.Outside.{SpawnerSeen}
 use Rattle.ticket_pool.specs.Deal.{recorded}
+use Rattle.detect_core.specs.declared.chosen.AnswerRow.{AnswerRow}
 use Rattle.detect_core.specs.declared.chosen.DetectFrame.{DetectFrame}
 use Rattle.detect_core.specs.declared.chosen.Verdict.{Verdict}
-use Rattle.detect_core.specs.Answer.{answer_of, build_plan}
+use Rattle.detect_core.specs.Answer.{answer_of, answer_row, build_plan}
 use Rattle.detect_core.specs.Job.{detect_job}
-use Rattle.detect_core.specs.Kept.{AnswerRow, row_of, keys_of, kept_for, has_key}
+use Rattle.detect_core.specs.Kept.{KeptRow, row_of, keys_of, kept_for, has_key}
 use Rattle.detect_core.specs.Asking.{unmet, rows_of, AreNew, RunsAll, RunsSome}
+use Rattle.detect_core.specs.Recorded.{answer_rows}
 use Rattle.detect_core.proofs.LimitLemmas.{filter-le}
 use Rattle.detect_core.proofs.MemberLemmas.{keys_of_members}
 use Rattle.detect_core.proofs.OrderLemmas.{all_some}
@@ -32,7 +34,7 @@ pub map-map : {X Y Z : Type 0} (g : Y → Z) (f : X → Y) (xs : List X) → map
 map-map g f [] = refl
 map-map g f (x ∷ xs) = ap (λ zs. g (f x) ∷ zs) (map-map g f xs)
 
-pub any-keys : (rows : List AnswerRow) (key : Key) → list_any (same_key key) (keys_of rows) ≡ has_key rows key
+pub any-keys : (rows : List KeptRow) (key : Key) → list_any (same_key key) (keys_of rows) ≡ has_key rows key
 any-keys [] key = refl
 any-keys (row ∷ rows) key = elim (same_key key row.0) as (λ b. (b || list_any (same_key key) (keys_of rows)) ≡ is_some (cond b (Some row.1) (kept_for rows key))) [
   | true ↦ refl
@@ -48,7 +50,7 @@ pub ran_keys : (frame : DetectFrame) (members : List Member) (ran : List Ran) �
     map (λ r. r.job) ran ≡ map (detect_job frame) members → keys_of (map row_of ran) ≡ map (λ m. m.key) members
 ran_keys frame members ran jobs =
     let key = λ (j : DetectJob). let k : Key = record { id = j.id; version = j.version } in k in
-    map-map (λ (row : AnswerRow). row.0) row_of ran ∙ (sym (map-map key (λ (r : Ran). r.job) ran)
+    map-map (λ (row : KeptRow). row.0) row_of ran ∙ (sym (map-map key (λ (r : Ran). r.job) ran)
     ∙ (ap (map key) jobs ∙ map-map key (detect_job frame) members))
 
 -- the members that are met in two lists, one behind the other
@@ -95,7 +97,7 @@ pub adds_one : {X : Type 0} (f : Member → X) (known : List Key) (member : Memb
 adds_one f known member xs more x new is added = added ∙ (ap (λ y. xs ++ y ∷ []) is ∙ sym (ap (λ (b : Bool). xs ++ map f (if b then [] else member ∷ [])) new))
 
 -- whether a buildpack has an answer or is among some
-pub met_by : (kept : List AnswerRow) (keys : List Key) (key : Key) → list_any (same_key key) (keys_of kept ++ keys) ≡ (has_key kept key || list_any (same_key key) keys)
+pub met_by : (kept : List KeptRow) (keys : List Key) (key : Key) → list_any (same_key key) (keys_of kept ++ keys) ≡ (has_key kept key || list_any (same_key key) keys)
 met_by kept keys key = list_any-append (same_key key) (keys_of kept) keys ∙ ap (λ b. b || list_any (same_key key) keys) (any-keys kept key)
 
 -- the members that are met first are new
@@ -112,19 +114,26 @@ rows-recorded frame [] answers = refl
 rows-recorded frame (m ∷ members) [] = refl
 rows-recorded frame (m ∷ members) (probed ∷ answers) = ap (λ rows. (m.key, answer_of build_plan probed) ∷ rows) (rows-recorded frame members answers)
 
+answers-recorded : (frame : DetectFrame) (members : List Member) (answers : List Probed) → answer_rows (keys_of_members members) answers ≡ map answer_row (recorded (map (detect_job frame) members) answers)
+answers-recorded frame [] answers = refl
+answers-recorded frame (m ∷ members) [] = refl
+answers-recorded frame (m ∷ members) (probed ∷ answers) = ap (λ rows. record { key = m.key; probed = probed } ∷ rows) (answers-recorded frame members answers)
+
 jobs-recorded : (jobs : List DetectJob) (answers : List Probed) → length answers ≡ length jobs → map (λ ran. ran.job) (recorded jobs answers) ≡ jobs
 jobs-recorded [] answers long = refl
 jobs-recorded (job ∷ jobs) [] long = absurd (omega arith)
 jobs-recorded (job ∷ jobs) (probed ∷ answers) long = ap (λ l. job ∷ l) (jobs-recorded jobs answers (omega arith))
 
 -- the group's children ran, and their answers are kept
-pub ran_all : (frame : DetectFrame) (members : List Member) (jobs : List DetectJob) (keys : List Key) (answers : List Probed) (old new : List SpawnerSeen) (k0 k1 : List AnswerRow)
-    → jobs ≡ map (detect_job frame) members → keys ≡ keys_of_members members → length answers ≡ length jobs → AskedBy (recorded jobs answers) old new → k1 ≡ k0 ++ rows_of keys answers → RunsAll frame members old new k0 k1
-ran_all frame members jobs keys answers old new k0 k1 are_jobs are_keys long asked kept = record {
+pub ran_all : (frame : DetectFrame) (members : List Member) (jobs : List DetectJob) (keys : List Key) (answers : List Probed) (old new : List SpawnerSeen) (k0 k1 : List KeptRow) (a0 a1 : List AnswerRow)
+    → jobs ≡ map (detect_job frame) members → keys ≡ keys_of_members members → length answers ≡ length jobs → AskedBy (recorded jobs answers) old new → k1 ≡ k0 ++ rows_of keys answers → a1 ≡ a0 ++ answer_rows keys answers
+    → RunsAll frame members old new k0 k1 a0 a1
+ran_all frame members jobs keys answers old new k0 k1 a0 a1 are_jobs are_keys long asked kept said = record {
   answers = recorded jobs answers;
   asked = asked;
   jobs = jobs-recorded jobs answers long ∙ are_jobs;
   kept = kept ∙ ap (λ rows. k0 ++ rows) (ap (λ ks. rows_of ks answers) are_keys ∙ (rows-recorded frame members answers ∙ ap (λ js. map row_of (recorded js answers)) (sym are_jobs)));
+  rows = said ∙ ap (λ rows. a0 ++ rows) (ap (λ ks. answer_rows ks answers) are_keys ∙ (answers-recorded frame members answers ∙ ap (λ js. map answer_row (recorded js answers)) (sym are_jobs)));
 }
 
 -- they ran, but memory for keeping them ran out
@@ -141,25 +150,25 @@ rest_is xs i x lt is =
     drop-cons xs i x lt ∙ ap (λ y. y ∷ drop (suc i) xs) (sym is) ∙ ap (λ n. x ∷ drop n xs) next
 
 -- one more answer is kept
-pub kept_more : (keys : List Key) (answers : List Probed) (at : ℕ) (k0 kept more : List AnswerRow) (key own : Key) (probed : Probed) (verdict : Verdict)
+pub kept_more : (keys : List Key) (answers : List Probed) (at : ℕ) (k0 kept more : List KeptRow) (key own : Key) (probed : Probed) (verdict : Verdict)
     → at < length keys → at < length answers → key ≡ get_or keys at key → probed ≡ get_or answers at probed → own ≡ key → verdict ≡ answer_of build_plan probed
     → kept ++ rows_of (drop at keys) (drop at answers) ≡ k0 ++ rows_of keys answers → more ≡ kept ++ (own, verdict) ∷ []
     → more ++ rows_of (drop (at + 1) keys) (drop (at + 1) answers) ≡ k0 ++ rows_of keys answers
 kept_more keys answers at k0 kept more key own probed verdict lt lt' is is' copied said so_far added =
-    let row : AnswerRow = (key, answer_of build_plan probed) in
+    let row : KeptRow = (key, answer_of build_plan probed) in
     let rest = rows_of (drop (at + 1) keys) (drop (at + 1) answers) in
     let here : rows_of (drop at keys) (drop at answers) ≡ row ∷ rest = λ i. rows_of (rest_is keys at key lt is i) (rest_is answers at probed lt' is' i) in
     ap (λ l. l ++ rest) (added ∙ (λ i. kept ++ (copied i, said i) ∷ [])) ∙ (append_assoc kept (row ∷ []) rest ∙ (ap (λ l. kept ++ l) (sym here) ∙ so_far))
 
 -- the next buildpack is new, and those behind it stay so
-pub next_new : (keys : List Key) (at : ℕ) (kept : List AnswerRow) (key own : Key) → at < length keys → key ≡ get_or keys at key → own ≡ key → AreNew (keys_of kept) (drop at keys)
-    → (has_key kept own ≡ false) × ((verdict : Verdict) (more : List AnswerRow) → more ≡ kept ++ (own, verdict) ∷ [] → AreNew (keys_of more) (drop (at + 1) keys))
+pub next_new : (keys : List Key) (at : ℕ) (kept : List KeptRow) (key own : Key) → at < length keys → key ≡ get_or keys at key → own ≡ key → AreNew (keys_of kept) (drop at keys)
+    → (has_key kept own ≡ false) × ((verdict : Verdict) (more : List KeptRow) → more ≡ kept ++ (own, verdict) ∷ [] → AreNew (keys_of more) (drop (at + 1) keys))
 next_new keys at kept key own lt is copied new =
     let all : AreNew (keys_of kept) (key ∷ drop (at + 1) keys) = subst (AreNew (keys_of kept)) (rest_is keys at key lt is) new in (
       ap (has_key kept) copied ∙ (sym (any-keys kept key) ∙ all.0),
       λ verdict more added.
           subst (λ ks. AreNew ks (drop (at + 1) keys))
-          (sym (ap keys_of added ∙ (map-append (λ (row : AnswerRow). row.0) kept ((own, verdict) ∷ []) ∙ ap (λ k. keys_of kept ++ k ∷ []) copied))) all.1,
+          (sym (ap keys_of added ∙ (map-append (λ (row : KeptRow). row.0) kept ((own, verdict) ∷ []) ∙ ap (λ k. keys_of kept ++ k ∷ []) copied))) all.1,
     )
 
 -- no more are met than there are members

@@ -9,6 +9,7 @@ pub mod EndingLemmas
 pub mod MemberLemmas
 pub mod FittingLemmas
 pub mod AnswerLemmas
+pub mod RecordedLemmas
 pub mod SearchLemmas
 pub mod LimitLemmas
 pub mod TurnLemmas

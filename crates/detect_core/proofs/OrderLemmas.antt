@@ -117,16 +117,19 @@ recorded-made key (ran ∷ rans) shares (front, rest, back, is, made) once =
           ∙ (again ∙ (ap (λ l. recorded l key) less ∙ sym (ap (λ l. recorded l key) whole ∙ skipped key (joined front) ran (rest ++ joined back) e)))
     ]
 
--- where no buildpack has two children, any order of finishing says the same
-pub same_in_any_order : (target : Option Target) (first second : List Ran) (old new : List SpawnerSeen) → AskedBy first old new → AskedBy second old new → EachOnce first → says target build_plan second ≡ says target build_plan first
-same_in_any_order target first second old new a b once =
+-- where no buildpack has two children, any order of finishing records the same
+pub recorded_in_any_order : (first second : List Ran) (old new : List SpawnerSeen) → AskedBy first old new → AskedBy second old new → EachOnce first → (key : Key) → recorded second key ≡ recorded first key
+recorded_in_any_order first second old new a b once key =
     let shares : b.shares ≡ a.shares = shares_since b.shares old new b.ran ∙ sym (shares_since a.shares old new a.ran) in
     let made : IsMadeOf second a.shares = subst (IsMadeOf second) shares b.made in
-    λ i member. where_fit (is_fit target member)
-    (answer_or_error build_plan
-    ((recorded-made member.key second a.shares made
-    (let o = once member.key in omega (arith, made-weighs (of_key member.key) first a.shares a.made, made-weighs (of_key member.key) second a.shares made))
-    ∙ sym (recorded-made member.key first a.shares a.made (once member.key))) i))
+    recorded-made key second a.shares made
+    (let o = once key in omega (arith, made-weighs (of_key key) first a.shares a.made, made-weighs (of_key key) second a.shares made))
+    ∙ sym (recorded-made key first a.shares a.made (once key))
+
+-- and says the same
+pub same_in_any_order : (target : Option Target) (first second : List Ran) (old new : List SpawnerSeen) → AskedBy first old new → AskedBy second old new → EachOnce first → says target build_plan second ≡ says target build_plan first
+same_in_any_order target first second old new a b once =
+    λ i member. where_fit (is_fit target member) (answer_or_error build_plan (recorded_in_any_order first second old new a b once member.key i))
 
 -- ---- the members of the listed groups are of different buildpacks
 

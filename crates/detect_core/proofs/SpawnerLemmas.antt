@@ -8,6 +8,7 @@ use Rattle.order_expand.specs.declared.member.Member.{Member}
 use Rattle.order_expand.specs.Groups.{listed_groups}
 use Rattle.steps.specs.Asking.{AskedBy}
 use Rattle.steps.specs.Outside.{SpawnerSeen}
+use Rattle.detect_core.specs.declared.chosen.AnswerRow.{AnswerRow}
 use Rattle.detect_core.specs.declared.chosen.Chosen.{Chosen}
 use Rattle.detect_core.specs.declared.chosen.DetectEnd.{DetectEnd}
 use Rattle.detect_core.specs.declared.chosen.DetectFrame.{DetectFrame}
@@ -25,8 +26,8 @@ pub record IsDetection (frame : DetectFrame) (catalog : List Descriptor) (order 
   pub detects : DetectsAs result (first_trial (says frame.target build_plan ran) catalog order) (asked_keys frame.target (says frame.target build_plan ran) catalog order) (has_erred frame.target (says frame.target build_plan ran) catalog order)
   pub asked : OnDetected result (map (λ r. r.job) ran ≡ map (detect_job frame) (asked_members frame.target (says frame.target build_plan ran) catalog order))
 
-module _ (frame : DetectFrame) (catalog : List Descriptor) (order : List (List Entry)) (old new : List SpawnerSeen) (result : Result Chosen DetectEnd)
-    (s : IsSearch frame (listed_groups catalog order) old new result) where
+module _ (frame : DetectFrame) (catalog : List Descriptor) (order : List (List Entry)) (old new : List SpawnerSeen) (rows : List AnswerRow) (result : Result Chosen DetectEnd)
+    (s : IsSearch frame (listed_groups catalog order) old new rows result) where
   pub detection_of : IsDetection frame catalog order s.answers result
   unfolding first_trial asked_members
   detection_of = record { detects = s.detects; asked = s.asked }

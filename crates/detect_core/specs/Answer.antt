@@ -12,6 +12,7 @@ use Rattle.bp_docs.specs.BuildPlan.{build_plan_in}
 use Rattle.bp_docs.specs.Targets.{fits}
 use Rattle.order_expand.specs.declared.member.Member.{Member}
 use Rattle.plan_resolve.specs.declared.rows.AliveRow.{AliveRow}
+use Rattle.detect_core.specs.declared.chosen.AnswerRow.{AnswerRow}
 use Rattle.detect_core.specs.declared.chosen.Verdict.{Verdict}
 use Rattle.detect_core.specs.declared.chosen.Verdict.TheVariants.{Pass, Fail, Error}
 
@@ -34,6 +35,10 @@ answer_of plan_in probed = answer_by probed.code (pass_or_error (plan_in probed.
 
 abbrev pub key_of : Ran → Key
 key_of ran = record { id = ran.job.id; version = ran.job.version }
+
+-- what is recorded of a child that ended
+abbrev pub answer_row : Ran → AnswerRow
+answer_row ran = record { key = key_of ran; probed = ran.probed }
 
 -- what was recorded first for a buildpack
 abbrev pub recorded : List Ran → Key → Option Probed

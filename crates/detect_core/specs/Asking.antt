@@ -12,10 +12,11 @@ use Rattle.steps.specs.Causes.{Cause, ChildFailed, OutOfMemory}
 use Rattle.steps.specs.Outside.{SpawnerSeen}
 use Rattle.ticket_pool.specs.declared.fault.PoolFault.{PoolFault}
 use Rattle.ticket_pool.specs.declared.fault.PoolFault.TheVariants as pool
+use Rattle.detect_core.specs.declared.chosen.AnswerRow.{AnswerRow}
 use Rattle.detect_core.specs.declared.chosen.DetectFrame.{DetectFrame}
-use Rattle.detect_core.specs.Answer.{answer_of, build_plan}
+use Rattle.detect_core.specs.Answer.{answer_of, answer_row, build_plan}
 use Rattle.detect_core.specs.Job.{detect_job}
-use Rattle.detect_core.specs.Kept.{AnswerRow, row_of}
+use Rattle.detect_core.specs.Kept.{KeptRow, row_of}
 
 -- the members whose buildpacks are not among these, each buildpack once, in order of first meeting
 abbrev pub unmet : List Key → List Member → List Member
@@ -29,17 +30,20 @@ AreNew known [] = Unit {0}
 AreNew known (key ∷ keys) = (list_any (same_key key) known ≡ false) × AreNew (known ++ key ∷ []) keys
 
 -- what is kept of the children of these buildpacks, which ended so
-abbrev pub rows_of : List Key → List Probed → List AnswerRow
+abbrev pub rows_of : List Key → List Probed → List KeptRow
 rows_of [] answers = []
 rows_of (key ∷ keys) [] = []
 rows_of (key ∷ keys) (probed ∷ answers) = (key, answer_of build_plan probed) ∷ rows_of keys answers
 
--- Spawners ran the children of all these members, each once, and what they answered is kept in the members' order.
-pub record RunsAll (frame : DetectFrame) (members : List Member) (old new : List SpawnerSeen) (kept_old kept_new : List AnswerRow) : Type 0 where
+-- Spawners ran the children of all these members, each once, and what they answered is kept, and added to the rows, in the
+-- members' order.
+pub record RunsAll (frame : DetectFrame) (members : List Member) (old new : List SpawnerSeen)
+    (kept_old kept_new : List KeptRow) (rows_old rows_new : List AnswerRow) : Type 0 where
   pub answers : List Ran
   pub asked : AskedBy answers old new
   pub jobs : map (λ ran. ran.job) answers ≡ map (detect_job frame) members
   pub kept : kept_new ≡ kept_old ++ map row_of answers
+  pub rows : rows_new ≡ rows_old ++ map answer_row answers
 
 -- Spawners ran some of these jobs, each at most once.
 pub record RunsSome (jobs : List DetectJob) (old new : List SpawnerSeen) : Type 0 where

@@ -7,5 +7,6 @@ pub mod Examples
 pub mod Job
 pub mod Judging
 pub mod Kept
+pub mod Recorded
 pub mod Search
 pub mod Searching

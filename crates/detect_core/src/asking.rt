@@ -9,19 +9,19 @@ ghost use Rattle.detect_core.specs.Search.{is_short};
 ghost use Rattle.steps.specs.Asking.{CountsSpawners};
 ghost use Rattle.steps.specs.Outside.{faults_of, spawners_seen};
 
-use crate::chosen::DetectFrame;
-use crate::keeping::keep_answers;
+use crate::chosen::{AnswerRow, DetectFrame};
+use crate::keeping::{add_answers, keep_answers};
 use crate::kept::Kept;
 use crate::questions::questions_of;
 use crate::side_by_side::run_jobs;
-use cnb_world::Spawner;
+use cnb_world::{List, Spawner};
 use order_expand::Member;
 use std::alloc::Global;
 use std::thread::Threads;
 use ticket_pool::PoolFault;
 
 /// Runs the children of those members that are for the target and were not asked before in this call, each once, by
-/// spawners side by side.
+/// spawners side by side. What they answered is kept, and added to the rows.
 pub fn ask_group<S: Spawner + Send, R: Threads + Sync>(
     rt: &R,
     alloc: Global,
@@ -30,6 +30,7 @@ pub fn ask_group<S: Spawner + Send, R: Threads + Sync>(
     frame: &DetectFrame,
     group: &[Member],
     kept: &mut Kept,
+    rows: &mut List<AnswerRow>,
 ) -> Result<(), PoolFault>
     requires spawners { 0 < length spawners.old.items }
     requires workers { 0 < workers }
@@ -37,7 +38,7 @@ pub fn ask_group<S: Spawner + Send, R: Threads + Sync>(
     requires few { length group.now ≤ 256 }
     ensures all { OnOk result (RunsAll frame.now (unmet (keys_of kept.old)
         (filter (is_fit frame.now.target) group.now))
-        (spawners_seen S.Spawner spawners.old.items) (spawners_seen S.Spawner spawners.new.items) kept.old kept.new) }
+        (spawners_seen S.Spawner spawners.old.items) (spawners_seen S.Spawner spawners.new.items) kept.old kept.new rows.old rows.new) }
     ensures some { OnErr result (RunsSome (map (detect_job frame.now) (unmet (keys_of kept.old)
         (filter (is_fit frame.now.target) group.now)))
         (spawners_seen S.Spawner spawners.old.items) (spawners_seen S.Spawner spawners.new.items)) }
@@ -48,5 +49,6 @@ pub fn ask_group<S: Spawner + Send, R: Threads + Sync>(
     let asked = questions_of(alloc, frame, group, kept)?;
     let answers = run_jobs(rt, alloc, spawners, workers, asked.jobs.as_slice())?;
     keep_answers(alloc, kept, asked.keys.as_slice(), answers.as_slice())?;
+    add_answers(alloc, rows, asked.keys.as_slice(), answers)?;
     Ok(())
 }

@@ -2,7 +2,7 @@
 use bp_docs::PlanOption;
 use cnb_env::EnvFile;
 use cnb_toml::{Key, Target};
-use cnb_world::{Env, List, Memory, Path};
+use cnb_world::{Env, List, Memory, Path, Probed};
 use run_docs::{GroupDoc, PlanDoc};
 use ticket_pool::PoolFault;
 
@@ -37,6 +37,20 @@ pub struct Chosen {
     pub trial: u32,
     pub trials: u32,
     pub asked: List<Key>,
+}
+
+/// What a buildpack's child answered.
+#[derive(Drop)]
+pub struct AnswerRow {
+    pub key: Key,
+    pub probed: Probed,
+}
+
+/// The choice, with the answers of the buildpacks that were asked, in the order of asking.
+#[derive(Drop)]
+pub struct Recorded {
+    pub chosen: Chosen,
+    pub answers: List<AnswerRow>,
 }
 
 /// Why no group was chosen.

@@ -47,7 +47,8 @@ pub fn end_of(
     }
 }
 
-fn have_options(rows: &[AliveRow]) -> bool
+/// Whether each of these buildpacks has an alternative.
+pub fn have_options(rows: &[AliveRow]) -> bool
     ensures { result ≡ list_all has_options rows.now }
 {
     rows.iter().all(|row| !row.options.as_slice().is_empty())
@@ -75,7 +76,8 @@ fn choice(
     })
 }
 
-fn group_of(alloc: Global, rows: &[AliveRow], places: &[u32]) -> Result<GroupDoc, Memory>
+/// The group of the buildpacks at these places.
+pub fn group_of(alloc: Global, rows: &[AliveRow], places: &[u32]) -> Result<GroupDoc, Memory>
     ensures { IfOk result (λ group. group ≡ group_rows (map (λ row. row.key) (at_places rows.now places.now))) }
 {
     let mut group = List::new(alloc);

@@ -2,7 +2,7 @@
 ghost use Rattle.std.specs.Prelude.{◌≡◌, ◌||◌, IfOk, Some};
 ghost use Rattle.std.specs.List.{filter_map, list_all, list_any};
 ghost use Rattle.std.specs.Option.{option_copied};
-ghost use Rattle.detect_core.specs.Answer.{is_pass, is_error, alive_row};
+ghost use Rattle.detect_core.specs.Answer.{is_pass, is_error, alive_row, alive_of};
 ghost use Rattle.detect_core.specs.Kept.{kept_says, options_of};
 ghost use Rattle.detect_core.specs.Judging.{IsJudged};
 
@@ -38,7 +38,8 @@ fn options_of<'a>(
     kept.options(&member.key)
 }
 
-fn passes(target: &Option<Target>, member: &Member, kept: &Kept) -> bool
+/// Whether a member is for the target and its child passed.
+pub fn passes(target: &Option<Target>, member: &Member, kept: &Kept) -> bool
     ensures { result ≡ is_pass (kept_says target.now kept.now member.now) }
 {
     options_of(target, member, kept).is_some()
@@ -65,12 +66,24 @@ pub fn judge(
     ensures { IfOk result (IsJudged (kept_says target.now kept.now) group.now) }
 {
     let erred = has_erred(target, group, kept);
-    let alive = if have_required_passed(target, group, kept) && has_passed(target, group, kept) {
-        Some(passed_rows(alloc, target, group, kept)?)
-    } else {
-        None
-    };
+    let alive = alive_of(alloc, target, group, kept)?;
     Ok(Judged { alive, erred })
+}
+
+/// The members of a group that pass by the answers that are kept, where every required one does and there is one.
+pub fn alive_of(
+    alloc: Global,
+    target: &Option<Target>,
+    group: &[Member],
+    kept: &Kept,
+) -> Result<Option<Alive>, Memory>
+    ensures { IfOk result (λ alive. alive ≡ alive_of (kept_says target.now kept.now) group.now) }
+{
+    if !have_required_passed(target, group, kept) || !has_passed(target, group, kept) {
+        return Ok(None);
+    }
+    let rows = passed_rows(alloc, target, group, kept)?;
+    Ok(Some(rows))
 }
 
 fn has_erred(target: &Option<Target>, group: &[Member], kept: &Kept) -> bool

@@ -1,6 +1,7 @@
 // The answers of a call so far.
-ghost use Rattle.std.specs.Prelude.{◌≡◌, ◌++◌, ◌∷◌, [], false, IfOk, OnOk, OnErr};
+ghost use Rattle.std.specs.Prelude.{◌≡◌, ◌<◌, ◌^◌, ◌++◌, ◌∷◌, [], false, length, position, IfOk, IfSome, OnOk, OnErr};
 ghost use Rattle.std.specs.Option.{option_copied};
+ghost use Rattle.cnb_toml.specs.Keys.{same_key};
 ghost use Rattle.detect_core.specs.Answer.{is_error};
 
 use crate::chosen::Verdict;
@@ -84,6 +85,22 @@ impl Kept {
     {
         self.answers.insert(key, verdict)?;
         Ok(())
+    }
+
+    /// The place of a buildpack among those that were asked.
+    pub fn place(&self, key: &Key) -> Option<usize>
+        ensures place { result ≡ position (same_key key.now) (keys_of self.now) }
+        ensures small { IfSome result (λ place. place < 2 ^ 63) }
+    {
+        let _all = self.answers.len();
+        self.answers.get_index_of(key)
+    }
+
+    /// How many buildpacks were asked.
+    pub fn len(&self) -> usize
+        ensures { result ≡ length self.now }
+    {
+        self.answers.len()
     }
 
     /// The buildpacks that were asked, in order.

@@ -17,6 +17,11 @@ mod search;
 mod side_by_side;
 
 pub use answers::answer;
-pub use chosen::{Chosen, DetectEnd, DetectFrame, Verdict};
+pub use chosen::{AnswerRow, Chosen, DetectEnd, DetectFrame, Recorded, Verdict};
 pub use deciding::answers_decide;
-pub use search::detect;
+pub use ending::{group_of, have_options};
+pub use fitting::is_fit;
+pub use judging::{alive_of, passes};
+pub use keeping::kept_of;
+pub use kept::Kept;
+pub use search::{detect, detect_recorded};

@@ -8,6 +8,7 @@ use Rattle.steps.specs.Outside.{faults_of, spawners_seen}
 use Rattle.detect_core.specs.Answer.{is_fit}
 use Rattle.detect_core.specs.Asking.{rows_of, unmet, AreNew, RunsSome}
 use Rattle.detect_core.specs.Kept.{keys_of}
+use Rattle.detect_core.specs.Recorded.{answer_rows}
 use Rattle.detect_core.proofs.AskingLemmas.{few_jobs, on_err, ran_all, ran_unkept, unmet_new}
 use Rattle.detect_core.proofs.CountLemmas.{stayed}
 use Rattle.detect_core.proofs.PoolLemmas.{ran_nobody}
@@ -47,6 +48,21 @@ returns-in_err-keep_answers-clause-faults g c =
 pub returns-clause-all : goal.returns-clause-all
 returns-clause-all g c =
     ran_all c.args.frame.now (unmet (keys_of c.args.kept.now) (filter (is_fit c.args.frame.now.target) c.args.group.now)) c.as_slice.result.now c.as_slice-2.result.now c.in_ok-answers.answers.items
-    (spawners_seen g.S.Spawner c.args.spawners.now.items) (spawners_seen g.S.Spawner c.run_jobs.new.spawners.items) c.args.kept.now c.keep_answers.new.kept
+    (spawners_seen g.S.Spawner c.args.spawners.now.items) (spawners_seen g.S.Spawner c.run_jobs.new.spawners.items) c.args.kept.now c.keep_answers.new.kept c.args.rows.now c.add_answers.new.rows
     (c.as_slice.ensures ∙ c.in_ok-asked.ensures.jobs) (c.as_slice-2.ensures ∙ c.in_ok-asked.ensures.keys) c.in_ok-answers.ensures.answers c.in_ok-answers.ensures.all
     (c.in_ok-keep_answers.ensures ∙ ap (λ (answers : List Probed). c.args.kept.now ++ rows_of c.as_slice-2.result.now answers) c.as_slice-3.ensures.value)
+    (c.in_ok-add_answers.ensures ∙ ap (λ (keys : List Key). c.args.rows.now ++ answer_rows keys c.in_ok-answers.answers.items) (c.as_slice-4.ensures ∙ sym c.as_slice-2.ensures))
+
+pub returns-in_err-add_answers-clause-some : goal.returns-in_err-add_answers-clause-some
+returns-in_err-add_answers-clause-some g c =
+    let old = spawners_seen g.S.Spawner c.args.spawners.now.items in
+    let new = spawners_seen g.S.Spawner c.run_jobs.new.spawners.items in
+    on_err c.from_residual-in_err-add_answers.result
+    (subst (λ (jobs : List DetectJob). RunsSome jobs old new) (c.as_slice.ensures ∙ c.in_ok-asked.ensures.jobs)
+    (ran_unkept c.as_slice.result.now c.in_ok-answers.answers.items old new c.in_ok-answers.ensures.answers c.in_ok-answers.ensures.all))
+
+pub returns-in_err-add_answers-clause-faults : goal.returns-in_err-add_answers-clause-faults
+returns-in_err-add_answers-clause-faults g c =
+    let exit = err_from_is_err_and c.from_residual-in_err-add_answers.result c.from_residual-in_err-add_answers.ensures.1 in
+    rw (exit.1, exit.2)
+    (stayed (faults_of (spawners_seen g.S.Spawner c.args.spawners.now.items)) (faults_of (spawners_seen g.S.Spawner c.run_jobs.new.spawners.items)) c.in_ok-answers.ensures.faults)
