@@ -1,6 +1,6 @@
 -- What the steps of `detect` do to the counts, by what ended them.
 use Rattle.std.proofs.Common.{◌≡◌, refl, ℕ, List}
-use Rattle.cnb_words.specs.declared.detect.DetectWords.{DetectWords}
+use Rattle.cnb_words.specs.declared.choice.ChoiceWords.{ChoiceWords}
 use Rattle.cnb_world.specs.declared.env.Variable.{Variable}
 use Rattle.doc_files.specs.Faults.{read_cause}
 use Rattle.doc_files.specs.declared.fault.ReadFault.{ReadFault}
@@ -40,7 +40,7 @@ target_counts : (source : TargetSource) (work : List ℕ) → Obeys FileCounts c
 target_counts Document work = obeys_told FileCounts read_cause cause_of of_read_fault _ read_causes (reads_counts read_cause _ _)
 target_counts (Given target) work = obeys_gives _ _ _ files_rest
 
-prepares_counts : (source : TargetSource) (options : DetectWords) (env : List Variable) → Obeys FileCounts cause_of (prepares source options env)
+pub prepares_counts : (source : TargetSource) (options : ChoiceWords) (env : List Variable) → Obeys FileCounts cause_of (prepares source options env)
 unfolding prepares
 prepares_counts source options env =
     obeys_bind _ _ _ _ files_link (obeys_told FileCounts read_cause cause_of of_read_fault _ read_causes (reads_counts read_cause _ _))
@@ -56,12 +56,12 @@ written_choice_counts work choice =
     obeys_bind _ _ _ _ files_link (writes_counts cause_of _ _)
     (λ group. obeys_bind _ _ _ _ files_link (writes_counts cause_of _ _) (λ plan. obeys_yields _ _ _ files_rest))
 
-pub choice_counts : (source : TargetSource) (options : DetectWords) (env : List Variable) → Obeys OutsideCounts cause_of (chooses source options env)
+pub choice_counts : (source : TargetSource) (options : ChoiceWords) (env : List Variable) → Obeys OutsideCounts cause_of (chooses source options env)
 unfolding chooses
 choice_counts source options env =
     obeys_bind _ _ _ _ outside_link (obeys_over_world cause_of _ (files_among cause_of _ (prepares_counts source options env))) (λ prepared. obeys_asks cause_of _ _ _)
 
-pub detect_counts : (source : TargetSource) (options : DetectWords) (env : List Variable) → Obeys OutsideCounts cause_of (detects source options env)
+pub detect_counts : (source : TargetSource) (options : ChoiceWords) (env : List Variable) → Obeys OutsideCounts cause_of (detects source options env)
 unfolding detects
 detect_counts source options env =
     obeys_bind _ _ _ _ outside_link (choice_counts source options env)

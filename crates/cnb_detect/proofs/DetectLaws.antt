@@ -3,7 +3,7 @@ use Rattle.std.proofs.Common.{◌≡◌, refl, ℕ, Bool, true, false, ◌&&◌,
 use Rattle.std.specs.Prelude.{IfSome}
 use Rattle.cnb_world.specs.Tree.{Tree}
 use Rattle.cnb_world.specs.declared.env.Variable.{Variable}
-use Rattle.cnb_words.specs.declared.detect.DetectWords.{DetectWords}
+use Rattle.cnb_words.specs.declared.choice.ChoiceWords.{ChoiceWords}
 use Rattle.cnb_toml.specs.declared.target.Target.{Target}
 use Rattle.doc_files.specs.Faults.{read_cause}
 use Rattle.doc_files.specs.declared.fault.ReadFault.{ReadFault}
@@ -41,7 +41,7 @@ any_files None = tt
 any_files (Some files) = tt
 
 -- memory may run out before anything is done
-pub no_memory_to_choose : (source : TargetSource) (options : DetectWords) (env : List Variable) (old : Outside) → chooses source options env old (Err Memory) old
+pub no_memory_to_choose : (source : TargetSource) (options : ChoiceWords) (env : List Variable) (old : Outside) → chooses source options env old (Err Memory) old
 unfolding chooses prepares reads
 no_memory_to_choose source options env old =
     ended _ _ old old Memory (within _ old.world old.world old.spawners (Err Memory)
@@ -54,7 +54,7 @@ no_memory_to_choose source options env old =
       counts = files_rest.memory old.world;
     }))))
 
-pub no_memory_at_once : (source : TargetSource) (options : DetectWords) (env : List Variable) (old : Outside) → detects source options env old (Err Memory) old
+pub no_memory_at_once : (source : TargetSource) (options : ChoiceWords) (env : List Variable) (old : Outside) → detects source options env old (Err Memory) old
 unfolding detects
 no_memory_at_once source options env old = ended _ _ old old Memory (no_memory_to_choose source options env old)
 
@@ -79,7 +79,7 @@ takes_one Document work = reads_one (is_fit_target work) (target_at work)
 takes_one (Given target) work = gives_known cause_of (Ok (Some target))
 
 -- the preparation comes to what the files say, and where they fit, it makes no call on a path of the wrong kind
-pub prepares_reads : (source : TargetSource) (options : DetectWords) (env : List Variable) → OnlyReads cause_of (is_fit_preparation source options) (prepared_in source options env) (prepares source options env)
+pub prepares_reads : (source : TargetSource) (options : ChoiceWords) (env : List Variable) → OnlyReads cause_of (is_fit_preparation source options) (prepared_in source options env) (prepares source options env)
 unfolding prepares
 prepares_reads source options env old new result h =
     let made : List (List Entry) → List Descriptor → Option Target → List EnvFile → Result Prepared DetectRefusal = λ order catalog target files. Ok (record { order = order; catalog = catalog; frame = frame_of options env target files }) in

@@ -72,7 +72,7 @@ left_other (PartBeside count) bytes t p q besides below =
     at_get _ _ q (get-insert_bytes _ (beside p) _ q ∙ ap (λ b. cond b (Some (File false (take count bytes))) (get (folder_made (parent_of p) t) q)) (unlike q (beside p) (λ e. besides (e ∙ longer p))) ∙ get-folder_made_longer (parent_of p) q t below)
 
 -- the same where the tree may not be told
-left_standing : (o o1 : Option Tree) (p q : List ℕ) (Says : List ℕ → Type 0) → (length q ≡ length p + 4 → ⊥) → length (parent_of p) < length q → LeavesSome p Says o o1 → standing o1 q ≡ standing o q
+pub left_standing : (o o1 : Option Tree) (p q : List ℕ) (Says : List ℕ → Type 0) → (length q ≡ length p + 4 → ⊥) → length (parent_of p) < length q → LeavesSome p Says o o1 → standing o1 q ≡ standing o q
 left_standing o o1 p q Says besides below (inl same) = ap (λ x. standing x q) same
 left_standing None o1 p q Says besides below (inr (bytes, says, (progress, fits, e))) = ap (λ x. standing x q) e
 left_standing (Some t) o1 p q Says besides below (inr (bytes, says, (progress, fits, e))) = ap (λ x. standing x q) e ∙ ap Some (left_other progress bytes t p q besides below)
@@ -81,7 +81,7 @@ other_standing : (o o1 : Option Tree) (p q bytes : List ℕ) → (length q ≡ l
 other_standing None o1 p q bytes ne besides below e = ap (λ x. standing x q) e
 other_standing (Some t) o1 p q bytes ne besides below e = ap (λ x. standing x q) e ∙ ap Some (written_other t p q bytes ne besides below)
 
-same_standing : (o o1 : Option Tree) (p bytes : List ℕ) → 1 < length p → o1 ≡ option_map (written p bytes) o → standing o1 p ≡ option_map (λ t. Some (File false bytes)) o
+pub same_standing : (o o1 : Option Tree) (p bytes : List ℕ) → 1 < length p → o1 ≡ option_map (written p bytes) o → standing o1 p ≡ option_map (λ t. Some (File false bytes)) o
 same_standing None o1 p bytes long e = ap (λ x. standing x p) e
 same_standing (Some t) o1 p bytes long e = ap (λ x. standing x p) e ∙ ap Some (written_same t p bytes long)
 

@@ -7,7 +7,7 @@ use Rattle.cnb_world.specs.Path.{is_path}
 use Rattle.cnb_world.specs.Runs.{Ran}
 use Rattle.cnb_world.specs.Tree.{Tree}
 use Rattle.cnb_world.specs.declared.env.Variable.{Variable}
-use Rattle.cnb_words.specs.declared.detect.DetectWords.{DetectWords}
+use Rattle.cnb_words.specs.declared.choice.ChoiceWords.{ChoiceWords}
 use Rattle.run_docs.specs.Group.{group_in}
 use Rattle.run_docs.specs.Plan.{plan_in}
 use Rattle.order_expand.specs.Groups.{listed_groups}
@@ -82,7 +82,7 @@ asks_once : (prepared : Prepared) (old new : List SpawnerSeen) (result : Result 
 asks_once prepared old new (Ok choice) h = exactly_once prepared h.answers h.meets.0
 asks_once prepared old new (Err refusal) h = once_by prepared h.answers (cause_of refusal) (choice_of prepared h.answers ≡ Err refusal) h.meets
 
-module _ (source : TargetSource) (options : DetectWords) (env : List Variable) where
+module _ (source : TargetSource) (options : ChoiceWords) (env : List Variable) where
   choice_where : (o : Option Tree) (prepared : Prepared) (answers : List Ran) (want : Result Choice DetectRefusal) → IfSome o (λ files. prepared_in source options env files ≡ Ok prepared) → choice_of prepared answers ≡ want
       → IfSome o (λ files. detect_choice source options env answers files ≡ want)
   unfolding detect_choice

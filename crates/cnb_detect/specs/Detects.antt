@@ -2,7 +2,7 @@
 use Rattle.std.specs.Prelude.{ℕ, ◌&&◌, Bool, List, length, Result, Ok}
 use Rattle.cnb_world.specs.declared.env.Variable.{Variable}
 use Rattle.cnb_world.specs.Tree.{Tree}
-use Rattle.cnb_words.specs.declared.detect.DetectWords.{DetectWords}
+use Rattle.cnb_words.specs.declared.choice.ChoiceWords.{ChoiceWords}
 use Rattle.steps.specs.Asking.{asks}
 use Rattle.steps.specs.Outside.{Outside}
 use Rattle.steps.specs.Steps.{◌>>=◌, gives, in_spawners, in_world, yields}
@@ -19,13 +19,13 @@ abbrev pub text_of : Choice → List ℕ
 text_of choice = choice_text choice.group (length choice.plan)
 
 -- The files are read, and the children are asked and decide.
-unfoldable pub chooses : TargetSource → DetectWords → List Variable → Outside → Result Choice DetectRefusal → Outside → Type 0
+unfoldable pub chooses : TargetSource → ChoiceWords → List Variable → Outside → Result Choice DetectRefusal → Outside → Type 0
 chooses source options env = do
   prepared ← in_world (prepares source options env)
   in_spawners (asks cause_of (listed_jobs prepared) (jobs_of prepared) (choice_of prepared))
 
 -- A group and its plan are chosen, the text is made, and the choice is written.
-unfoldable pub detects : TargetSource → DetectWords → List Variable → Outside → Result (List ℕ) DetectRefusal → Outside → Type 0
+unfoldable pub detects : TargetSource → ChoiceWords → List Variable → Outside → Result (List ℕ) DetectRefusal → Outside → Type 0
 detects source options env = do
   choice ← chooses source options env
   text ← gives cause_of (Ok (text_of choice))
@@ -33,5 +33,5 @@ detects source options env = do
   yields text
 
 -- what stands where the command reads and writes is of the kind that it needs
-abbrev pub is_fit_detect : TargetSource → DetectWords → Tree → Bool
+abbrev pub is_fit_detect : TargetSource → ChoiceWords → Tree → Bool
 is_fit_detect source options files = is_fit_preparation source options files && can_write_choice options.work files

@@ -7,7 +7,7 @@ use Rattle.cnb_world.specs.Runs.{Ran}
 use Rattle.cnb_world.specs.Tree.{Tree}
 use Rattle.cnb_world.specs.Whole.{written}
 use Rattle.cnb_toml.specs.declared.target.Target.{Target}
-use Rattle.cnb_words.specs.declared.detect.DetectWords.{DetectWords}
+use Rattle.cnb_words.specs.declared.choice.ChoiceWords.{ChoiceWords}
 use Rattle.order_files.specs.Catalog.{catalog_in}
 use Rattle.order_files.specs.OrderFile.{order_file_in}
 use Rattle.cnb_env.specs.Files.{platform_files_in}
@@ -32,7 +32,7 @@ use Rattle.cnb_detect.specs.Refusals.{cause_of, of_read_fault, of_order_fault}
 use Rattle.cnb_detect.specs.Target.{target_in}
 
 -- the order, the buildpacks, the check of the order, the target, the platform's files: the first refusal decides
-abbrev pub prepared_in : TargetSource → DetectWords → List Variable → Tree → Result Prepared DetectRefusal
+abbrev pub prepared_in : TargetSource → ChoiceWords → List Variable → Tree → Result Prepared DetectRefusal
 prepared_in source options env files = do
   order ← with_fault of_read_fault (order_file_in options.order files)
   catalog ← with_fault of_read_fault (catalog_in options.buildpacks files)
@@ -42,7 +42,7 @@ prepared_in source options env files = do
   Ok (record { order = order; catalog = catalog; frame = frame_of options env target variables })
 
 -- the choice
-unfoldable pub detect_choice : TargetSource → DetectWords → List Variable → List Ran → Tree → Result Choice DetectRefusal
+unfoldable pub detect_choice : TargetSource → ChoiceWords → List Variable → List Ran → Tree → Result Choice DetectRefusal
 detect_choice source options env answers files = prepared_in source options env files >>= (λ prepared. choice_of prepared answers)
 
 -- its text
@@ -70,7 +70,7 @@ WritesBoth (Ok text) work IsChosen old new =
 
 -- What `detect` comes to. The end is that of the choice, by the files and by what the children of this call answered; each of
 -- the two documents is the old one or a whole new one that reads as the choice.
-pub record ComesTo (source : TargetSource) (options : DetectWords) (env : List Variable) (old : Outside) (end : Result (List ℕ) DetectRefusal) (new : Outside) : Type 0 where
+pub record ComesTo (source : TargetSource) (options : ChoiceWords) (env : List Variable) (old : Outside) (end : Result (List ℕ) DetectRefusal) (new : Outside) : Type 0 where
   pub answers : List Ran
   pub asked : AskedBy answers old.spawners new.spawners
   -- in whatever order all spawners' children finished, they say the same

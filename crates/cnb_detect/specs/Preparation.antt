@@ -2,7 +2,7 @@
 use Rattle.std.specs.Prelude.{Bool, ◌&&◌, List, Option, Result, Ok}
 use Rattle.cnb_world.specs.declared.env.Variable.{Variable}
 use Rattle.cnb_world.specs.Tree.{Tree}
-use Rattle.cnb_words.specs.declared.detect.DetectWords.{DetectWords}
+use Rattle.cnb_words.specs.declared.choice.ChoiceWords.{ChoiceWords}
 use Rattle.cnb_toml.specs.declared.target.Target.{Target}
 use Rattle.doc_files.specs.Faults.{read_cause}
 use Rattle.order_files.specs.Catalog.{catalog_in, is_fit_catalog}
@@ -20,7 +20,7 @@ use Rattle.cnb_detect.specs.Refusals.{cause_of, of_read_fault, of_order_fault}
 use Rattle.cnb_detect.specs.Target.{is_fit_source, takes_target}
 
 -- what all detect children have in common
-abbrev pub frame_of : DetectWords → List Variable → Option Target → List EnvFile → DetectFrame
+abbrev pub frame_of : ChoiceWords → List Variable → Option Target → List EnvFile → DetectFrame
 frame_of options env target files = record {
   buildpacks = options.buildpacks;
   app = options.app;
@@ -32,7 +32,7 @@ frame_of options env target files = record {
 }
 
 -- the order, the buildpacks, the check of the order, the target, the platform's files
-unfoldable pub prepares : TargetSource → DetectWords → List Variable → Seen → Result Prepared DetectRefusal → Seen → Type 0
+unfoldable pub prepares : TargetSource → ChoiceWords → List Variable → Seen → Result Prepared DetectRefusal → Seen → Type 0
 prepares source options env = do
   order ← map_err of_read_fault (reads read_cause (is_fit_order_file options.order) (order_file_in options.order))
   catalog ← map_err of_read_fault (reads read_cause (is_fit_catalog options.buildpacks) (catalog_in options.buildpacks))
@@ -42,7 +42,7 @@ prepares source options env = do
   gives cause_of (Ok (record { order = order; catalog = catalog; frame = frame_of options env target files }))
 
 -- what stands where these steps read is of the kind that they need
-abbrev pub is_fit_preparation : TargetSource → DetectWords → Tree → Bool
+abbrev pub is_fit_preparation : TargetSource → ChoiceWords → Tree → Bool
 is_fit_preparation source options files =
     is_fit_order_file options.order files && is_fit_catalog options.buildpacks files && is_fit_source source options.work files
     && is_fit_platform options.platform files

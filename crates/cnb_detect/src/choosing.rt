@@ -1,6 +1,6 @@
 // The choice of a group and its plan.
 ghost use Rattle.std.specs.Prelude.{◌≡◌, ◌<◌, ℕ, IfOk, IsOk, IsTrue, length};
-ghost use Rattle.cnb_words.specs.Detect.{KeepsLimits};
+ghost use Rattle.cnb_words.specs.Choice.{KeepsLimits};
 ghost use Rattle.order_expand.specs.Check.{checked};
 ghost use Rattle.run_docs.specs.Group.{is_group_doc};
 ghost use Rattle.run_docs.specs.Plan.{is_plan_doc};
@@ -15,7 +15,7 @@ ghost use Rattle.cnb_detect.specs.Refusals.{cause_of};
 use crate::preparation::{Prepared, prepare};
 use crate::refusal::DetectRefusal;
 use crate::target::TargetSource;
-use cnb_words::DetectWords;
+use cnb_words::ChoiceWords;
 use cnb_world::{Env, Spawner, World};
 use detect_core::{Chosen, detect};
 use std::alloc::Global;
@@ -54,7 +54,7 @@ pub fn choose_group<W: World, S: Spawner + Send, R: Threads + Sync>(
     rt: &R,
     alloc: Global,
     source: &TargetSource,
-    options: &DetectWords,
+    options: &ChoiceWords,
     env: &Env,
     world: &mut W,
     spawners: &mut Vec<S>,

@@ -1,6 +1,6 @@
 // The command `detect`.
 ghost use Rattle.std.specs.Prelude.{◌≡◌, ◌<◌, length};
-ghost use Rattle.cnb_words.specs.Detect.{KeepsLimits};
+ghost use Rattle.cnb_words.specs.Choice.{KeepsLimits};
 ghost use Rattle.steps.specs.Asking.{CountsSpawners};
 ghost use Rattle.steps.specs.Causes.{CountsFiles};
 ghost use Rattle.steps.specs.Outside.{faults_of, outside, spawners_seen};
@@ -14,7 +14,7 @@ use crate::documents::write_choice;
 use crate::refusal::DetectRefusal;
 use crate::report::choice_text;
 use crate::target::TargetSource;
-use cnb_words::DetectWords;
+use cnb_words::ChoiceWords;
 use cnb_world::{Env, Spawner, Text, World};
 use std::alloc::Global;
 use std::thread::Threads;
@@ -24,7 +24,7 @@ use std::thread::Threads;
 pub fn detect<W: World, S: Spawner + Send, R: Threads + Sync>(
     rt: &R,
     alloc: Global,
-    options: &DetectWords,
+    options: &ChoiceWords,
     env: &Env,
     world: &mut W,
     spawners: &mut Vec<S>,

@@ -14,7 +14,7 @@ mod target;
 pub use choosing::choose_group;
 pub use detection::detect;
 pub use documents::write_choice;
-pub use preparation::Prepared;
+pub use preparation::{Prepared, prepare};
 pub use refusal::DetectRefusal;
 pub use report::choice_text;
 pub use target::TargetSource;

@@ -1,7 +1,7 @@
 // What a detection is made of.
 ghost use Rattle.std.specs.Prelude.{◌≡◌, ℕ, List as Seq, IfOk, IsOk, IsTrue};
 ghost use Rattle.cnb_env.specs.Base.{is_named_target};
-ghost use Rattle.cnb_words.specs.Detect.{KeepsLimits};
+ghost use Rattle.cnb_words.specs.Choice.{KeepsLimits};
 ghost use Rattle.order_expand.specs.Check.{checked};
 ghost use Rattle.detect_core.specs.Search.{is_short};
 ghost use Rattle.steps.specs.Asking.{CountsSpawners};
@@ -16,7 +16,7 @@ use crate::target::{TargetSource, take_target};
 use bp_docs::Order;
 use cnb_env::{EnvFile, platform_files};
 use cnb_toml::Target;
-use cnb_words::DetectWords;
+use cnb_words::ChoiceWords;
 use cnb_world::{Env, List, Memory, World};
 use detect_core::DetectFrame;
 use order_expand::{Catalog, check};
@@ -33,7 +33,7 @@ pub struct Prepared {
 
 fn frame(
     alloc: Global,
-    options: &DetectWords,
+    options: &ChoiceWords,
     env: &Env,
     target: Option<Target>,
     files: List<EnvFile>,
@@ -53,10 +53,10 @@ fn frame(
 
 /// Reads the order, the buildpacks, the target, unless it is given, and the platform's environment files, and refuses
 /// an order that can't be expanded.
-pub(crate) fn prepare<W: World>(
+pub fn prepare<W: World>(
     alloc: Global,
     source: &TargetSource,
-    options: &DetectWords,
+    options: &ChoiceWords,
     env: &Env,
     world: &mut W,
 ) -> Result<Prepared, DetectRefusal>
