@@ -1,0 +1,12 @@
+pub mod Texts
+pub mod Runs
+pub mod Readings
+pub mod Slots
+pub mod SlotNumbers
+pub mod Parts
+pub mod Sharing
+pub mod Laying
+pub mod InOne
+pub mod Listing
+pub mod CutTrees
+pub mod CutSlots
