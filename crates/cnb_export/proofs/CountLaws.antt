@@ -1,5 +1,6 @@
 -- What an export does to the counts of the world, by what ended it.
 use Rattle.std.proofs.Common.{◌≡◌, refl, ℕ, ◌&&◌, ◌||◌, Bool, true, false, List, [], ◌∷◌, Option, Some, None, Result}
+use Rattle.app_slices.specs.Slots.{Slices}
 use Rattle.cnb_env.specs.Files.{is_absent}
 use Rattle.cnb_toml.specs.declared.fault.DocFault.{DocFault}
 use Rattle.cnb_toml.specs.declared.process.Process.{Process}
@@ -33,7 +34,7 @@ use Rattle.cnb_export.specs.declared.fault.ExportFault.TheVariants.{Store}
 use Rattle.cnb_export.specs.declared.layer.FoundLayer.{FoundLayer}
 use Rattle.cnb_export.specs.declared.layer.LayerTree.{LayerTree}
 use Rattle.cnb_export.specs.declared.refusal.ExportRefusal.TheVariants.{Fault}
-use Rattle.cnb_export.specs.Buildpack.{exports_buildpack, exports_documents, exports_group, exports_layers, reads_launch, reads_store}
+use Rattle.cnb_export.specs.Buildpack.{exports_buildpack, exports_documents, exports_group, exports_layers, exports_store, reads_launch, reads_store}
 use Rattle.cnb_export.specs.Command.{exports_command, exports_given, finishes_export, saves_image, saves_readable_image}
 use Rattle.cnb_export.specs.Exports.{exports, gains}
 use Rattle.cnb_export.specs.Gathering.{exports_found, exports_layer, exports_some}
@@ -44,7 +45,8 @@ use Rattle.cnb_export.specs.Names.{lists_unless, reads_layer_names, reads_names}
 use Rattle.cnb_export.specs.Reading.{reads_as, reads_some}
 use Rattle.cnb_export.specs.Refusals.{cause_of, of_image_fault}
 use Rattle.cnb_export.specs.Settling.{checks_reused, decision_of, looks_for_stored, reuses, row_of, settles_by}
-use Rattle.cnb_export.specs.Trees.{puts_links, puts_process, puts_trees}
+use Rattle.cnb_export.specs.Trees.{cuts_app, puts_app, puts_links, puts_part, puts_parts, puts_process, puts_trees, puts_whole}
+use Rattle.cnb_export.proofs.PatternLaws.{slices_counts}
 
 same_cause : (fault : ImageFault) → cause_of (of_image_fault fault) ≡ image_files.cause_of fault
 same_cause (image.NoImage name) = refl
@@ -178,10 +180,11 @@ unfolding reads_store
 read_store_counts folder = obeys_bind _ _ _ _ files_link (obeys_gives _ _ _ files_rest) (λ path. read_some_counts _ path)
 
 export_documents_counts : (folder id : List ℕ) (gathered : Gathered) → Obeys FileCounts cause_of (exports_documents folder id gathered)
-unfolding exports_documents
+unfolding exports_documents exports_store
 export_documents_counts folder id gathered =
     obeys_bind _ _ _ _ files_link (read_launch_counts folder id)
-    (λ launch. obeys_bind _ _ _ _ files_link (read_store_counts folder) (λ store. obeys_gives _ _ _ files_rest))
+    (λ launch. obeys_bind _ _ _ _ files_link (slices_counts id launch.slices)
+    (λ slices. obeys_bind _ _ _ _ files_link (read_store_counts folder) (λ store. obeys_gives _ _ _ files_rest)))
 
 export_layers_counts : (store : List ℕ) (previous : List LayerRow) (id folder : List ℕ) (gathered : Gathered) → Obeys FileCounts cause_of (exports_layers store previous id folder gathered)
 unfolding exports_layers
@@ -213,13 +216,32 @@ put_process_counts store (process ∷ processes) =
     obeys_bind _ _ _ _ files_link (obeys_gives _ _ _ files_rest)
     (λ tree. obeys_bind _ _ _ _ files_link (of_store _ (put_tree_counts store tree)) (λ digest. obeys_yields _ _ _ files_rest))
 
-put_trees_counts : (frame : ExportFrame) (processes : List Process) → Obeys FileCounts cause_of (puts_trees frame processes)
+put_whole_counts : (store app : List ℕ) → Obeys FileCounts cause_of (puts_whole store app)
+unfolding puts_whole
+put_whole_counts store app = obeys_bind _ _ _ _ files_link (of_store _ (put_folder_counts store app)) (λ digest. obeys_gives _ _ _ files_rest)
+
+cut_app_counts : (app : List ℕ) (slices : Slices) → Obeys FileCounts cause_of (cuts_app app slices)
+unfolding cuts_app
+cut_app_counts app slices = obeys_bind _ _ _ _ files_link (of_store _ (read_tree_counts app)) (λ tree. obeys_gives _ _ _ files_rest)
+
+put_part_counts : (store : List ℕ) (tree : Node) (digests : List (List ℕ)) → Obeys FileCounts cause_of (puts_part store tree digests)
+unfolding puts_part
+put_part_counts store tree digests = obeys_bind _ _ _ _ files_link (of_store _ (put_tree_counts store tree)) (λ digest. obeys_gives _ _ _ files_rest)
+
+put_app_counts : (store app : List ℕ) (slices : Slices) → Obeys FileCounts cause_of (puts_app store app slices)
+unfolding puts_parts
+put_app_counts store app [] = put_whole_counts store app
+put_app_counts store app (slice ∷ slices) =
+    obeys_bind _ _ _ _ files_link (cut_app_counts app (slice ∷ slices))
+    (λ parts. obeys_each _ _ _ files_link files_rest (put_part_counts store) parts [])
+
+put_trees_counts : (frame : ExportFrame) (slices : Slices) (processes : List Process) → Obeys FileCounts cause_of (puts_trees frame slices processes)
 unfolding puts_trees
-put_trees_counts frame processes =
-    obeys_bind _ _ _ _ files_link (of_store _ (put_folder_counts frame.store frame.app))
+put_trees_counts frame slices processes =
+    obeys_bind _ _ _ _ files_link (put_app_counts frame.store frame.app slices)
     (λ app. obeys_bind _ _ _ _ files_link (of_store _ (put_folder_counts frame.store frame.launcher))
     (λ launcher. obeys_bind _ _ _ _ files_link (obeys_gives _ _ _ files_rest)
-    (λ last. obeys_bind _ _ _ _ files_link (put_process_counts frame.store last) (λ process. obeys_gives _ _ _ files_rest))))
+    (λ last. obeys_bind _ _ _ _ files_link (put_process_counts frame.store last) (λ process. obeys_yields _ _ _ files_rest))))
 
 gain_counts : (frame : ExportFrame) (group : List GroupRow) (analyzed : Analyzed) → Obeys FileCounts cause_of (gains frame group analyzed)
 unfolding gains
@@ -227,7 +249,7 @@ gain_counts frame group analyzed =
     obeys_bind _ _ _ _ files_link (of_images _ (images.run_image_counts frame.store analyzed.run))
     (λ run. obeys_bind _ _ _ _ files_link (read_previous_counts frame.store analyzed.previous)
     (λ previous. obeys_bind _ _ _ _ files_link (export_group_counts frame previous group)
-    (λ gathered. obeys_bind _ _ _ _ files_link (put_trees_counts frame gathered.processes)
+    (λ gathered. obeys_bind _ _ _ _ files_link (put_trees_counts frame gathered.slices gathered.processes)
     (λ digests. obeys_bind _ _ _ _ files_link (obeys_gives _ _ _ files_rest)
     (λ image. obeys_bind _ _ _ _ files_link (obeys_gives _ _ _ files_rest) (λ rows. obeys_yields _ _ _ files_rest))))))
 

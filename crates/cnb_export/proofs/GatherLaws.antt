@@ -7,6 +7,7 @@ use Rattle.std.proofs.lemmas.Bool.{and_from, and_left, and_parts, and_right, fal
 use Rattle.std.proofs.lemmas.List.{map-append}
 use Rattle.std.proofs.lemmas.List.Folds.{list_all-append, list_any-append}
 use Rattle.std.proofs.lemmas.Slice.Eq.{bytes_eq-Decides}
+use Rattle.app_slices.specs.Slots.{Slices}
 use Rattle.cnb_toml.specs.Distinct.{are_distinct, has_key, is_new}
 use Rattle.cnb_toml.specs.DistinctLaws.{bytes_eq-symmetric}
 use Rattle.cnb_toml.specs.Label.{is_label}
@@ -28,7 +29,7 @@ use Rattle.steps.specs.Each.{for_each}
 use Rattle.steps.specs.Outside.{Seen}
 use Rattle.steps.specs.Steps.{◌>>=◌, gives, yields}
 use Rattle.tree_canon.specs.declared.node.Node.{Node}
-use Rattle.cnb_export.specs.Buildpack.{exports_buildpack, exports_documents, exports_group, exports_layers, with_documents, with_store}
+use Rattle.cnb_export.specs.Buildpack.{exports_buildpack, exports_documents, exports_group, exports_layers, exports_store, with_documents, with_store}
 use Rattle.cnb_export.specs.Gathering.{exports_layer, nothing_gathered, with_image, with_kept, with_row}
 use Rattle.cnb_export.specs.Image.{layer_of}
 use Rattle.cnb_export.specs.declared.exported.ExportFrame.{ExportFrame}
@@ -172,9 +173,9 @@ module _ (row : GroupRow) (rest : List GroupRow) (new : is_listed rest row.key.i
       list_any-append (λ (r : StoreRow). bytes_eq (store_id r) other) rows (record { id = row.key.id; meta = store.meta } ∷ [])
       ∙ or_from (has_key bytes_eq store_id rows other) (bytes_eq row.key.id other || false) h (or_from (bytes_eq row.key.id other) false apart refl)
 
-  documents_gather : (gathered : Gathered) (launch : LaunchToml) (store : Option StoreToml) → Gathers (row ∷ rest) gathered → is_launch_toml launch ≡ true → is_store_left store ≡ true
-      → Gathers rest (with_documents gathered row.key.id launch store)
-  documents_gather gathered launch store h is-launch left =
+  documents_gather : (gathered : Gathered) (launch : LaunchToml) (slices : Slices) (store : Option StoreToml) → Gathers (row ∷ rest) gathered → is_launch_toml launch ≡ true → is_store_left store ≡ true
+      → Gathers rest (with_documents gathered row.key.id launch slices store)
+  documents_gather gathered launch slices store h is-launch left =
       let parts = and_parts (list_all is_label launch.labels) (list_all is_process launch.processes) is-launch in
       record {
         labels = list_all-append is_label gathered.labels launch.labels ∙ and_from (list_all is_label gathered.labels) (list_all is_label launch.labels) h.labels parts.0;
@@ -220,13 +221,13 @@ module _ (row : GroupRow) (rest : List GroupRow) (new : is_listed rest row.key.i
   }
 
   buildpack_gathers : (frame : ExportFrame) (previous : List LayerRow) (gathered all : Gathered) (old new : Seen) → Gathers (row ∷ rest) gathered → exports_buildpack frame previous row gathered old (Ok all) new → Gathers rest all
-  unfolding exports_buildpack exports_documents exports_layers ◌>>=◌ gives
-  buildpack_gathers frame previous gathered all old new h (folder, m1, at, (documents, m2, (launch, m3, rl, (store, m4, rs, (same, is, cause))), (names, m5, listed, layers))) =
-      let e : with_documents gathered row.key.id launch store ≡ documents = cc in
-      let read : Gathers rest documents = subst (Gathers rest) e (documents_gather gathered launch store h (launch_left folder row.key.id m1 m3 launch rl) (store_left folder m3 m4 store rs)) in
+  unfolding exports_buildpack exports_documents exports_store exports_layers ◌>>=◌ gives
+  buildpack_gathers frame previous gathered all old new h (folder, m1, at, (documents, m2, (launch, m3, rl, (slices, m4, rp, (store, m5, rs, (same, is, cause)))), (names, m6, listed, layers))) =
+      let e : with_documents gathered row.key.id launch slices store ≡ documents = cc in
+      let read : Gathers rest documents = subst (Gathers rest) e (documents_gather gathered launch slices store h (launch_left folder row.key.id m1 m3 launch rl) (store_left folder m4 m5 store rs)) in
       let start : After row.key.id rest apart_from documents documents names = start_after gathered documents names (ap (λ (g : Gathered). g.layers) (sym e)) (ap (λ (g : Gathered). g.cached) (sym e)) h read in
       layers_gather documents all read
-      (layers_after row.key.id rest apart_from frame.store previous folder names documents documents all m5 new (names_left folder m2 m5 names listed) start layers)
+      (layers_after row.key.id rest apart_from frame.store previous folder names documents documents all m6 new (names_left folder m2 m6 names listed) start layers)
 
 -- ---- a group
 

@@ -9,6 +9,7 @@ pub mod GatherLaws
 pub mod ImageLaws
 pub mod LeftLaws
 pub mod OneImageLaws
+pub mod PatternLaws
 pub mod PlaceLaws
 pub mod ReadSteps
 pub mod StandLaws

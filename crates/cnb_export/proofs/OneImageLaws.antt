@@ -1,5 +1,6 @@
 -- The files alone decide what an export makes: each of its steps is decided by them.
 use Rattle.std.proofs.Common.{◌≡◌, ◌∙◌, refl, sym, ap, subst, ℕ, Bool, true, false, ◌&&◌, ◌||◌, List, [], ◌∷◌, Option, Some, None, Result, Ok, Err, inl, inr, ◌⊎◌}
+use Rattle.app_slices.specs.Slots.{Slices}
 use Rattle.cnb_toml.specs.declared.fault.DocFault.{DocFault}
 use Rattle.cnb_toml.specs.declared.process.Process.{Process}
 use Rattle.cnb_world.specs.Tree.{Tree}
@@ -26,7 +27,7 @@ use Rattle.tree_canon.specs.declared.node.Node.{Node}
 use Rattle.tree_store.specs.Answers as stored
 use Rattle.tree_store.specs.Steps.{looks_for_tree}
 use Rattle.tree_store.specs.declared.fault.StoreFault.{StoreFault}
-use Rattle.cnb_export.specs.Buildpack.{exports_buildpack, exports_documents, exports_layers, one_default, reads_launch, reads_store}
+use Rattle.cnb_export.specs.Buildpack.{exports_buildpack, exports_documents, exports_layers, exports_store, one_default, reads_launch, reads_store}
 use Rattle.cnb_export.specs.Exports.{exports, gains}
 use Rattle.cnb_export.specs.Gathering.{exports_found, exports_layer, exports_some, nothing_gathered}
 use Rattle.cnb_export.specs.Images.{reads_layers, reads_previous}
@@ -36,7 +37,7 @@ use Rattle.cnb_export.specs.OneImage.{AreOneImage, IsOneImage}
 use Rattle.cnb_export.specs.Reading.{reads_as, reads_some}
 use Rattle.cnb_export.specs.Refusals.{cause_of, of_image_fault}
 use Rattle.cnb_export.specs.Settling.{checks_reused, decision_of, looks_for_stored, reuses, row_of, settles_by}
-use Rattle.cnb_export.specs.Trees.{puts_links, puts_process, puts_trees}
+use Rattle.cnb_export.specs.Trees.{cuts_app, puts_app, puts_links, puts_part, puts_parts, puts_process, puts_trees, puts_whole}
 use Rattle.cnb_export.specs.declared.exported.Exported.{Exported}
 use Rattle.cnb_export.specs.declared.exported.ExportFrame.{ExportFrame}
 use Rattle.cnb_export.specs.declared.exported.Gathered.{Gathered}
@@ -46,6 +47,7 @@ use Rattle.cnb_export.specs.declared.fault.ExportFault.TheVariants.{Store}
 use Rattle.cnb_export.specs.declared.layer.FoundLayer.{FoundLayer}
 use Rattle.cnb_export.specs.declared.layer.LayerTree.{LayerTree}
 use Rattle.cnb_export.proofs.DecidedLaws.{AreDecided, always, decided_bind, decided_each, decided_gives, decided_puts, decided_puts_folder, decided_reads, decided_reads_tree, decided_told, decided_yields}
+use Rattle.cnb_export.proofs.PatternLaws.{decided_slices}
 
 -- ---- refusals that are told as an export's
 
@@ -132,6 +134,10 @@ one_check store (Some contents) before = decided_yields cause_of tt
 one_check store None None = decided_yields cause_of tt
 one_check store None (Some row) = one_stored store row.digest
 
+one_cut : (app : List ℕ) (slices : Slices) → AreDecided cause_of (cuts_app app slices)
+unfolding cuts_app
+one_cut app slices = decided_bind cause_of _ _ (of_store _ (decided_reads_tree app)) (λ tree. decided_gives cause_of _)
+
 -- ---- what puts trees too
 
 module _ (store : List ℕ) where
@@ -197,14 +203,29 @@ module _ (store : List ℕ) where
   unfolding puts_links
   one_links processes = decided_bind cause_of _ _ (decided_gives cause_of _) (λ tree. decided_bind cause_of _ _ (of_store _ (decided_puts store tree)) (λ digest. decided_yields cause_of (Some digest)))
 
+  one_whole : (app : List ℕ) → AreDecided cause_of (puts_whole store app)
+  unfolding puts_whole
+  one_whole app = decided_bind cause_of _ _ (of_store _ (decided_puts_folder store app)) (λ digest. decided_gives cause_of _)
+
+  one_part : (tree : Node) (digests : List (List ℕ)) → AreDecided cause_of (puts_part store tree digests)
+  unfolding puts_part
+  one_part tree digests = decided_bind cause_of _ _ (of_store _ (decided_puts store tree)) (λ digest. decided_gives cause_of _)
+
+  one_app : (app : List ℕ) (slices : Slices) → AreDecided cause_of (puts_app store app slices)
+  unfolding puts_parts
+  one_app app [] = one_whole app
+  one_app app (slice ∷ slices) =
+      decided_bind cause_of _ _ (one_cut app (slice ∷ slices)) (λ parts. decided_each cause_of (puts_part store) parts [] (λ tree digests. one_part tree digests))
+
   one_process : (processes : List Process) → AreDecided cause_of (puts_process store processes)
   one_process [] = decided_yields cause_of None
   one_process (process ∷ processes) = one_links (process ∷ processes)
 
 one_documents : (folder id : List ℕ) (gathered : Gathered) → AreDecided cause_of (exports_documents folder id gathered)
-unfolding exports_documents
+unfolding exports_documents exports_store
 one_documents folder id gathered =
-    decided_bind cause_of _ _ (one_launch folder id) (λ launch. decided_bind cause_of _ _ (one_store folder) (λ store. decided_gives cause_of _))
+    decided_bind cause_of _ _ (one_launch folder id)
+    (λ launch. decided_bind cause_of _ _ (decided_slices id launch.slices) (λ slices. decided_bind cause_of _ _ (one_store folder) (λ store. decided_gives cause_of _)))
 
 module _ (frame : ExportFrame) where
   one_buildpack : (previous : List LayerRow) (row : GroupRow) (gathered : Gathered) → AreDecided cause_of (exports_buildpack frame previous row gathered)
@@ -213,13 +234,13 @@ module _ (frame : ExportFrame) where
       decided_bind cause_of _ _ (decided_gives cause_of _)
       (λ folder. decided_bind cause_of _ _ (one_documents folder row.key.id gathered) (λ documents. one_layers frame.store previous row.key.id folder documents))
 
-  one_trees : (processes : List Process) → AreDecided cause_of (puts_trees frame processes)
+  one_trees : (slices : Slices) (processes : List Process) → AreDecided cause_of (puts_trees frame slices processes)
   unfolding puts_trees
-  one_trees processes =
-      decided_bind cause_of _ _ (of_store _ (decided_puts_folder frame.store frame.app))
+  one_trees slices processes =
+      decided_bind cause_of _ _ (one_app frame.store frame.app slices)
       (λ app. decided_bind cause_of _ _ (of_store _ (decided_puts_folder frame.store frame.launcher))
       (λ launcher. decided_bind cause_of _ _ (decided_gives cause_of _)
-      (λ last. decided_bind cause_of _ _ (one_process frame.store last) (λ process. decided_gives cause_of _))))
+      (λ last. decided_bind cause_of _ _ (one_process frame.store last) (λ process. decided_yields cause_of _))))
 
   one_gain : (group : List GroupRow) (analyzed : Analyzed) → AreDecided cause_of (gains frame group analyzed)
   unfolding gains
@@ -227,7 +248,7 @@ module _ (frame : ExportFrame) where
       decided_bind cause_of _ _ (of_image _ (one_run frame.store analyzed.run))
       (λ run. decided_bind cause_of _ _ (one_previous frame.store analyzed.previous)
       (λ previous. decided_bind cause_of _ _ (decided_each cause_of (exports_buildpack frame previous) group nothing_gathered (λ row so_far. one_buildpack previous row so_far))
-      (λ gathered. decided_bind cause_of _ _ (one_trees _)
+      (λ gathered. decided_bind cause_of _ _ (one_trees _ _)
       (λ digests. decided_bind cause_of _ _ (decided_gives cause_of _) (λ image. decided_bind cause_of _ _ (decided_gives cause_of _) (λ rows. decided_yields cause_of _))))))
 
 -- ---- the whole export, in which caches have no say

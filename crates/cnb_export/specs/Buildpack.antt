@@ -1,6 +1,7 @@
 -- What one buildpack left: its documents, and then its layers, ascending.
 use Rattle.std.specs.Prelude.{ℕ, ◌++◌, List, [], ◌∷◌, length, codes, nat_lt, Option, Some, None, Result, Ok, Err, if◌then◌else◌}
 use Rattle.std.specs.List.{filter}
+use Rattle.app_slices.specs.Slots.{Slices}
 use Rattle.cnb_world.specs.Path.{joined}
 use Rattle.cnb_toml.specs.declared.process.Process.{Process}
 use Rattle.image_docs.specs.declared.layer_row.LayerRow.{LayerRow}
@@ -20,6 +21,7 @@ use Rattle.cnb_export.specs.declared.fault.ExportFault.TheVariants.{TwoDefaults}
 use Rattle.cnb_export.specs.Gathering.{exports_layer, nothing_gathered}
 use Rattle.cnb_export.specs.Names.{reads_layer_names}
 use Rattle.layer_paths.specs.Paths.{layers_folder}
+use Rattle.cnb_export.specs.Patterns.{reads_slices}
 use Rattle.cnb_export.specs.Reading.{reads_as, reads_some}
 use Rattle.cnb_export.specs.Refusals.{cause_of}
 
@@ -47,22 +49,30 @@ abbrev pub with_store : List StoreRow → List ℕ → Option StoreToml → List
 with_store rows id None = rows
 with_store rows id (Some store) = rows ++ record { id = id; meta = store.meta } ∷ []
 
-abbrev pub with_documents : Gathered → List ℕ → LaunchToml → Option StoreToml → Gathered
-with_documents gathered id launch store = record {
+abbrev pub with_documents : Gathered → List ℕ → LaunchToml → Slices → Option StoreToml → Gathered
+with_documents gathered id launch slices store = record {
   labels = gathered.labels ++ launch.labels;
   processes = gathered.processes ++ launch.processes;
+  slices = gathered.slices ++ slices;
   store = with_store gathered.store id store;
   layers = gathered.layers;
   cached = gathered.cached;
   trees = gathered.trees;
 }
 
--- `launch.toml`, and then `store.toml`
+-- `store.toml`, behind what `launch.toml` has
+unfoldable pub exports_store : List ℕ → List ℕ → Gathered → LaunchToml → Slices → Seen → Result Gathered ExportFault → Seen
+    → Type 0
+exports_store folder id gathered launch slices = do
+  store ← reads_store folder
+  gives cause_of (Ok (with_documents gathered id launch slices store))
+
+-- `launch.toml` with the patterns of its slices, and then `store.toml`
 unfoldable pub exports_documents : List ℕ → List ℕ → Gathered → Seen → Result Gathered ExportFault → Seen → Type 0
 exports_documents folder id gathered = do
   launch ← reads_launch folder id
-  store ← reads_store folder
-  gives cause_of (Ok (with_documents gathered id launch store))
+  slices ← reads_slices id launch.slices
+  exports_store folder id gathered launch slices
 
 -- the layers, ascending
 unfoldable pub exports_layers : List ℕ → List LayerRow → List ℕ → List ℕ → Gathered → Seen → Result Gathered ExportFault → Seen → Type 0

@@ -41,7 +41,7 @@ gains frame group analyzed = do
   run ← reads_run_image frame.store analyzed.run
   previous ← reads_previous frame.store analyzed.previous
   gathered ← exports_group frame previous group
-  digests ← puts_trees frame gathered.processes
+  digests ← puts_trees frame gathered.slices gathered.processes
   image ← gives cause_of (Ok (image_of analyzed.run run group gathered digests))
   rows ← gives cause_of (Ok (map exported_row gathered.layers))
   yields (record { image = image; rows = rows; cached = gathered.cached; trees = gathered.trees })
@@ -50,7 +50,7 @@ gains frame group analyzed = do
 unfoldable pub gains_over : ExportFrame → List GroupRow → List ℕ → RunDoc → List LayerRow → Seen → Result Gained ExportFault → Seen → Type 0
 gains_over frame group name run previous = do
   gathered ← exports_group frame previous group
-  digests ← puts_trees frame gathered.processes
+  digests ← puts_trees frame gathered.slices gathered.processes
   image ← gives cause_of (Ok (image_of name run group gathered digests))
   rows ← gives cause_of (Ok (map exported_row gathered.layers))
   yields (record { image = image; rows = rows; cached = gathered.cached; trees = gathered.trees })

@@ -15,7 +15,7 @@ use Rattle.cnb_export.specs.Refusals.{cause_of}
 use Rattle.cnb_export.specs.Settling.{settles}
 
 abbrev pub nothing_gathered : Gathered
-nothing_gathered = record { labels = []; processes = []; store = []; layers = []; cached = []; trees = [] }
+nothing_gathered = record { labels = []; processes = []; slices = []; store = []; layers = []; cached = []; trees = [] }
 
 -- the tree of each layer that goes into caches has the digest of its row
 abbrev pub AreMatched : Gathered → Type 0
@@ -39,6 +39,7 @@ abbrev pub with_layer : Gathered → Kept → Gathered
 with_layer gathered kept = record {
   labels = gathered.labels;
   processes = gathered.processes;
+  slices = gathered.slices;
   store = gathered.store;
   layers = with_image gathered.layers kept.row kept.reused;
   cached = with_row gathered.cached kept.row kept.tree;

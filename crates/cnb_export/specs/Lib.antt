@@ -10,6 +10,7 @@ pub mod Images
 pub mod Layer
 pub mod Names
 pub mod OneImage
+pub mod Patterns
 pub mod Processes
 pub mod Reading
 pub mod Refusals

@@ -7,12 +7,13 @@ use Rattle.steps.specs.Causes.{Cause, Decided}
 use Rattle.tree_store.specs.Answers as store
 use Rattle.tree_store.specs.declared.fault.StoreFault.TheVariants as stored
 use Rattle.cnb_export.specs.declared.fault.ExportFault.{ExportFault}
-use Rattle.cnb_export.specs.declared.fault.ExportFault.TheVariants.{NoContents, NoPrevious, TwoDefaults, NoImage, Document, Store}
+use Rattle.cnb_export.specs.declared.fault.ExportFault.TheVariants.{NoContents, NoPrevious, TwoDefaults, BadPattern, NoImage, Document, Store}
 
 abbrev pub cause_of : ExportFault → Cause
 cause_of (NoContents id layer) = Decided
 cause_of (NoPrevious id layer) = Decided
 cause_of (TwoDefaults id) = Decided
+cause_of (BadPattern id pattern) = Decided
 cause_of (NoImage name) = Decided
 cause_of (Document path fault) = Decided
 cause_of (Store fault) = store.cause_of fault

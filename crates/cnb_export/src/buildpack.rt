@@ -1,9 +1,9 @@
 // What one buildpack left.
-ghost use Rattle.std.specs.Prelude.{◌≡◌, ◌++◌, ◌≤◌, IfErr, IfOk, OnOk, length};
+ghost use Rattle.std.specs.Prelude.{◌≡◌, ◌++◌, ◌≤◌, [], IfErr, IfOk, None, OnOk, length};
 ghost use Rattle.steps.specs.Causes.{IsAnswer, IsGivenCause};
 ghost use Rattle.steps.specs.Each.{for_each};
 ghost use Rattle.steps.specs.Outside.{seen};
-ghost use Rattle.cnb_export.specs.Buildpack.{defaults_of, exports_buildpack, exports_documents, exports_group, exports_layers, one_default, reads_launch, reads_store, with_documents, with_store};
+ghost use Rattle.cnb_export.specs.Buildpack.{defaults_of, exports_buildpack, exports_documents, exports_group, exports_layers, exports_store, one_default, reads_launch, reads_store, with_documents, with_store};
 ghost use Rattle.cnb_export.specs.Frame.{KeepsLimits};
 ghost use Rattle.cnb_export.specs.Gathering.{AreMatched, exports_layer};
 ghost use Rattle.cnb_export.specs.Refusals.{cause_of};
@@ -12,7 +12,9 @@ use crate::exported::{ExportFrame, Gathered};
 use crate::fault::ExportFault;
 use crate::gathering::{export_layer, nothing_gathered};
 use crate::names::read_layer_names;
+use crate::patterns::parse_slices;
 use crate::reading::{read_launch_toml, read_store_toml};
+use app_slices::Pattern;
 use cnb_toml::{BpId, LayerName};
 use cnb_world::{List, Memory, Path, World};
 use image_docs::{LayerRow, StoreRow};
@@ -95,34 +97,70 @@ fn push_store(
     }
 }
 
-fn with_documents(
-    alloc: Global,
+fn with_launch(
     gathered: Gathered,
-    id: &BpId,
     launch: LaunchToml,
-    store: Option<StoreToml>,
+    more: List<List<Pattern>>,
 ) -> Result<Gathered, Memory>
     requires { AreMatched gathered }
-    ensures documents { IfOk result (λ all. all ≡ with_documents gathered id.now launch store) }
+    ensures documents { IfOk result (λ all. all ≡ with_documents gathered [] launch more None) }
     ensures matched { IfOk result AreMatched }
 {
     let Gathered {
         labels,
         processes,
-        store: mut rows,
+        slices,
+        store,
         layers,
         cached,
         trees,
     } = gathered;
-    push_store(alloc, &mut rows, id, store)?;
     Ok(Gathered {
         labels: joined(labels, launch.labels)?,
         processes: joined(processes, launch.processes)?,
-        store: rows,
+        slices: joined(slices, more)?,
+        store,
         layers,
         cached,
         trees,
     })
+}
+
+fn with_documents(
+    alloc: Global,
+    gathered: Gathered,
+    id: &BpId,
+    launch: LaunchToml,
+    more: List<List<Pattern>>,
+    store: Option<StoreToml>,
+) -> Result<Gathered, Memory>
+    requires { AreMatched gathered }
+    ensures documents { IfOk result (λ all. all ≡ with_documents gathered id.now launch more store) }
+    ensures matched { IfOk result AreMatched }
+{
+    let mut all = with_launch(gathered, launch, more)?;
+    push_store(alloc, &mut all.store, id, store)?;
+    Ok(all)
+}
+
+fn export_store<W: World>(
+    alloc: Global,
+    world: &mut W,
+    folder: &Path,
+    id: &BpId,
+    gathered: Gathered,
+    launch: LaunchToml,
+    slices: List<List<Pattern>>,
+) -> Result<Gathered, ExportFault>
+    requires folder { length folder.now ≤ 4352 }
+    requires matched { AreMatched gathered }
+    ensures step { exports_store folder.now id.now gathered launch slices (seen W.World world.old) result
+        (seen W.World world.new) }
+    ensures matched { IfOk result AreMatched }
+{
+    let store = read_store(alloc, world, folder)?;
+    let all = with_documents(alloc, gathered, id, launch, slices, store)?;
+    Ok(all)
 }
 
 fn export_documents<W: World>(
@@ -139,9 +177,8 @@ fn export_documents<W: World>(
     ensures matched { IfOk result AreMatched }
 {
     let launch = read_launch(alloc, world, folder, id)?;
-    let store = read_store(alloc, world, folder)?;
-    let all = with_documents(alloc, gathered, id, launch, store)?;
-    Ok(all)
+    let slices = parse_slices(alloc, id, launch.slices.as_slice())?;
+    export_store(alloc, world, folder, id, gathered, launch, slices)
 }
 
 fn export_each<W: World>(

@@ -1,4 +1,5 @@
 // What an image is made of, and what an export comes to.
+use app_slices::Pattern;
 use cnb_toml::{BpId, Label, LayerName, Process};
 use cnb_world::{List, Path};
 use image_docs::{ImageDoc, LayerRow, StoreRow};
@@ -20,20 +21,21 @@ pub(crate) struct ImageLayer {
     pub reused: bool,
 }
 
-/// What buildpacks left, each list in the order of the group: labels and processes of their `launch.toml`, what their
-/// `store.toml` keeps, the layers that go into the image, and those that go into caches, with their trees.
+/// What buildpacks left, each list in the order of the group: labels, processes and slices of their `launch.toml`, what
+/// their `store.toml` keeps, the layers that go into the image, and those that go into caches, with their trees.
 #[derive(Drop)]
 pub(crate) struct Gathered {
     pub labels: List<Label>,
     pub processes: List<Process>,
+    pub slices: List<List<Pattern>>,
     pub store: List<StoreRow>,
     pub layers: List<ImageLayer>,
     pub cached: List<LayerRow>,
     pub trees: List<Tree>,
 }
 
-/// The digests of the trees above the layers: the application's, the launcher's, and that of the links of the process
-/// types, where there is one.
+/// The digests of the trees above the layers: those of the application, the launcher's, and that of the links of the
+/// process types, where there is one.
 #[derive(Drop)]
 pub(crate) struct Digests {
     pub app: List<Digest>,

@@ -107,7 +107,13 @@ fn gain_over<W: World>(
 {
     named(name);
     let gathered = export_group(alloc, world, frame, previous, group.as_slice())?;
-    let digests = put_trees(alloc, world, frame, gathered.processes.as_slice())?;
+    let digests = put_trees(
+        alloc,
+        world,
+        frame,
+        &gathered.slices,
+        gathered.processes.as_slice(),
+    )?;
     let gained = assemble(alloc, name, run, group, gathered, &digests)?;
     Ok(gained)
 }
@@ -140,7 +146,9 @@ fn gain<W: World>(
 
 /// Exports an image: what the buildpacks of a group left, the application and the launcher. Trees go into the store and
 /// into the caches that stand; no image document is written. Trees that were put stay after a refusal (platform.md,
-/// "exporter"). The folders of the frame have at most 4,096 bytes.
+/// "exporter"). Where no `launch.toml` has `slices`, nothing of the application is held in memory; else it is held
+/// whole, and then the trees that it is cut into (buildpack.md, "launch.toml (TOML)"). The folders of the frame have at
+/// most 4,096 bytes.
 pub fn export<W: World>(
     alloc: Global,
     world: &mut W,

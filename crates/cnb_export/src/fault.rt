@@ -1,6 +1,6 @@
 // Why exports are refused.
 use cnb_toml::{BpId, DocFault, ImageName, LayerName};
-use cnb_world::{Memory, Path};
+use cnb_world::{Memory, Path, Text};
 use doc_files::ReadFault;
 use image_files::ImageFault;
 use std::alloc::AllocError;
@@ -15,6 +15,8 @@ pub enum ExportFault {
     NoPrevious(BpId, LayerName),
     /// The `launch.toml` of this buildpack marks two defaults.
     TwoDefaults(BpId),
+    /// This text among the `slices` of this buildpack's `launch.toml` is no pattern.
+    BadPattern(BpId, Text),
     /// There is no image of this name.
     NoImage(ImageName),
     /// The document at this path is refused.

@@ -25,6 +25,7 @@ pub(crate) fn nothing_gathered(alloc: Global) -> Gathered
     Gathered {
         labels: List::new(alloc),
         processes: List::new(alloc),
+        slices: List::new(alloc),
         store: List::new(alloc),
         layers: List::new(alloc),
         cached: List::new(alloc),

@@ -14,6 +14,7 @@ mod image;
 mod images;
 mod layer;
 mod names;
+mod patterns;
 mod processes;
 mod reading;
 mod refusal;

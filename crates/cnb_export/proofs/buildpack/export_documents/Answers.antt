@@ -1,9 +1,8 @@
-use Rattle.std.proofs.Common.{ap, refl, sym, Ok}
 use Rattle.std.proofs.lemmas.Result.{err_from_is_err_and}
-use Rattle.steps.proofs.StepLemmas.{ended, given, no_memory, went}
-use Rattle.tree_store.specs.declared.fault.StoreFault.TheVariants as stored
-use Rattle.cnb_export.specs.declared.fault.ExportFault.TheVariants.{Store}
+use Rattle.steps.proofs.StepLemmas.{ended, went}
 use Rattle.cnb_export.specs.Buildpack.{exports_documents}
+use Rattle.cnb_export.specs.Patterns.{reads_slices}
+use Rattle.cnb_export.proofs.ReadSteps.{same_for}
 use Rattle.cnb_export.proofs.buildpack.export_documents.Goals as goal
 
 pub returns-in_err-launch-clause-step : goal.returns-in_err-launch-clause-step
@@ -12,19 +11,13 @@ returns-in_err-launch-clause-step g c =
     let exit = err_from_is_err_and c.from_residual.result c.from_residual.ensures.1 in
     rw (exit.1, exit.2) (ended _ _ _ _ _ c.in_err-launch.ensures.step)
 
-pub returns-in_err-store-clause-step : goal.returns-in_err-store-clause-step
+pub returns-in_err-slices-clause-step : goal.returns-in_err-slices-clause-step
 unfolding exports_documents
-returns-in_err-store-clause-step g c =
-    let exit = err_from_is_err_and c.from_residual-in_err-store.result c.from_residual-in_err-store.ensures.1 in
-    rw (exit.1, exit.2) (went _ _ _ _ _ _ _ c.in_ok-launch.ensures.step (ended _ _ _ _ _ c.in_err-store.ensures.step))
-
-pub returns-in_err-all-clause-step : goal.returns-in_err-all-clause-step
-unfolding exports_documents
-returns-in_err-all-clause-step g c =
-    let exit = err_from_is_err_and c.from_residual-in_err-all.result c.from_residual-in_err-all.ensures.1 in
-    rw (exit.1, exit.2) (went _ _ _ _ _ _ _ c.in_ok-launch.ensures.step (went _ _ _ _ _ _ _ c.in_ok-store.ensures.step ((no_memory _ _ _ (Store stored.Memory) refl))))
+returns-in_err-slices-clause-step g c =
+    let exit = err_from_is_err_and c.from_residual-in_err-slices.result c.from_residual-in_err-slices.ensures.1 in
+    rw (exit.1, exit.2) (went _ _ _ _ _ _ _ c.in_ok-launch.ensures.step (ended _ _ _ _ _ (same_for (reads_slices c.args.id.now) _ _ _ _ _ c.as_slice.ensures (c.in_err-slices.ensures.step _))))
 
 pub returns-clause-step : goal.returns-clause-step
 unfolding exports_documents
 returns-clause-step g c =
-    went _ _ _ _ _ _ _ c.in_ok-launch.ensures.step (went _ _ _ _ _ _ _ c.in_ok-store.ensures.step ((given _ _ _ _ (ap Ok (sym c.in_ok-all.ensures.documents)))))
+    went _ _ _ _ _ _ _ c.in_ok-launch.ensures.step (went _ _ _ _ _ _ _ (same_for (reads_slices c.args.id.now) _ _ _ _ _ c.as_slice.ensures (c.in_ok-slices.ensures.step _)) c.export_store.ensures.step)

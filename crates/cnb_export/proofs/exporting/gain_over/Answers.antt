@@ -28,19 +28,19 @@ pub returns-in_err-digests-clause-step : goal.returns-in_err-digests-clause-step
 unfolding gains_over
 returns-in_err-digests-clause-step g c =
     let exit = err_from_is_err_and c.from_residual-in_err-digests.result c.from_residual-in_err-digests.ensures.1 in
-    rw (exit.1, exit.2) (went _ _ _ _ _ _ _ (same_for (exports_group c.args.frame.now c.args.previous.now) _ _ _ _ _ c.as_slice.ensures c.in_ok-gathered.ensures.step) (ended _ _ _ _ _ (same_for (puts_trees c.args.frame.now) _ _ _ _ _ c.as_slice-2.ensures c.in_err-digests.ensures.step)))
+    rw (exit.1, exit.2) (went _ _ _ _ _ _ _ (same_for (exports_group c.args.frame.now c.args.previous.now) _ _ _ _ _ c.as_slice.ensures c.in_ok-gathered.ensures.step) (ended _ _ _ _ _ (same_for (puts_trees c.args.frame.now c.in_ok-gathered.gathered.slices) _ _ _ _ _ c.as_slice-2.ensures c.in_err-digests.ensures.step)))
 
 pub returns-in_err-gained-clause-step : goal.returns-in_err-gained-clause-step
 unfolding gains_over
 returns-in_err-gained-clause-step g c =
     let exit = err_from_is_err_and c.from_residual-in_err-gained.result c.from_residual-in_err-gained.ensures.1 in
-    rw (exit.1, exit.2) (went _ _ _ _ _ _ _ (same_for (exports_group c.args.frame.now c.args.previous.now) _ _ _ _ _ c.as_slice.ensures c.in_ok-gathered.ensures.step) (went _ _ _ _ _ _ _ (same_for (puts_trees c.args.frame.now) _ _ _ _ _ c.as_slice-2.ensures c.in_ok-digests.ensures.step) (ended _ _ _ _ _ (no_memory _ _ _ (Store stored.Memory) refl))))
+    rw (exit.1, exit.2) (went _ _ _ _ _ _ _ (same_for (exports_group c.args.frame.now c.args.previous.now) _ _ _ _ _ c.as_slice.ensures c.in_ok-gathered.ensures.step) (went _ _ _ _ _ _ _ (same_for (puts_trees c.args.frame.now c.in_ok-gathered.gathered.slices) _ _ _ _ _ c.as_slice-2.ensures c.in_ok-digests.ensures.step) (ended _ _ _ _ _ (no_memory _ _ _ (Store stored.Memory) refl))))
 
 pub returns-clause-step : goal.returns-clause-step
 unfolding gains_over
 returns-clause-step g c =
     subst (λ (gained : Gained). gains_over c.args.frame.now c.args.group.now c.args.name.now c.args.run.now c.args.previous.now (seen g.W.World c.args.world.now) (Ok gained) (seen g.W.World c.put_trees.new.world)) (sym c.in_ok-gained.ensures.gained)
-    (went _ _ _ _ _ _ _ (same_for (exports_group c.args.frame.now c.args.previous.now) _ _ _ _ _ c.as_slice.ensures c.in_ok-gathered.ensures.step) (went _ _ _ _ _ _ _ (same_for (puts_trees c.args.frame.now) _ _ _ _ _ c.as_slice-2.ensures c.in_ok-digests.ensures.step) (went _ _ _ _ _ _ _ (given _ _ _ _ refl) (went _ _ _ _ _ _ _ (given _ _ _ _ refl) (yielded ExportFault _ _)))))
+    (went _ _ _ _ _ _ _ (same_for (exports_group c.args.frame.now c.args.previous.now) _ _ _ _ _ c.as_slice.ensures c.in_ok-gathered.ensures.step) (went _ _ _ _ _ _ _ (same_for (puts_trees c.args.frame.now c.in_ok-gathered.gathered.slices) _ _ _ _ _ c.as_slice-2.ensures c.in_ok-digests.ensures.step) (went _ _ _ _ _ _ _ (given _ _ _ _ refl) (went _ _ _ _ _ _ _ (given _ _ _ _ refl) (yielded ExportFault _ _)))))
 
 pub returns-clause-readable : goal.returns-clause-readable
 returns-clause-readable g c = λ distinct.

@@ -1,0 +1,23 @@
+use Rattle.std.proofs.Common.{ap, refl, sym, Ok}
+use Rattle.std.proofs.lemmas.Result.{err_from_is_err_and}
+use Rattle.steps.proofs.StepLemmas.{ended, given, no_memory, went}
+use Rattle.tree_store.specs.declared.fault.StoreFault.TheVariants as stored
+use Rattle.cnb_export.specs.declared.fault.ExportFault.TheVariants.{Store}
+use Rattle.cnb_export.specs.Buildpack.{exports_store}
+use Rattle.cnb_export.proofs.buildpack.export_store.Goals as goal
+
+pub returns-in_err-store-clause-step : goal.returns-in_err-store-clause-step
+unfolding exports_store
+returns-in_err-store-clause-step g c =
+    let exit = err_from_is_err_and c.from_residual.result c.from_residual.ensures.1 in
+    rw (exit.1, exit.2) (ended _ _ _ _ _ c.in_err-store.ensures.step)
+
+pub returns-in_err-all-clause-step : goal.returns-in_err-all-clause-step
+unfolding exports_store
+returns-in_err-all-clause-step g c =
+    let exit = err_from_is_err_and c.from_residual-in_err-all.result c.from_residual-in_err-all.ensures.1 in
+    rw (exit.1, exit.2) (went _ _ _ _ _ _ _ c.in_ok-store.ensures.step (no_memory _ _ _ (Store stored.Memory) refl))
+
+pub returns-clause-step : goal.returns-clause-step
+unfolding exports_store
+returns-clause-step g c = went _ _ _ _ _ _ _ c.in_ok-store.ensures.step (given _ _ _ _ (ap Ok (sym c.in_ok-all.ensures.documents)))
