@@ -13,7 +13,7 @@ use Rattle.cnb_toml.specs.declared.target.Target.{Target}
 use Rattle.cnb_detect.specs.declared.target.TargetSource.TheVariants.{Given}
 use Rattle.image_files.specs.Target.{target_of}
 use Rattle.cnb_words.specs.declared.create.CreateWords.{CreateWords}
-use Rattle.cnb_words.specs.declared.detect.DetectWords.{DetectWords}
+use Rattle.cnb_words.specs.declared.choice.ChoiceWords.{ChoiceWords}
 use Rattle.cnb_world.specs.declared.env.Variable.{Variable}
 use Rattle.image_docs.specs.declared.analyzed.Analyzed.{Analyzed}
 use Rattle.run_docs.specs.declared.group.GroupRow.{GroupRow}
@@ -66,7 +66,7 @@ looked_counts words =
     obeys_bind _ _ _ _ files_link (analyzes_counts words.store words.run _)
     (λ analyzed. obeys_bind _ _ _ _ files_link (writes_counts restoring.cause_of _ _) (λ written. obeys_yields _ _ _ files_rest))
 
-chosen_counts : (target : Target) (words : DetectWords) (env : List Variable) → Obeys OutsideCounts detection.cause_of (chooses_group target words env)
+chosen_counts : (target : Target) (words : ChoiceWords) (env : List Variable) → Obeys OutsideCounts detection.cause_of (chooses_group target words env)
 unfolding chooses_group
 chosen_counts target words env =
     obeys_bind _ _ _ _ outside_link (choice_counts (Given target) words env)

@@ -1,5 +1,7 @@
 -- What an export leaves alone: a path that no file of a tree is written at or beside.
-use Rattle.std.proofs.Common.{◌≡◌, ℕ, Bool, true, false, ◌&&◌, ◌||◌, List, [], ◌∷◌, Option, Some, None, Result, Ok}
+use Rattle.std.proofs.Common.{◌≡◌, ap, ℕ, Bool, true, false, ◌&&◌, ◌||◌, List, [], ◌∷◌, Option, Some, None, Result, Ok}
+use Rattle.app_slices.specs.Slots.{Slices}
+use Rattle.app_slices.specs.declared.item.Item.{Item}
 use Rattle.image_docs.specs.declared.analyzed.Analyzed.{Analyzed}
 use Rattle.image_docs.specs.declared.layer_row.LayerRow.{LayerRow}
 use Rattle.image_files.specs.Images.{reads_image, reads_run_image}
@@ -13,22 +15,24 @@ use Rattle.layer_flags.specs.declared.export.ExportRow.{ExportRow}
 use Rattle.layer_flags.specs.declared.export.ExportRow.TheVariants as table
 use Rattle.cnb_env.specs.Files.{is_absent}
 use Rattle.steps.specs.Outside.{Seen}
-use Rattle.steps.proofs.FrameLaws.{Preserves, keeps_bind, keeps_gives, keeps_reads, keeps_told, keeps_yields}
+use Rattle.steps.specs.Frames.{standing}
+use Rattle.steps.proofs.FrameLaws.{Preserves, keeps_bind, keeps_gives, keeps_reads, keeps_same, keeps_told, keeps_yields}
 use Rattle.tree_canon.specs.declared.node.Node.{Node}
 use Rattle.tree_store.specs.Steps.{looks_for_tree}
 use Rattle.tree_store.specs.Writing.{trees_of}
 use Rattle.cnb_create.specs.Apart.{are_apart}
-use Rattle.cnb_export.specs.Buildpack.{exports_buildpack, exports_documents, exports_layers, one_default, reads_launch, reads_store}
+use Rattle.cnb_export.specs.Buildpack.{exports_buildpack, exports_documents, exports_layers, exports_store, one_default, reads_launch, reads_store}
 use Rattle.cnb_export.specs.Exports.{exports, gains}
 use Rattle.cnb_export.specs.Gathering.{exports_found, exports_layer, exports_some, nothing_gathered}
 use Rattle.cnb_export.specs.Images.{reads_layers, reads_previous}
 use Rattle.cnb_export.specs.Layer.{finds_contents, finds_layer, finds_some, keeps_tree, looks_for_contents, reads_layer, some_of, takes_found, takes_if, takes_tree, there_by}
 use Rattle.layer_paths.specs.Names.{layers_among}
 use Rattle.cnb_export.specs.Names.{lists_unless, reads_layer_names, reads_names}
+use Rattle.cnb_export.specs.Patterns.{adds_pattern, adds_slice, reads_pattern, reads_slices}
 use Rattle.cnb_export.specs.Reading.{reads_as, reads_some}
 use Rattle.cnb_export.specs.Refusals.{cause_of, of_image_fault}
 use Rattle.cnb_export.specs.Settling.{checks_reused, decision_of, looks_for_stored, reuses, row_of, settles_by}
-use Rattle.cnb_export.specs.Trees.{puts_links, puts_process, puts_trees}
+use Rattle.cnb_export.specs.Trees.{cuts_app, puts_app, puts_links, puts_part, puts_parts, puts_process, puts_trees, puts_whole}
 use Rattle.cnb_export.specs.declared.exported.ExportFrame.{ExportFrame}
 use Rattle.cnb_export.specs.declared.fault.ExportFault.TheVariants.{Store}
 use Rattle.cnb_create.proofs.KeepLemmas.{KeepsIn, cached_in_caches, cached_in_world, cached_world, in_bind, in_each, in_yields, keeps_puts, keeps_reads_tree}
@@ -76,10 +80,31 @@ module _ (path : List ℕ) where
   unfolding reads_store
   kept_store folder = keeps_bind path _ _ (keeps_gives path cause_of _) (λ at. kept_some store_in at)
 
+  kept_pattern : (id text : List ℕ) → Preserves path (reads_pattern id text)
+  unfolding reads_pattern
+  kept_pattern id text old new result h = keeps_same path old new (ap (λ (s : Seen). s.runs) h.0) (ap (λ (s : Seen). standing s.files path) h.0)
+
+  kept_more : (id text : List ℕ) (patterns : List (List Item)) → Preserves path (adds_pattern id text patterns)
+  unfolding adds_pattern
+  kept_more id text patterns = keeps_bind path _ _ (kept_pattern id text) (λ pattern. keeps_gives path cause_of _)
+
+  kept_slice : (id : List ℕ) (texts : List (List ℕ)) (slices : Slices) → Preserves path (adds_slice id texts slices)
+  unfolding adds_slice
+  kept_slice id texts slices =
+      keeps_bind path _ _ (in_each (λ (s : Seen). s) path (adds_pattern id) texts [] (λ text patterns. kept_more id text patterns)) (λ patterns. keeps_gives path cause_of _)
+
+  kept_slices : (id : List ℕ) (slices : List (List (List ℕ))) → Preserves path (reads_slices id slices)
+  kept_slices id slices = in_each (λ (s : Seen). s) path (adds_slice id) slices [] (λ texts so_far. kept_slice id texts so_far)
+
+  kept_cut : (app : List ℕ) (slices : Slices) → Preserves path (cuts_app app slices)
+  unfolding cuts_app
+  kept_cut app slices = keeps_bind path _ _ (keeps_told path Store _ (keeps_reads_tree path app)) (λ tree. keeps_gives path cause_of _)
+
   kept_documents : (folder id : List ℕ) → KeepsEach path (exports_documents folder id)
-  unfolding exports_documents
+  unfolding exports_documents exports_store
   kept_documents folder id gathered =
-      keeps_bind path _ _ (kept_launch folder id) (λ launch. keeps_bind path _ _ (kept_store folder) (λ store. keeps_gives path cause_of _))
+      keeps_bind path _ _ (kept_launch folder id)
+      (λ launch. keeps_bind path _ _ (kept_slices id launch.slices) (λ slices. keeps_bind path _ _ (kept_store folder) (λ store. keeps_gives path cause_of _)))
 
   kept_listing : (absent : Bool) (folder : List ℕ) → Preserves path (lists_unless absent folder)
   kept_listing true folder = keeps_yields path _
@@ -179,6 +204,20 @@ module _ (store path : List ℕ) (apart : are_apart (trees_of store) path ≡ tr
   unfolding puts_links
   kept_links processes = keeps_bind path _ _ (keeps_gives path cause_of _) (λ tree. keeps_bind path _ _ (keeps_told path Store _ (keeps_puts path store tree (free_of_trees store path apart))) (λ digest. keeps_yields path (Some digest)))
 
+  kept_whole : (app : List ℕ) → Preserves path (puts_whole store app)
+  unfolding puts_whole
+  kept_whole app = keeps_bind path _ _ (keeps_told path Store _ (keeps_puts_folder store path apart app)) (λ digest. keeps_gives path cause_of _)
+
+  kept_part : (tree : Node) (digests : List (List ℕ)) → Preserves path (puts_part store tree digests)
+  unfolding puts_part
+  kept_part tree digests = keeps_bind path _ _ (keeps_told path Store _ (keeps_puts path store tree (free_of_trees store path apart))) (λ digest. keeps_gives path cause_of _)
+
+  kept_app : (app : List ℕ) (slices : Slices) → Preserves path (puts_app store app slices)
+  unfolding puts_parts
+  kept_app app [] = kept_whole app
+  kept_app app (slice ∷ slices) =
+      keeps_bind path _ _ (kept_cut path app (slice ∷ slices)) (λ parts. in_each (λ (s : Seen). s) path (puts_part store) parts [] (λ tree digests. kept_part tree digests))
+
   kept_process : (processes : List Process) → Preserves path (puts_process store processes)
   kept_process [] = keeps_yields path None
   kept_process (process ∷ processes) = kept_links (process ∷ processes)
@@ -190,13 +229,13 @@ module _ (frame : ExportFrame) (path : List ℕ) (apart : are_apart (trees_of fr
       keeps_bind path _ _ (keeps_gives path cause_of _)
       (λ folder. keeps_bind path _ _ (kept_documents path folder row.key.id gathered) (λ documents. kept_layers frame.store path apart previous row.key.id folder documents))
 
-  kept_trees : (processes : List Process) → Preserves path (puts_trees frame processes)
+  kept_trees : (slices : Slices) (processes : List Process) → Preserves path (puts_trees frame slices processes)
   unfolding puts_trees
-  kept_trees processes =
-      keeps_bind path _ _ (keeps_told path Store _ (keeps_puts_folder frame.store path apart frame.app))
+  kept_trees slices processes =
+      keeps_bind path _ _ (kept_app frame.store path apart frame.app slices)
       (λ app. keeps_bind path _ _ (keeps_told path Store _ (keeps_puts_folder frame.store path apart frame.launcher))
       (λ launcher. keeps_bind path _ _ (keeps_gives path cause_of _)
-      (λ last. keeps_bind path _ _ (kept_process frame.store path apart last) (λ process. keeps_gives path cause_of _))))
+      (λ last. keeps_bind path _ _ (kept_process frame.store path apart last) (λ process. keeps_yields path _))))
 
   kept_gained : (group : List GroupRow) (analyzed : Analyzed) → Preserves path (gains frame group analyzed)
   unfolding gains
@@ -204,7 +243,7 @@ module _ (frame : ExportFrame) (path : List ℕ) (apart : are_apart (trees_of fr
       keeps_bind path _ _ (keeps_told path of_image_fault _ (kept_run path frame.store analyzed.run))
       (λ run. keeps_bind path _ _ (kept_previous path frame.store analyzed.previous)
       (λ previous. keeps_bind path _ _ (in_each (λ (s : Seen). s) path (exports_buildpack frame previous) group nothing_gathered (λ row so_far. kept_buildpack previous row so_far))
-      (λ gathered. keeps_bind path _ _ (kept_trees _)
+      (λ gathered. keeps_bind path _ _ (kept_trees _ _)
       (λ digests. keeps_bind path _ _ (keeps_gives path cause_of _) (λ image. keeps_bind path _ _ (keeps_gives path cause_of _) (λ rows. keeps_yields path _))))))
 
   pub keeps_exports : (readable : Bool) (group : List GroupRow) (analyzed : Analyzed) → KeepsIn cached_world path (exports readable frame group analyzed)

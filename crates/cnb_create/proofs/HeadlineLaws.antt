@@ -33,7 +33,7 @@ use Rattle.cnb_detect.proofs.DetectLaws.{prepares_reads}
 use Rattle.cnb_detect.proofs.OutcomeLaws.{comes_to}
 use Rattle.cnb_toml.specs.declared.target.Target.{Target}
 use Rattle.cnb_words.specs.declared.create.CreateWords.{CreateWords}
-use Rattle.cnb_words.specs.declared.detect.DetectWords.{DetectWords}
+use Rattle.cnb_words.specs.declared.choice.ChoiceWords.{ChoiceWords}
 use Rattle.cnb_world.specs.Path.{is_path}
 use Rattle.cnb_world.specs.Runs.{Ran}
 use Rattle.cnb_world.specs.Tree.{Tree}
@@ -52,7 +52,7 @@ use Rattle.cnb_create.specs.declared.refusal.CreateRefusal.{CreateRefusal}
 use Rattle.cnb_create.specs.declared.refusal.CreateRefusal.TheVariants.{Build, Detect, Export, Memory, Restore}
 
 -- the children that decided
-record DecidedBy (target : Target) (words : DetectWords) (env : List Variable) (old : Outside) (choice : Choice) (new : Outside) : Type 0 where
+record DecidedBy (target : Target) (words : ChoiceWords) (env : List Variable) (old : Outside) (choice : Choice) (new : Outside) : Type 0 where
   answers : List Ran
   asked : AskedBy answers old.spawners new.spawners
   prepared : Prepared
@@ -62,7 +62,7 @@ record DecidedBy (target : Target) (words : DetectWords) (env : List Variable) (
 
 -- ---- a choice that is written is what `detect` does, but for its text
 
-module _ (target : Target) (words : DetectWords) (env : List Variable) where
+module _ (target : Target) (words : ChoiceWords) (env : List Variable) where
   as_detect : (old new : Outside) (choice : Choice) → chooses_group target words env old (Ok choice) new → detects (Given target) words env old (Ok (text_of choice)) new
   unfolding chooses_group detects ◌>>=◌ yields
   as_detect old new choice (c, m, chose, (w, m2, wrote, y)) =

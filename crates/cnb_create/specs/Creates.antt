@@ -26,7 +26,7 @@ use Rattle.cnb_restore.specs.declared.fault.RestoreFault.{RestoreFault}
 use Rattle.cnb_restore.specs.declared.restored.Restored.{Restored}
 use Rattle.cnb_toml.specs.declared.target.Target.{Target}
 use Rattle.cnb_words.specs.declared.create.CreateWords.{CreateWords}
-use Rattle.cnb_words.specs.declared.detect.DetectWords.{DetectWords}
+use Rattle.cnb_words.specs.declared.choice.ChoiceWords.{ChoiceWords}
 use Rattle.cnb_world.specs.declared.env.Variable.{Variable}
 use Rattle.image_docs.specs.declared.analyzed.Analyzed.{Analyzed}
 use Rattle.image_files.specs.Target.{analyzed_document, target_of}
@@ -54,7 +54,7 @@ looks_at_images words = do
   yields analyzed
 
 -- a group and its plan are chosen for a target, and they are written
-unfoldable pub chooses_group : Target → DetectWords → List Variable → Outside → Result Choice DetectRefusal → Outside → Type 0
+unfoldable pub chooses_group : Target → ChoiceWords → List Variable → Outside → Result Choice DetectRefusal → Outside → Type 0
 chooses_group target words env = do
   choice ← chooses (Given target) words env
   written ← steps.in_world (writes_choice words.work choice)

@@ -16,7 +16,7 @@ use Rattle.cnb_export.specs.declared.exported.Exported.{Exported}
 use Rattle.cnb_restore.specs.declared.restored.Restored.{Restored}
 use Rattle.cnb_toml.specs.declared.target.Target.{Target}
 use Rattle.cnb_words.specs.declared.create.CreateWords.{CreateWords}
-use Rattle.cnb_words.specs.declared.detect.DetectWords.{DetectWords}
+use Rattle.cnb_words.specs.declared.choice.ChoiceWords.{ChoiceWords}
 use Rattle.cnb_world.specs.Runs.{Ran}
 use Rattle.cnb_world.specs.Tree.{Tree}
 use Rattle.cnb_world.specs.declared.env.Variable.{Variable}
@@ -36,7 +36,7 @@ use Rattle.cnb_create.specs.Report.{created_text}
 use Rattle.cnb_create.specs.Surroundings.{Surroundings, outside_of}
 
 -- This choice was made for a target, by what the children of this call answered.
-pub record Chooses (target : Target) (words : DetectWords) (env : List Variable) (files : Option Tree) (old new : List SpawnerSeen) (choice : Choice) : Type 0 where
+pub record Chooses (target : Target) (words : ChoiceWords) (env : List Variable) (files : Option Tree) (old new : List SpawnerSeen) (choice : Choice) : Type 0 where
   -- the children that the spawners ran, with their answers,
   pub answers : List Ran
   pub asked : AskedBy answers old new

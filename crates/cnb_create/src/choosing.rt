@@ -3,7 +3,7 @@ ghost use Rattle.std.specs.Prelude.{◌≡◌, ◌<◌, IfOk, IsTrue, length};
 ghost use Rattle.cnb_detect.specs.Choice.{as_choice};
 ghost use Rattle.cnb_detect.specs.Detects.{chooses};
 ghost use Rattle.cnb_detect.specs.declared.target.TargetSource.TheVariants.{Given};
-ghost use Rattle.cnb_words.specs.Detect.{KeepsLimits};
+ghost use Rattle.cnb_words.specs.Choice.{KeepsLimits};
 ghost use Rattle.image_files.specs.Target.{target_of};
 ghost use Rattle.run_docs.specs.Group.{is_group_doc};
 ghost use Rattle.run_docs.specs.Plan.{is_plan_doc};
@@ -15,7 +15,7 @@ ghost use Rattle.cnb_create.specs.declared.refusal.CreateRefusal.TheVariants as 
 use crate::refusal::CreateRefusal;
 use crate::target::target_of;
 use cnb_detect::{DetectRefusal, TargetSource, choose_group, write_choice};
-use cnb_words::DetectWords;
+use cnb_words::ChoiceWords;
 use cnb_world::{Env, Spawner, World};
 use detect_core::Chosen;
 use image_docs::Analyzed;
@@ -27,7 +27,7 @@ fn choose_for<W: World, S: Spawner + Send, R: Threads + Sync>(
     rt: &R,
     alloc: Global,
     analyzed: &Analyzed,
-    options: &DetectWords,
+    options: &ChoiceWords,
     env: &Env,
     world: &mut W,
     spawners: &mut Vec<S>,
@@ -51,7 +51,7 @@ pub(crate) fn choose<W: World, S: Spawner + Send, R: Threads + Sync>(
     rt: &R,
     alloc: Global,
     analyzed: &Analyzed,
-    options: &DetectWords,
+    options: &ChoiceWords,
     env: &Env,
     world: &mut W,
     spawners: &mut Vec<S>,
