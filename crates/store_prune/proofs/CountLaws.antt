@@ -1,5 +1,5 @@
 -- What the commands do to the counts, by what ended them.
-use Rattle.std.proofs.Common.{◌≡◌, refl, ℕ, Bool, true, false, List, [], ◌∷◌, Option, Some, None}
+use Rattle.std.proofs.Common.{◌≡◌, refl, ℕ, Bool, true, false, List, [], Option, Some, None}
 use Rattle.cnb_toml.specs.Form.{TableForm}
 use Rattle.cnb_world.specs.Path.{joined}
 use Rattle.cnb_words.specs.declared.prune.PruneWords.{PruneWords}
@@ -21,7 +21,7 @@ use Rattle.store_prune.specs.Digests.{tree_digest}
 use Rattle.store_prune.specs.Faults.{cause_of, of_image_fault, verify_cause}
 use Rattle.store_prune.specs.Listing.{lists, lists_where, looks_for, looks_for_file}
 use Rattle.store_prune.specs.Named.{adds_document, adds_folder, adds_if, adds_name, adds_where, digests_of_image, digests_of_run, is_document_name, reads_named, reads_names}
-use Rattle.store_prune.specs.Prunes.{prunes, prunes_command, removes_all, removes_trees}
+use Rattle.store_prune.specs.Prunes.{prunes_command, removes_all, removes_trees}
 use Rattle.store_prune.specs.Surveys.{surveys}
 use Rattle.store_prune.specs.Trees.{adds_digest, adds_tree, reads_trees}
 use Rattle.store_prune.specs.Verifies.{checks_all, checks_image, checks_next, verifies, verifies_command}

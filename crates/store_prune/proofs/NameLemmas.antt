@@ -1,5 +1,5 @@
 -- The names of documents and of tree files.
-use Rattle.std.proofs.Common.{◌≡◌, ◌≢◌, ◌∙◌, cond, ap, sym, ℕ, ◌-◌, Bool, true, false, List, [], ◌++◌, length, take, codes, Option, Some, None, Result, Ok, Err, refl}
+use Rattle.std.proofs.Common.{◌≡◌, ◌≢◌, ◌∙◌, cond, ap, sym, ℕ, ◌-◌, true, false, List, [], ◌++◌, length, take, codes, Some, None, Err, refl}
 use Rattle.std.specs.Prelude.{◌&&◌, nat_eq}
 use Rattle.std.specs.List.{ends_with}
 use Rattle.std.specs.Result.{result_ok}
@@ -9,7 +9,7 @@ use Rattle.std.proofs.lemmas.Slice.Eq.{ends_is}
 use Rattle.cnb_toml.specs.Names.{is_image_name}
 use Rattle.cnb_toml.specs.declared.fault.DocFault.TheVariants.{Wrong}
 use Rattle.hex.specs.Hex.{decode_of, encode_lower}
-use Rattle.image_docs.specs.DigestText.{decoded, digest_in, is_digest}
+use Rattle.image_docs.specs.DigestText.{decoded, is_digest}
 use Rattle.image_docs.specs.DigestTextLaws.{digest_read}
 use Rattle.tree_canon.specs.Digest.{is_digest_text}
 use Rattle.store_prune.specs.Digests.{tree_digest}

@@ -1,53 +1,32 @@
 -- The files of named trees are as before, whatever a prune answers.
-use Rattle.std.proofs.Common.{◌≡◌, ◌≢◌, ◌∙◌, refl, sym, ap, subst, arith, ℕ, ◌%◌, ◌==◌, ◌&&◌, ◌||◌, Bool, true, false, not, cond, List, [], ◌∷◌, ◌++◌, length, map, Option, Some, None, Result, Ok, Err}
+use Rattle.std.proofs.Common.{◌≡◌, ◌≢◌, ◌∙◌, refl, sym, ap, subst, ℕ, Bool, true, false, not, cond, List, [], ◌∷◌, ◌++◌, map, Option, Some, None, Result, Ok, Err}
 use Rattle.std.specs.Prelude.{IfOk, IsTrue}
-use Rattle.std.specs.List.{AllByRecursion, filter, list_all, list_any}
-use Rattle.std.specs.Result.{result_ok}
+use Rattle.std.specs.List.{AllByRecursion, list_any}
 use Rattle.std.specs.Str.{bytes_eq}
-use Rattle.std.proofs.lemmas.Bool.{and_parts, eqb-true, or_from}
-use Rattle.cnb_toml.specs.declared.fault.DocFault.{DocFault}
-use Rattle.cnb_toml.specs.declared.fault.DocFault.TheVariants.{Wrong}
+use Rattle.std.proofs.lemmas.Bool.{or_from}
 use Rattle.cnb_world.specs.Path.{is_part}
 use Rattle.cnb_world.specs.Tree.{Tree, is_file, is_within, item_at}
-use Rattle.hex.specs.Hex.{decode_of, decode_pairs, encode_lower}
-use Rattle.hex.proofs.HexLemmas.{decode_of-even}
-use Rattle.image_docs.specs.DigestText.{decoded, digest_in}
+use Rattle.hex.specs.Hex.{encode_lower}
 use Rattle.steps.specs.Frames.{standing}
 use Rattle.steps.specs.Results.{and_then}
-use Rattle.tree_canon.specs.Digest.{is_digest_text, is_lower_digit}
-use Rattle.tree_canon.proofs.DigestTexts.{lower_read}
+use Rattle.tree_canon.specs.Digest.{is_digest_text}
 use Rattle.tree_store.specs.Store.{tree_path}
 use Rattle.tree_store.specs.Writing.{trees_of}
 use Rattle.tree_store.proofs.Apart.{siblings_apart}
-use Rattle.tree_store.proofs.StorePaths.{digest_part}
 use Rattle.store_prune.specs.Digests.{is_among, tree_digest, unnamed}
 use Rattle.store_prune.specs.Pruning.{KeepsNamed, KeepsNamedTrees, KeepsWhere, StandNamed, digest_at, each_in, listed_in, named_in, pruned_in, trees_in}
 use Rattle.store_prune.specs.Surveys.{pruned_of}
 use Rattle.store_prune.specs.Trees.{with_tree}
 use Rattle.store_prune.specs.declared.fault.PruneFault.{PruneFault}
 use Rattle.store_prune.specs.declared.surveying.Pruned.{Pruned}
+use Rattle.store_prune.proofs.NamedDigests.{named_names}
+use Rattle.store_prune.proofs.ReadDigests.{named_so}
 
 -- a digest whose digits can be the name of a file
 abbrev pub IsName : List ℕ → Type 0
 IsName digest = IsTrue (is_part (encode_lower digest))
 
 -- ---- the digests of tree files are names
-
-some_digest : (name digest bytes : List ℕ) → is_digest_text name ≡ true → decode_of name ≡ Ok bytes → tree_digest name ≡ Some digest → digest ≡ bytes
-some_digest name digest bytes is read h =
-    let all : tree_digest name ≡ Some bytes = ap (λ b. result_ok (cond b (decoded (decode_of name)) (Err (Wrong [])))) is ∙ ap (λ r. result_ok (decoded r)) read in
-    let same : Some digest ≡ Some bytes = sym h ∙ all in
-    cc
-
-named_so : (name digest : List ℕ) (is : Bool) → is_digest_text name ≡ is → tree_digest name ≡ Some digest → IsName digest
-named_so name digest true is h =
-    let parts = and_parts (length name == 64) (list_all is_lower_digit name) is in
-    let size : length name ≡ 64 = eqb-true (length name) 64 parts.0 in
-    let read = lower_read 0 name (omega arith) parts.1 in
-    let same : digest ≡ read.0 = some_digest name digest read.0 is (decode_of-even name (omega arith) ∙ read.1) h in
-    digest_part name (encode_lower digest) (ap encode_lower same ∙ read.2) is
-named_so name digest false is h =
-    absurd (let none : tree_digest name ≡ None = ap (λ b. result_ok (cond b (decoded (decode_of name)) (Err (Wrong [])))) is in let no : Some digest ≡ None = sym h ∙ none in cc)
 
 one_more : (P : List ℕ → Type 0) (xs : List (List ℕ)) (x : List ℕ) → AllByRecursion P xs → P x → AllByRecursion P (xs ++ x ∷ [])
 one_more P [] x h k = (k, tt)
@@ -109,8 +88,10 @@ module _ (store : List ℕ) (named : List (List ℕ)) (digest : List ℕ) (among
       by rest true e = rest
       by rest false e = or_from _ _ (siblings_apart (trees_of store) (encode_lower one) (encode_lower digest) names.0 name (apart_digits named one digest e among)).beside rest
 
-stand_where : (store : List ℕ) (files : Tree) (named : List (List ℕ)) (o o1 : Option Tree) → named_in store files ≡ Ok named → KeepsWhere store (pruned_in store files) o o1 → StandNamed store named o o1
-stand_where store files named o o1 is kept = by (trees_in store files) refl
+-- what no file of an unnamed tree is, or is above
+pub path_stands : (store : List ℕ) (files : Tree) (named : List (List ℕ)) (o o1 : Option Tree) (path : List ℕ) → named_in store files ≡ Ok named → KeepsWhere store (pruned_in store files) o o1
+    → ((trees : List (List ℕ)) → AllByRecursion IsName trees → list_any (λ removed. is_within removed path) (map (tree_path store) (unnamed named trees)) ≡ false) → standing o1 path ≡ standing o path
+path_stands store files named o o1 path is kept free = by (trees_in store files) refl
   where
     pruned : List (List ℕ) → Result Pruned PruneFault
     pruned found = and_then (trees_in store files) (λ trees. Ok (pruned_of found trees))
@@ -118,13 +99,17 @@ stand_where store files named o o1 is kept = by (trees_in store files) refl
     all : KeepsWhere store (and_then (trees_in store files) (λ trees. Ok (pruned_of named trees))) o o1
     all = subst (λ r. KeepsWhere store r o o1) (ap (λ r. and_then r pruned) is) kept
 
-    by : (trees : Result (List (List ℕ)) PruneFault) → trees_in store files ≡ trees → StandNamed store named o o1
-    by (Ok trees) e digest among name =
+    by : (trees : Result (List (List ℕ)) PruneFault) → trees_in store files ≡ trees → standing o1 path ≡ standing o path
+    by (Ok trees) e =
         let others = subst (λ r. KeepsWhere store (and_then r (λ found. Ok (pruned_of named found))) o o1) e all in
-        others (tree_path store digest) (named_free store named digest among name trees (trees_are_names store files trees e))
-    by (Err fault) e digest among name =
+        others path (free trees (trees_are_names store files trees e))
+    by (Err fault) e =
         let same = subst (λ r. KeepsWhere store (and_then r (λ found. Ok (pruned_of named found))) o o1) e all in
-        ap (λ t. standing t (tree_path store digest)) same
+        ap (λ t. standing t path) same
+
+pub stand_where : (store : List ℕ) (files : Tree) (named : List (List ℕ)) (o o1 : Option Tree) → named_in store files ≡ Ok named → KeepsWhere store (pruned_in store files) o o1 → StandNamed store named o o1
+stand_where store files named o o1 is kept digest among =
+    path_stands store files named o o1 (tree_path store digest) is kept (named_free store named digest among (named_names store files named digest is among))
 
 if_ok : (found : Result (List (List ℕ)) PruneFault) (P : List (List ℕ) → Type 0) → ((named : List (List ℕ)) → found ≡ Ok named → P named) → IfOk found P
 if_ok (Ok named) P f = f named refl

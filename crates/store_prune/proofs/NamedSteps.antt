@@ -1,14 +1,11 @@
 -- Folders of documents, however they are told, and where memory runs out before they are read.
-use Rattle.std.proofs.Common.{◌≡◌, refl, sym, subst, ℕ, true, List, Result, Ok, Err}
+use Rattle.std.proofs.Common.{◌≡◌, refl, subst, ℕ, true, List, Result, Err}
 use Rattle.cnb_toml.specs.Form.{TableForm}
 use Rattle.cnb_world.specs.Path.{joined}
-use Rattle.cnb_world.specs.Tree.{Tree, is_file, item_at}
-use Rattle.std.specs.Prelude.{is_some}
 use Rattle.image_files.proofs.ToldReads.{nothing_read}
 use Rattle.steps.specs.Each.{for_each}
 use Rattle.steps.specs.Outside.{Seen}
 use Rattle.steps.proofs.StepLemmas.{ended}
-use Rattle.store_prune.specs.Faults.{cause_of}
 use Rattle.store_prune.specs.Listing.{lists, looks_for, looks_for_file}
 use Rattle.store_prune.specs.Named.{adds_document, adds_folder, adds_name, is_document_name}
 use Rattle.store_prune.specs.declared.fault.PruneFault.{PruneFault}

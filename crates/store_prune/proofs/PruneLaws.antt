@@ -1,11 +1,10 @@
 -- What a prune removes, and what it leaves, whatever it answers.
-use Rattle.std.proofs.Common.{◌≡◌, ◌≢◌, ◌∙◌, refl, sym, ap, subst, ℕ, ◌||◌, Bool, true, false, not, cond, List, [], ◌∷◌, map, Option, Some, None, Result, Ok, Err, inl, inr}
-use Rattle.std.specs.Prelude.{IfSome, IsTrue}
-use Rattle.std.specs.List.{filter, list_any}
+use Rattle.std.proofs.Common.{◌≡◌, ◌∙◌, sym, ap, subst, ℕ, List, [], ◌∷◌, map, Option, Some, None, Result, Ok, Err, inl, inr}
+use Rattle.std.specs.Prelude.{IfSome}
 use Rattle.std.specs.Option.{option_map}
 use Rattle.cnb_words.specs.declared.prune.PruneWords.{PruneWords}
 use Rattle.cnb_world.specs.Memory.{all_without}
-use Rattle.cnb_world.specs.Tree.{Tree, is_within}
+use Rattle.cnb_world.specs.Tree.{Tree}
 use Rattle.steps.specs.Causes.{Cause, FileFailed, ChildFailed, OutOfMemory, Decided, IsAnswer, IsWriteCause, WhereDecided}
 use Rattle.steps.specs.Each.{for_each}
 use Rattle.steps.specs.Frames.{standing}

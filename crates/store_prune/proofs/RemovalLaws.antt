@@ -1,23 +1,19 @@
 -- What removals leave, and what they leave alone.
-use Rattle.std.proofs.Common.{◌≡◌, ◌≢◌, ◌∙◌, refl, sym, ap, ℕ, ◌||◌, Bool, true, false, not, cond, List, [], ◌∷◌, map, Option, Some, None, Result, Ok, Err, inl, inr}
-use Rattle.std.specs.Prelude.{IsTrue}
+use Rattle.std.proofs.Common.{◌≡◌, ◌∙◌, refl, sym, ap, ℕ, ◌||◌, Bool, false, not, cond, List, [], ◌∷◌, map, Option, Some, None, Result, Ok, Err, inl, inr}
 use Rattle.std.specs.FinMap.{get, get-retain_keys, retain_keys, slice_cmp-IsAntisymmetric, nat_cmp-IsAntisymmetric}
-use Rattle.std.specs.List.{filter, list_any}
+use Rattle.std.specs.List.{list_any}
 use Rattle.std.specs.Option.{option_map}
-use Rattle.std.specs.Str.{bytes_eq}
 use Rattle.std.proofs.lemmas.Bool.{or_parts}
 use Rattle.cnb_world.specs.Calls.{RemovesSome}
 use Rattle.cnb_world.specs.Memory.{all_without}
-use Rattle.cnb_world.specs.Path.{is_part, joined}
 use Rattle.cnb_world.specs.Tree.{Tree, is_root, is_within, item_at, without}
 use Rattle.cnb_world.proofs.EffectLemmas.{emptied_elsewhere}
 use Rattle.cnb_world.specs.declared.world.Item.TheVariants.{Folder}
-use Rattle.steps.specs.Causes.{Cause}
 use Rattle.steps.specs.Each.{for_each}
 use Rattle.steps.specs.Frames.{standing}
 use Rattle.steps.specs.Outside.{Seen}
 use Rattle.steps.specs.Steps.{◌>>=◌, gives, removes, yields}
-use Rattle.steps.proofs.EndLaws.{Links, Obeys, Relation, Rests, obeys_bind, obeys_gives, obeys_yields}
+use Rattle.steps.proofs.EndLaws.{Links, Obeys, Relation, Rests, obeys_bind, obeys_yields}
 use Rattle.steps.proofs.FrameLaws.{step_at}
 use Rattle.tree_store.specs.Store.{tree_path}
 use Rattle.store_prune.specs.Faults.{cause_of}

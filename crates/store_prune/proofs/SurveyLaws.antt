@@ -1,5 +1,5 @@
 -- What the steps that read a store come to, by the files at one moment.
-use Rattle.std.proofs.Common.{◌≡◌, ◌∙◌, refl, sym, ap, ℕ, ◌++◌, Bool, true, false, List, [], ◌∷◌, Option, Some, None, Result, Ok, Err, inl, inr}
+use Rattle.std.proofs.Common.{◌≡◌, ◌∙◌, sym, ap, ℕ, ◌++◌, Bool, true, false, List, [], ◌∷◌, Option, Some, None, Result, Ok, Err, inl, inr}
 use Rattle.std.specs.Prelude.{IfSome, is_some, if◌then◌else◌}
 use Rattle.cnb_toml.specs.Form.{TableForm}
 use Rattle.cnb_world.specs.Path.{joined}
@@ -23,7 +23,6 @@ use Rattle.store_prune.specs.Pruning.{digest_at, each_in, folder_in, found_in, l
 use Rattle.store_prune.specs.Surveys.{pruned_of, surveys}
 use Rattle.store_prune.specs.Trees.{adds_digest, adds_tree, reads_trees, with_tree}
 use Rattle.store_prune.specs.declared.fault.PruneFault.{PruneFault}
-use Rattle.store_prune.specs.declared.surveying.Pruned.{Pruned}
 
 -- a step that leaves the files, and comes to what they say
 pub record Tells {A : Type 0} (want : Tree → Result A PruneFault) (old : Seen) (result : Result A PruneFault) (new : Seen) : Type 0 where

@@ -48,7 +48,7 @@ file_not digest bytes exec (store_fault.Damaged asked found None) (one, two, oth
 file_not digest bytes exec (store_fault.Damaged asked found (Some reason)) (one, two, (same, at, inl broken)) = λ tree k. broken_not_spelled bytes at reason tree broken k.1
 file_not digest bytes exec (store_fault.Damaged asked found (Some reason)) (one, two, (same, at, inr (short, end, why))) = λ tree k. short_not_spelled bytes tree short k.1
 
-gets_not : (digest : List ℕ) (found : Option Item) (fault : StoreFault) → Gets digest found (Err fault) → WhereDecided (tree_store.cause_of fault) ((tree : Node) → Gets digest found (Ok tree) → ⊥)
+pub gets_not : (digest : List ℕ) (found : Option Item) (fault : StoreFault) → Gets digest found (Err fault) → WhereDecided (tree_store.cause_of fault) ((tree : Node) → Gets digest found (Ok tree) → ⊥)
 gets_not digest None fault h = where_so (tree_store.cause_of fault) ((tree : Node) → Gets digest None (Ok tree) → ⊥) (λ tree k. k)
 gets_not digest (Some (item.File exec bytes)) fault h = file_not digest bytes exec fault h
 gets_not digest (Some item.Folder) fault h = where_so (tree_store.cause_of fault) ((tree : Node) → Gets digest (Some item.Folder) (Ok tree) → ⊥) (λ tree k. k)

@@ -1,15 +1,16 @@
 -- What a prune removes, by the files at one moment, and what it leaves.
-use Rattle.std.specs.Prelude.{ℕ, ◌≡◌, ◌++◌, Bool, true, false, List, [], ◌∷◌, map, is_some, Option, Some, None, Result, Ok, Err, IfOk, IfSome, IsTrue, if◌then◌else◌}
+use Rattle.std.specs.Prelude.{ℕ, ◌≡◌, ◌++◌, ◌↔◌, Bool, true, false, List, [], ◌∷◌, map, is_some, Option, Some, None, Result, Ok, Err, IfOk, IfSome, IsTrue, if◌then◌else◌}
 use Rattle.std.specs.List.{list_any}
 use Rattle.std.specs.Option.{option_map}
 use Rattle.cnb_toml.specs.Form.{TableForm}
+use Rattle.cnb_toml.specs.Names.{is_image_name}
 use Rattle.cnb_world.specs.Memory.{all_without}
-use Rattle.cnb_world.specs.Path.{is_part, joined}
+use Rattle.cnb_world.specs.Path.{joined}
 use Rattle.cnb_world.specs.Tree.{Tree, is_file, is_within, item_at}
 use Rattle.doc_files.specs.Reading.{names_at}
-use Rattle.hex.specs.Hex.{encode_lower}
 use Rattle.image_docs.specs.Image.{image_table_in}
 use Rattle.image_docs.specs.RunImage.{table_in}
+use Rattle.image_files.specs.Images.{image_at}
 use Rattle.image_files.specs.Paths.{images_folder, runs_folder}
 use Rattle.steps.specs.Causes.{WhereDecided}
 use Rattle.steps.specs.Frames.{standing}
@@ -21,6 +22,7 @@ use Rattle.store_prune.specs.Faults.{cause_of, of_read_fault}
 use Rattle.store_prune.specs.Named.{digests_of_image, digests_of_run, is_document_name, names_of_document}
 use Rattle.store_prune.specs.Surveys.{pruned_of}
 use Rattle.store_prune.specs.Trees.{with_tree}
+use Rattle.store_prune.specs.Verifying.{IsWhole}
 use Rattle.store_prune.specs.declared.fault.PruneFault.{PruneFault}
 use Rattle.store_prune.specs.declared.surveying.Pruned.{Pruned}
 
@@ -92,9 +94,20 @@ KeepsNamed store old new = IfSome old (λ files. KeepsWhere store (pruned_in sto
 
 -- the file of each tree that a document names is as before
 abbrev pub StandNamed : List ℕ → List (List ℕ) → Option Tree → Option Tree → Type 0
-StandNamed store named old new = (digest : List ℕ) → IsTrue (is_among named digest) → IsTrue (is_part (encode_lower digest))
+StandNamed store named old new = (digest : List ℕ) → IsTrue (is_among named digest)
     → standing new (tree_path store digest) ≡ standing old (tree_path store digest)
 
 -- whatever is answered: the file of each tree that a document names is as before
 abbrev pub KeepsNamedTrees : List ℕ → Option Tree → Option Tree → Type 0
 KeepsNamedTrees store old new = IfSome old (λ files. IfOk (named_in store files) (λ named. StandNamed store named old new))
+
+-- an image's document, and the file of each tree that it names, are as before; so `verify` says yes where it did
+pub record KeepsImage (store name : List ℕ) (old : Tree) (new : Option Tree) : Type 0 where
+  pub document : option_map (image_at store name) new ≡ Some (image_at store name old)
+  pub trees : IfOk (image_at store name old) (λ image. StandNamed store (digests_of_image image) (Some old) new)
+  pub whole : (count : ℕ) → IfSome new (λ files. IsWhole store name files count) ↔ IsWhole store name old count
+
+-- whatever is answered: each image is as before, and so are its trees
+abbrev pub KeepsImages : List ℕ → Option Tree → Option Tree → Type 0
+KeepsImages store old new =
+    IfSome old (λ files. (name : List ℕ) → IsTrue (is_image_name name) → KeepsImage store name files new)

@@ -6,7 +6,7 @@ ghost use Rattle.steps.specs.Steps.{removes};
 ghost use Rattle.tree_store.specs.Store.{tree_path};
 ghost use Rattle.store_prune.specs.Faults.{Blames, cause_of};
 ghost use Rattle.store_prune.specs.Prunes.{prunes, prunes_command, removes_all, removes_trees};
-ghost use Rattle.store_prune.specs.Pruning.{KeepsNamed, KeepsNamedTrees, PrunesUnnamed};
+ghost use Rattle.store_prune.specs.Pruning.{KeepsImages, KeepsNamed, KeepsNamedTrees, PrunesUnnamed};
 
 use crate::fault::PruneFault;
 use crate::report::pruned_text;
@@ -84,6 +84,7 @@ pub fn prune<W: World>(alloc: Global, world: &mut W, store: &Path) -> Result<Pru
     ensures removed { PrunesUnnamed store.now (W.tree world.old) result (W.tree world.new) }
     ensures kept { KeepsNamed store.now (W.tree world.old) (W.tree world.new) }
     ensures named { KeepsNamedTrees store.now (W.tree world.old) (W.tree world.new) }
+    ensures images { KeepsImages store.now (W.tree world.old) (W.tree world.new) }
 {
     let pruned = survey(alloc, world, store)?;
     remove_trees(alloc, world, store, pruned.removed.as_slice())?;
@@ -100,6 +101,7 @@ pub fn prune_command<W: World>(
     ensures steps { prunes_command options.now (seen W.World world.old) result (seen W.World world.new) }
     ensures kept { KeepsNamed options.now.store (W.tree world.old) (W.tree world.new) }
     ensures named { KeepsNamedTrees options.now.store (W.tree world.old) (W.tree world.new) }
+    ensures images { KeepsImages options.now.store (W.tree world.old) (W.tree world.new) }
 {
     let pruned = survey(alloc, world, &options.store)?;
     let text = pruned_text(alloc, &pruned)?;

@@ -1,6 +1,4 @@
-use Rattle.std.proofs.Common.{subst, sym}
 use Rattle.std.proofs.lemmas.Result.{err_from_is_err_and}
-use Rattle.cnb_world.specs.Calls.{AreNames}
 use Rattle.steps.proofs.StepLemmas.{ended, went}
 use Rattle.store_prune.specs.Named.{adds_folder}
 use Rattle.store_prune.proofs.NamedSteps.{names_at}

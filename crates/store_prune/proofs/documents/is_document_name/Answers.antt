@@ -1,4 +1,4 @@
-use Rattle.std.proofs.Common.{◌∙◌, ap, sym}
+use Rattle.std.proofs.Common.{◌∙◌}
 use Rattle.store_prune.proofs.NameLemmas.{ends_not, ends_so}
 use Rattle.store_prune.proofs.documents.is_document_name.Goals as goal
 

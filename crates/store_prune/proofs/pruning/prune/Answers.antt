@@ -2,6 +2,7 @@ use Rattle.std.proofs.lemmas.Result.{err_from_is_err_and}
 use Rattle.steps.proofs.StepLemmas.{ended, went, yielded}
 use Rattle.store_prune.specs.Prunes.{prunes}
 use Rattle.store_prune.specs.declared.fault.PruneFault.{PruneFault}
+use Rattle.store_prune.proofs.ImageLaws.{images_kept}
 use Rattle.store_prune.proofs.NamedLaws.{named_stand}
 use Rattle.store_prune.proofs.PruneLaws.{kept_so, pruned_so}
 use Rattle.store_prune.proofs.PruneSteps.{trees_at}
@@ -49,3 +50,12 @@ returns-in_err-remove_trees-clause-named g c = named_stand c.args.store.now _ _ 
 
 pub returns-clause-named : goal.returns-clause-named
 returns-clause-named g c = named_stand c.args.store.now _ _ (returns-clause-kept g c)
+
+pub returns-in_err-pruned-clause-images : goal.returns-in_err-pruned-clause-images
+returns-in_err-pruned-clause-images g c = images_kept c.args.store.now _ _ (g.W.World.standing c.args.world.now) (returns-in_err-pruned-clause-kept g c)
+
+pub returns-in_err-remove_trees-clause-images : goal.returns-in_err-remove_trees-clause-images
+returns-in_err-remove_trees-clause-images g c = images_kept c.args.store.now _ _ (g.W.World.standing c.args.world.now) (returns-in_err-remove_trees-clause-kept g c)
+
+pub returns-clause-images : goal.returns-clause-images
+returns-clause-images g c = images_kept c.args.store.now _ _ (g.W.World.standing c.args.world.now) (returns-clause-kept g c)

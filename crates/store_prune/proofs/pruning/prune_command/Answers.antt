@@ -4,6 +4,7 @@ use Rattle.steps.proofs.StepLemmas.{ended, given, no_memory, went, yielded}
 use Rattle.store_prune.specs.Prunes.{prunes_command}
 use Rattle.store_prune.specs.declared.fault.PruneFault.{PruneFault}
 use Rattle.store_prune.specs.declared.fault.PruneFault.TheVariants.{Memory}
+use Rattle.store_prune.proofs.ImageLaws.{images_kept}
 use Rattle.store_prune.proofs.NamedLaws.{named_stand}
 use Rattle.store_prune.proofs.PruneLaws.{command_keeps}
 use Rattle.store_prune.proofs.PruneSteps.{trees_at}
@@ -56,3 +57,15 @@ returns-in_err-remove_trees-clause-named g c = named_stand c.args.options.now.st
 
 pub returns-clause-named : goal.returns-clause-named
 returns-clause-named g c = named_stand c.args.options.now.store _ _ (returns-clause-kept g c)
+
+pub returns-in_err-pruned-clause-images : goal.returns-in_err-pruned-clause-images
+returns-in_err-pruned-clause-images g c = images_kept c.args.options.now.store _ _ (g.W.World.standing c.args.world.now) (returns-in_err-pruned-clause-kept g c)
+
+pub returns-in_err-text-clause-images : goal.returns-in_err-text-clause-images
+returns-in_err-text-clause-images g c = images_kept c.args.options.now.store _ _ (g.W.World.standing c.args.world.now) (returns-in_err-text-clause-kept g c)
+
+pub returns-in_err-remove_trees-clause-images : goal.returns-in_err-remove_trees-clause-images
+returns-in_err-remove_trees-clause-images g c = images_kept c.args.options.now.store _ _ (g.W.World.standing c.args.world.now) (returns-in_err-remove_trees-clause-kept g c)
+
+pub returns-clause-images : goal.returns-clause-images
+returns-clause-images g c = images_kept c.args.options.now.store _ _ (g.W.World.standing c.args.world.now) (returns-clause-kept g c)

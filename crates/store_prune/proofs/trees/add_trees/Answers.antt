@@ -1,4 +1,3 @@
-use Rattle.std.proofs.Common.{◌∙◌, ap, subst, sym, Ok}
 use Rattle.std.proofs.lemmas.Result.{err_from_is_err_and}
 use Rattle.steps.proofs.EachLemmas.{goes_on, over, stops}
 use Rattle.store_prune.specs.Trees.{adds_tree}

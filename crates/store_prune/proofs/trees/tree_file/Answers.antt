@@ -1,5 +1,4 @@
-use Rattle.std.proofs.Common.{◌∙◌, ap}
-use Rattle.cnb_world.specs.Path.{joined}
+use Rattle.std.proofs.Common.{◌∙◌}
 use Rattle.hex.specs.Hex.{encode_lower}
 use Rattle.tree_store.proofs.StorePaths.{digest_part}
 use Rattle.store_prune.proofs.trees.tree_file.Goals as goal
