@@ -1,6 +1,7 @@
 pub mod CauseLemmas
 pub mod CommandLemmas
 pub mod CountLaws
+pub mod DetectingLemmas
 pub mod EndLemmas
 pub mod KeepLemmas
 pub mod SinkLemmas
@@ -8,4 +9,5 @@ pub mod PhaseLemmas
 pub mod NumberLemmas
 pub mod TellingLemmas
 pub mod LeaveLemmas
+pub mod VerifiedLaws
 mod LineLemmas

@@ -1,7 +1,7 @@
 -- A line that was cut.
 use Rattle.std.proofs.Common.{ℕ, List, Option, Err}
 use Rattle.cnb_lifecycle.specs.declared.refusal.Refusal.{Refusal}
-use Rattle.cnb_lifecycle.specs.declared.refusal.Refusal.TheVariants.{Usage, File, Memory, Document, Child, Limit, OddFile, PlatformApi, BuildpackApi, Order, NoTree, Exists, NoGroup, Damaged, NoImage, BuildFailed, UnknownUnmet, NoContents, Clash, NoPrevious, TwoDefaults, TopDiffers, TargetDiffers, ShellProcess, NoProcess, ExecFailed, BadExecOutput}
+use Rattle.cnb_lifecycle.specs.declared.refusal.Refusal.TheVariants.{Usage, File, Memory, Document, Child, Limit, OddFile, PlatformApi, BuildpackApi, Order, NoTree, Exists, NoGroup, BadRecord, RecordDiffers, Damaged, NoImage, BuildFailed, UnknownUnmet, NoContents, Clash, NoPrevious, TwoDefaults, BadPattern, TopDiffers, TargetDiffers, ShellProcess, NoProcess, ExecFailed, BadExecOutput}
 use Rattle.cnb_lifecycle.specs.declared.status.Status.TheVariants.{Output}
 use Rattle.cnb_lifecycle.specs.Printing.{AddsPart, Finishes, IsTold}
 use Rattle.cnb_lifecycle.specs.Report.{error_line}
@@ -21,6 +21,8 @@ cut_line (Order id ambiguous) before now told h = h
 cut_line (NoTree digest) before now told h = h
 cut_line (Exists path) before now told h = h
 cut_line (NoGroup erred) before now told h = h
+cut_line (BadRecord line) before now told h = h
+cut_line (RecordDiffers path) before now told h = h
 cut_line (Damaged asked found bad) before now told h = h
 cut_line (NoImage name) before now told h = h
 cut_line (BuildFailed id code) before now told h = h
@@ -29,6 +31,7 @@ cut_line (NoContents id layer) before now told h = h
 cut_line (Clash digest) before now told h = h
 cut_line (NoPrevious id layer) before now told h = h
 cut_line (TwoDefaults id) before now told h = h
+cut_line (BadPattern id pattern) before now told h = h
 cut_line (TopDiffers recorded found) before now told h = h
 cut_line (TargetDiffers old new) before now told h = h
 cut_line (ShellProcess word) before now told h = h

@@ -25,6 +25,9 @@ use Rattle.cnb_launch.specs.declared.fault.LaunchFault.{LaunchFault}
 use Rattle.cnb_launch.specs.declared.fault.LaunchFault.TheVariants as launch
 use Rattle.cnb_restore.specs.Commands as restore_command
 use Rattle.cnb_restore.specs.Faults as restoring
+use Rattle.cnb_record.specs.Refusals as checking
+use Rattle.cnb_record.specs.declared.refusal.CheckRefusal.{CheckRefusal}
+use Rattle.cnb_record.specs.declared.refusal.CheckRefusal.TheVariants as check
 use Rattle.cnb_restore.specs.declared.fault.RestoreFault.{RestoreFault}
 use Rattle.cnb_restore.specs.declared.fault.RestoreFault.TheVariants as restore
 use Rattle.cnb_restore.specs.declared.refusal.RestoreRefusal.{RestoreRefusal}
@@ -43,7 +46,7 @@ use Rattle.cnb_lifecycle.specs.declared.refusal.Refusal.{Refusal}
 use Rattle.steps.specs.EitherCounts.{EitherBy}
 use Rattle.cnb_lifecycle.specs.Faults.{cause_of}
 use Rattle.cnb_lifecycle.proofs.CauseLemmas.{same_cause}
-use Rattle.cnb_lifecycle.specs.PhaseFaults.{of_base, of_build, of_create, of_export, of_export_fault, of_image, of_launch, of_prune, of_rebase, of_restore, of_restore_refusal, of_store, of_verify}
+use Rattle.cnb_lifecycle.specs.PhaseFaults.{of_base, of_build, of_check, of_create, of_export, of_export_fault, of_image, of_launch, of_prune, of_rebase, of_restore, of_restore_refusal, of_store, of_verify}
 
 pub build_cause : (fault : BuildFault) → cause_of (of_build fault) ≡ building.cause_of fault
 build_cause (build.BuildFailed id code) = refl
@@ -84,6 +87,16 @@ pub base_cause : (fault : BaseFault) → cause_of (of_base fault) ≡ rebasing.b
 base_cause (base.Store fault) = store_cause fault
 base_cause (base.Image fault) = image_cause fault
 
+pub check_cause : (refusal : CheckRefusal) → cause_of (of_check refusal) ≡ checking.cause_of refusal
+check_cause (check.File path) = refl
+check_cause check.Memory = refl
+check_cause (check.Document path fault) = refl
+check_cause (check.Limit kind) = refl
+check_cause (check.BuildpackApi text) = refl
+check_cause (check.Order id ambiguous) = refl
+check_cause (check.BadRecord line) = refl
+check_cause (check.RecordDiffers path) = refl
+
 pub prune_cause : (fault : PruneFault) → cause_of (of_prune fault) ≡ pruning.cause_of fault
 prune_cause (prune.Document path fault) = refl
 prune_cause (prune.Limit kind) = refl
@@ -112,6 +125,7 @@ export_cause : (fault : ExportFault) → cause_of (of_export_fault fault) ≡ ex
 export_cause (export_fault.NoContents id layer) = refl
 export_cause (export_fault.NoPrevious id layer) = refl
 export_cause (export_fault.TwoDefaults id) = refl
+export_cause (export_fault.BadPattern id pattern) = refl
 export_cause (export_fault.NoImage name) = refl
 export_cause (export_fault.Document path fault) = refl
 export_cause (export_fault.Store fault) = store_cause fault

@@ -5,7 +5,7 @@ use Rattle.cnb_world.specs.declared.env.Variable.{Variable}
 use Rattle.cnb_world.specs.Env.{value_of}
 use Rattle.cnb_words.specs.Words.{asked_by}
 use Rattle.cnb_words.specs.declared.words.Asked.{Asked}
-use Rattle.cnb_words.specs.declared.words.Asked.TheVariants.{Detect, Analyze, Restore, Build, Export, Create, Rebase, Base, Unpack, Show, Prune, Verify, Drill, Launch}
+use Rattle.cnb_words.specs.declared.words.Asked.TheVariants.{Detect, Analyze, Restore, Build, Export, Create, Rebase, Base, Unpack, Show, Prune, Verify, Check, Drill, Launch}
 use Rattle.cnb_words.specs.declared.create.CreateWords.{CreateWords}
 use Rattle.cnb_words.specs.declared.detect.DetectWords.{DetectWords}
 use Rattle.cnb_words.specs.declared.fault.WordsFault.{WordsFault}
@@ -14,19 +14,19 @@ use Rattle.cnb_lifecycle.specs.declared.answer.Answer.TheVariants.{Printed, Laun
 use Rattle.cnb_lifecycle.specs.declared.refusal.Refusal.{Refusal}
 use Rattle.cnb_lifecycle.specs.declared.refusal.Refusal.TheVariants.{PlatformApi}
 use Rattle.cnb_lifecycle.specs.Faults.{cause_of, of_detect, of_words_fault}
-use Rattle.cnb_lifecycle.specs.PhaseFaults.{of_base, of_build, of_create, of_export, of_image, of_launch, of_prune, of_rebase, of_restore, of_restore_refusal, of_verify}
+use Rattle.cnb_lifecycle.specs.PhaseFaults.{of_base, of_build, of_check, of_create, of_export, of_image, of_launch, of_prune, of_rebase, of_restore, of_restore_refusal, of_verify}
 use Rattle.cnb_create.specs.Surroundings.{Surroundings, over_caches, over_outside, over_world}
+use Rattle.cnb_lifecycle.specs.Detecting.{detects_words}
 use Rattle.cnb_lifecycle.specs.Telling.{tells}
 use Rattle.cnb_build.specs.Command.{commands_build}
 use Rattle.cnb_create.specs.Creates.{creates}
-use Rattle.cnb_detect.specs.Detects.{detects}
-use Rattle.cnb_detect.specs.declared.target.TargetSource.TheVariants as target
 use Rattle.cnb_drill.specs.Report.{drill_text}
 use Rattle.cnb_export.specs.Command.{exports_command}
 use Rattle.cnb_launch.specs.Commands.{launches_command, unpacks_command}
 use Rattle.cnb_rebase.specs.Bases.{bases_command}
 use Rattle.cnb_rebase.specs.Rebases.{rebases_command}
 use Rattle.cnb_rebase.specs.Shows.{shows_command}
+use Rattle.cnb_record.specs.Checks.{checks}
 use Rattle.cnb_restore.specs.Commands.{analyzes_command, restores_command}
 use Rattle.steps.specs.Steps.{◌>>=◌, gives}
 use Rattle.store_prune.specs.Prunes.{prunes_command}
@@ -77,6 +77,7 @@ options_of_detect (Unpack options) = None
 options_of_detect (Show options) = None
 options_of_detect (Prune options) = None
 options_of_detect (Verify options) = None
+options_of_detect (Check options) = None
 options_of_detect (Drill options) = None
 options_of_detect (Launch options) = None
 
@@ -94,6 +95,7 @@ options_of_create (Unpack options) = None
 options_of_create (Show options) = None
 options_of_create (Prune options) = None
 options_of_create (Verify options) = None
+options_of_create (Check options) = None
 options_of_create (Drill options) = None
 options_of_create (Launch options) = None
 
@@ -110,7 +112,7 @@ refusal_of (Err refusal) = Some refusal
 -- What each command does. It answers the text to be printed, and `launch` how its child ended. The text of `drill` is known by
 -- its number, and nothing outside is read or changed.
 abbrev pub does : Asked → List Variable → Surroundings → Result Answer Refusal → Surroundings → Type 0
-does (Detect options) env = over_outside (tells Printed of_detect (detects target.Document options env))
+does (Detect options) env = over_outside (tells Printed of_detect (detects_words options env))
 does (Analyze options) env = over_world (tells Printed of_restore (analyzes_command options))
 does (Restore options) env = over_caches (tells Printed of_restore_refusal (restores_command options))
 does (Build options) env = over_world (tells Printed of_build (commands_build options env))
@@ -122,6 +124,7 @@ does (Unpack options) env = over_world (tells Printed of_launch (unpacks_command
 does (Show options) env = over_world (tells Printed of_image (shows_command options))
 does (Prune options) env = over_world (tells Printed of_prune (prunes_command options))
 does (Verify options) env = over_world (tells Printed of_verify (verifies_command options))
+does (Check options) env = over_world (tells Printed of_check (checks options))
 does (Drill options) env = gives cause_of (Ok (Printed (drill_text options.number)))
 does (Launch options) env = over_world (tells Launched of_launch (launches_command options env))
 
@@ -143,5 +146,6 @@ uses_caches (Unpack options) = false
 uses_caches (Show options) = false
 uses_caches (Prune options) = false
 uses_caches (Verify options) = false
+uses_caches (Check options) = false
 uses_caches (Drill options) = false
 uses_caches (Launch options) = false

@@ -5,7 +5,7 @@ use Rattle.cnb_detect.specs.declared.refusal.DetectRefusal.{DetectRefusal}
 use Rattle.cnb_detect.specs.declared.refusal.DetectRefusal.TheVariants as detect
 use Rattle.steps.specs.Causes.{Cause, FileFailed, ChildFailed, OutOfMemory, Decided}
 use Rattle.cnb_lifecycle.specs.declared.refusal.Refusal.{Refusal}
-use Rattle.cnb_lifecycle.specs.declared.refusal.Refusal.TheVariants.{Usage, File, Memory, Document, Child, Limit, OddFile, PlatformApi, BuildpackApi, Order, NoTree, Exists, NoGroup, Damaged, NoImage, BuildFailed, UnknownUnmet, NoContents, Clash, NoPrevious, TwoDefaults, TopDiffers, TargetDiffers, ShellProcess, NoProcess, ExecFailed, BadExecOutput}
+use Rattle.cnb_lifecycle.specs.declared.refusal.Refusal.TheVariants.{Usage, File, Memory, Document, Child, Limit, OddFile, PlatformApi, BuildpackApi, Order, NoTree, Exists, NoGroup, BadRecord, RecordDiffers, Damaged, NoImage, BuildFailed, UnknownUnmet, NoContents, Clash, NoPrevious, TwoDefaults, BadPattern, TopDiffers, TargetDiffers, ShellProcess, NoProcess, ExecFailed, BadExecOutput}
 
 abbrev pub of_words_fault : WordsFault → Refusal
 of_words_fault words.Usage = Usage
@@ -35,6 +35,8 @@ cause_of (Order id ambiguous) = Decided
 cause_of (NoTree digest) = Decided
 cause_of (Exists path) = Decided
 cause_of (NoGroup erred) = Decided
+cause_of (BadRecord line) = Decided
+cause_of (RecordDiffers path) = Decided
 cause_of (Damaged asked found bad) = Decided
 cause_of (NoImage name) = Decided
 cause_of (BuildFailed id code) = Decided
@@ -43,6 +45,7 @@ cause_of (NoContents id layer) = Decided
 cause_of (Clash digest) = Decided
 cause_of (NoPrevious id layer) = Decided
 cause_of (TwoDefaults id) = Decided
+cause_of (BadPattern id pattern) = Decided
 cause_of (TopDiffers recorded found) = Decided
 cause_of (TargetDiffers old new) = Decided
 cause_of (ShellProcess word) = Decided

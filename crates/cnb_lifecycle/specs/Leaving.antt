@@ -2,7 +2,7 @@
 use Rattle.std.specs.Prelude.{Option}
 use Rattle.cnb_world.specs.Tree.{Tree}
 use Rattle.cnb_words.specs.declared.words.Asked.{Asked}
-use Rattle.cnb_words.specs.declared.words.Asked.TheVariants.{Detect, Analyze, Restore, Build, Export, Create, Rebase, Base, Unpack, Show, Prune, Verify, Drill, Launch}
+use Rattle.cnb_words.specs.declared.words.Asked.TheVariants.{Detect, Analyze, Restore, Build, Export, Create, Rebase, Base, Unpack, Show, Prune, Verify, Check, Drill, Launch}
 use Rattle.image_files.specs.Images.{ImageStands, RunImageStands}
 use Rattle.cnb_lifecycle.specs.declared.status.Status.{Status}
 use Rattle.cnb_lifecycle.specs.declared.status.Status.TheVariants.{Done}
@@ -21,6 +21,7 @@ LeavesImage (Unpack options) files = Unit {0}
 LeavesImage (Show options) files = Unit {0}
 LeavesImage (Prune options) files = Unit {0}
 LeavesImage (Verify options) files = Unit {0}
+LeavesImage (Check options) files = Unit {0}
 LeavesImage (Drill options) files = Unit {0}
 LeavesImage (Launch options) files = Unit {0}
 

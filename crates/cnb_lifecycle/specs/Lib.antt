@@ -1,4 +1,5 @@
 pub mod Commands
+pub mod Detecting
 pub mod Ends
 pub mod Faults
 pub mod Keeping
@@ -8,3 +9,4 @@ pub mod Refusal
 pub mod Report
 pub mod Telling
 pub mod PhaseFaults
+pub mod Verified

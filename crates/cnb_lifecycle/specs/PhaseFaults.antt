@@ -17,6 +17,8 @@ use Rattle.cnb_rebase.specs.declared.refusal.BaseFault.{BaseFault}
 use Rattle.cnb_rebase.specs.declared.refusal.BaseFault.TheVariants as base
 use Rattle.cnb_rebase.specs.declared.refusal.RebaseFault.{RebaseFault}
 use Rattle.cnb_rebase.specs.declared.refusal.RebaseFault.TheVariants as rebase
+use Rattle.cnb_record.specs.declared.refusal.CheckRefusal.{CheckRefusal}
+use Rattle.cnb_record.specs.declared.refusal.CheckRefusal.TheVariants as check
 use Rattle.cnb_restore.specs.declared.fault.RestoreFault.{RestoreFault}
 use Rattle.cnb_restore.specs.declared.fault.RestoreFault.TheVariants as restore
 use Rattle.cnb_restore.specs.declared.refusal.RestoreRefusal.{RestoreRefusal}
@@ -27,7 +29,7 @@ use Rattle.store_prune.specs.declared.fault.VerifyFault.{VerifyFault}
 use Rattle.store_prune.specs.declared.fault.VerifyFault.TheVariants as verify
 use Rattle.cnb_lifecycle.specs.Faults.{of_detect}
 use Rattle.cnb_lifecycle.specs.declared.refusal.Refusal.{Refusal}
-use Rattle.cnb_lifecycle.specs.declared.refusal.Refusal.TheVariants.{File, Memory, Document, Child, Limit, OddFile, BuildpackApi, NoTree, Exists, Damaged, NoImage, BuildFailed, UnknownUnmet, NoContents, Clash, NoPrevious, TwoDefaults, TopDiffers, TargetDiffers, ShellProcess, NoProcess, ExecFailed, BadExecOutput}
+use Rattle.cnb_lifecycle.specs.declared.refusal.Refusal.TheVariants.{File, Memory, Document, Child, Limit, OddFile, BuildpackApi, Order, NoTree, Exists, BadRecord, RecordDiffers, Damaged, NoImage, BuildFailed, UnknownUnmet, NoContents, Clash, NoPrevious, TwoDefaults, BadPattern, TopDiffers, TargetDiffers, ShellProcess, NoProcess, ExecFailed, BadExecOutput}
 
 abbrev pub of_build : BuildFault → Refusal
 of_build (build.BuildFailed id code) = BuildFailed id code
@@ -68,6 +70,16 @@ abbrev pub of_base : BaseFault → Refusal
 of_base (base.Store fault) = of_store fault
 of_base (base.Image fault) = of_image fault
 
+abbrev pub of_check : CheckRefusal → Refusal
+of_check (check.File path) = File path
+of_check check.Memory = Memory
+of_check (check.Document path fault) = Document path fault
+of_check (check.Limit kind) = Limit kind
+of_check (check.BuildpackApi text) = BuildpackApi text
+of_check (check.Order id ambiguous) = Order id ambiguous
+of_check (check.BadRecord line) = BadRecord line
+of_check (check.RecordDiffers path) = RecordDiffers path
+
 abbrev pub of_prune : PruneFault → Refusal
 of_prune (prune.Document path fault) = Document path fault
 of_prune (prune.Limit kind) = Limit kind
@@ -96,6 +108,7 @@ abbrev pub of_export_fault : ExportFault → Refusal
 of_export_fault (export_fault.NoContents id layer) = NoContents id layer
 of_export_fault (export_fault.NoPrevious id layer) = NoPrevious id layer
 of_export_fault (export_fault.TwoDefaults id) = TwoDefaults id
+of_export_fault (export_fault.BadPattern id pattern) = BadPattern id pattern
 of_export_fault (export_fault.NoImage name) = NoImage name
 of_export_fault (export_fault.Document path fault) = Document path fault
 of_export_fault (export_fault.Store fault) = of_store fault

@@ -1,13 +1,13 @@
 -- The exit status of a refusal (platform.md, "detector" to "launcher", and own), and the words of its error line.
 use Rattle.std.specs.Prelude.{ℕ, ℤ, true, false, List, [], ◌∷◌, ◌++◌, codes, if◌then◌else◌, Option, Some, None}
-use Rattle.std.specs.Fmt.{signed_decimal}
+use Rattle.std.specs.Fmt.{decimal, signed_decimal}
 use Rattle.hex.specs.Hex.{encode_lower}
 use Rattle.cnb_world.specs.declared.limits.LimitKind.{LimitKind}
-use Rattle.cnb_world.specs.declared.limits.LimitKind.TheVariants.{Groups, Entries, Nesting, Trials, Tree, Depth, Document as DocumentLimit}
+use Rattle.cnb_world.specs.declared.limits.LimitKind.TheVariants.{Groups, Entries, Nesting, Trials, Tree, Depth, Document as DocumentLimit, Record}
 use Rattle.cnb_toml.specs.declared.fault.DocFault.{DocFault}
 use Rattle.cnb_toml.specs.declared.fault.DocFault.TheVariants as fault
 use Rattle.cnb_lifecycle.specs.declared.refusal.Refusal.{Refusal}
-use Rattle.cnb_lifecycle.specs.declared.refusal.Refusal.TheVariants.{Usage, File, Memory, Document, Child, Limit, OddFile, PlatformApi, BuildpackApi, Order, NoTree, Exists, NoGroup, Damaged, NoImage, BuildFailed, UnknownUnmet, NoContents, Clash, NoPrevious, TwoDefaults, TopDiffers, TargetDiffers, ShellProcess, NoProcess, ExecFailed, BadExecOutput}
+use Rattle.cnb_lifecycle.specs.declared.refusal.Refusal.TheVariants.{Usage, File, Memory, Document, Child, Limit, OddFile, PlatformApi, BuildpackApi, Order, NoTree, Exists, NoGroup, BadRecord, RecordDiffers, Damaged, NoImage, BuildFailed, UnknownUnmet, NoContents, Clash, NoPrevious, TwoDefaults, BadPattern, TopDiffers, TargetDiffers, ShellProcess, NoProcess, ExecFailed, BadExecOutput}
 
 abbrev pub code_of : Refusal → ℕ
 code_of Usage = 1
@@ -24,6 +24,8 @@ code_of (NoTree digest) = 14
 code_of (Exists path) = 15
 code_of (NoGroup false) = 20
 code_of (NoGroup true) = 21
+code_of (BadRecord line) = 22
+code_of (RecordDiffers path) = 23
 code_of (Damaged asked found bad) = 30
 code_of (NoImage name) = 31
 code_of (BuildFailed id code) = 51
@@ -32,6 +34,7 @@ code_of (NoContents id layer) = 60
 code_of (Clash digest) = 61
 code_of (NoPrevious id layer) = 62
 code_of (TwoDefaults id) = 63
+code_of (BadPattern id pattern) = 64
 code_of (TopDiffers recorded found) = 70
 code_of (TargetDiffers old new) = 71
 code_of (ShellProcess word) = 80
@@ -53,6 +56,8 @@ name_of (Order id ambiguous) = codes "Order"
 name_of (NoTree digest) = codes "NoTree"
 name_of (Exists path) = codes "Exists"
 name_of (NoGroup erred) = codes "NoGroup"
+name_of (BadRecord line) = codes "BadRecord"
+name_of (RecordDiffers path) = codes "RecordDiffers"
 name_of (Damaged asked found bad) = codes "Damaged"
 name_of (NoImage name) = codes "NoImage"
 name_of (BuildFailed id code) = codes "BuildFailed"
@@ -61,6 +66,7 @@ name_of (NoContents id layer) = codes "NoContents"
 name_of (Clash digest) = codes "Clash"
 name_of (NoPrevious id layer) = codes "NoPrevious"
 name_of (TwoDefaults id) = codes "TwoDefaults"
+name_of (BadPattern id pattern) = codes "BadPattern"
 name_of (TopDiffers recorded found) = codes "TopDiffers"
 name_of (TargetDiffers old new) = codes "TargetDiffers"
 name_of (ShellProcess word) = codes "ShellProcess"
@@ -76,6 +82,7 @@ limit_name Trials = codes "trials"
 limit_name Tree = codes "tree"
 limit_name Depth = codes "depth"
 limit_name DocumentLimit = codes "document"
+limit_name Record = codes "record"
 
 abbrev pub fault_name : DocFault → List ℕ
 fault_name fault.Absent = codes "Absent"
@@ -135,6 +142,8 @@ detail_of (Order id ambiguous) = Some (spaced (if ambiguous then codes "Ambiguou
 detail_of (NoTree digest) = Some (encode_lower digest)
 detail_of (Exists path) = Some path
 detail_of (NoGroup erred) = None
+detail_of (BadRecord line) = Some (decimal line)
+detail_of (RecordDiffers path) = Some path
 detail_of (Damaged asked found bad) = Some (spaced (encode_lower asked) (encode_lower found))
 detail_of (NoImage name) = Some name
 detail_of (BuildFailed id code) = Some (spaced id (code_text code))
@@ -143,6 +152,7 @@ detail_of (NoContents id layer) = Some (layer_text id layer)
 detail_of (Clash digest) = Some (encode_lower digest)
 detail_of (NoPrevious id layer) = Some (layer_text id layer)
 detail_of (TwoDefaults id) = Some id
+detail_of (BadPattern id pattern) = Some (spaced id pattern)
 detail_of (TopDiffers recorded found) = Some (spaced (encode_lower recorded) (encode_lower found))
 detail_of (TargetDiffers old new) = Some (spaced old new)
 detail_of (ShellProcess word) = unless_empty word

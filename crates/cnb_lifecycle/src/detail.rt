@@ -1,5 +1,6 @@
 // What stands behind a refusal's name in its line.
 ghost use Rattle.std.specs.Prelude.{◌≡◌, IfOk};
+ghost use Rattle.std.specs.Fmt.{decimal};
 ghost use Rattle.std.specs.Option.{option_map};
 ghost use Rattle.hex.specs.Hex.{encode_lower};
 ghost use Rattle.cnb_lifecycle.specs.Refusal.{code_text, detail_of, fault_name, fault_path, layer_text, limit_name, spaced, unless_empty};
@@ -31,6 +32,7 @@ fn limit_name(kind: LimitKind) -> &'static str
         LimitKind::Tree => "tree",
         LimitKind::Depth => "depth",
         LimitKind::Document => "document",
+        LimitKind::Record => "record",
     }
 }
 
@@ -108,6 +110,12 @@ fn layer_text(alloc: Global, id: &BpId, layer: &LayerName) -> Result<Text, Memor
     Ok(Text::from_string(format!(in alloc; "{id}:{layer}")?))
 }
 
+fn number_text(alloc: Global, number: u32) -> Result<Text, Memory>
+    ensures { IfOk result (λ text. text ≡ decimal number) }
+{
+    Ok(Text::from_string(format!(in alloc; "{number}")?))
+}
+
 fn ended_text(alloc: Global, what: &str, code: Option<i32>) -> Result<Text, Memory>
     ensures { IfOk result (λ text. text ≡ spaced what.now (code_text code)) }
 {
@@ -138,6 +146,8 @@ impl Refusal {
             Refusal::File(path) => Text::of(alloc, path.as_str()).map(Some),
             Refusal::OddFile(path) => Text::of(alloc, path.as_str()).map(Some),
             Refusal::Exists(path) => Text::of(alloc, path.as_str()).map(Some),
+            Refusal::RecordDiffers(path) => Text::of(alloc, path.as_str()).map(Some),
+            Refusal::BadRecord(line) => number_text(alloc, *line).map(Some),
             Refusal::BadExecOutput(path) => Text::of(alloc, path.as_str()).map(Some),
             Refusal::Document(path, fault) => document_detail(alloc, path, fault).map(Some),
             Refusal::Limit(kind) => Text::of(alloc, limit_name(*kind)).map(Some),
@@ -157,6 +167,7 @@ impl Refusal {
             Refusal::NoContents(id, layer) => layer_text(alloc, id, layer).map(Some),
             Refusal::NoPrevious(id, layer) => layer_text(alloc, id, layer).map(Some),
             Refusal::TwoDefaults(id) => Text::of(alloc, id.as_str()).map(Some),
+            Refusal::BadPattern(id, text) => spaced(alloc, id.as_str(), text.as_str()).map(Some),
             Refusal::TargetDiffers { old, new } => spaced(alloc, old.as_str(), new.as_str()).map(
                 Some,
             ),

@@ -20,8 +20,10 @@ mod report;
 mod running;
 mod status;
 mod top;
+mod verified;
 
 pub use answer::Answer;
 pub use refusal::Refusal;
 pub use status::Status;
 pub use top::lifecycle;
+pub use verified::verified_images_unpack;

@@ -5,6 +5,7 @@ use cnb_create::CreateRefusal;
 use cnb_export::{ExportFault, ExportRefusal};
 use cnb_launch::LaunchFault;
 use cnb_rebase::{BaseFault, RebaseFault};
+use cnb_record::CheckRefusal;
 use cnb_restore::{RestoreFault, RestoreRefusal};
 use image_files::ImageFault;
 use store_prune::{PruneFault, VerifyFault};
@@ -174,9 +175,30 @@ impl From<ExportFault> for Refusal {
             ExportFault::NoContents(id, layer) => Refusal::NoContents(id, layer),
             ExportFault::NoPrevious(id, layer) => Refusal::NoPrevious(id, layer),
             ExportFault::TwoDefaults(id) => Refusal::TwoDefaults(id),
+            ExportFault::BadPattern(id, text) => Refusal::BadPattern(id, text),
             ExportFault::NoImage(name) => Refusal::NoImage(name),
             ExportFault::Document(path, fault) => Refusal::Document(path, fault),
             ExportFault::Store(fault) => Refusal::from(fault),
+        }
+    }
+}
+
+impl From<CheckRefusal> for Refusal {
+    ghost use Rattle.std.specs.Prelude.{◌≡◌};
+    ghost use Rattle.cnb_lifecycle.specs.PhaseFaults.{of_check};
+
+    ghost from_gives = { λ refusal given. given ≡ of_check refusal };
+
+    fn from(refusal: CheckRefusal) -> Self {
+        match refusal {
+            CheckRefusal::File(path) => Refusal::File(path),
+            CheckRefusal::Memory => Refusal::Memory,
+            CheckRefusal::Document(path, fault) => Refusal::Document(path, fault),
+            CheckRefusal::Limit(kind) => Refusal::Limit(kind),
+            CheckRefusal::BuildpackApi(api) => Refusal::BuildpackApi(api),
+            CheckRefusal::Order { id, ambiguous } => Refusal::Order { id, ambiguous },
+            CheckRefusal::BadRecord(line) => Refusal::BadRecord(line),
+            CheckRefusal::RecordDiffers(path) => Refusal::RecordDiffers(path),
         }
     }
 }

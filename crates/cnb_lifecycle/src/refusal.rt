@@ -40,6 +40,10 @@ pub enum Refusal {
     NoGroup {
         erred: bool,
     },
+    /// The line of this number, from 1, of the record of a detection doesn't meet its rule.
+    BadRecord(u32),
+    /// The document at this path isn't the one that the record of a detection gives.
+    RecordDiffers(Path),
     /// The bytes that are kept under a digest have another one, or spell no tree, for this reason.
     Damaged {
         asked: Digest,
@@ -68,6 +72,8 @@ pub enum Refusal {
     NoPrevious(BpId, LayerName),
     /// A buildpack marks two processes as the default.
     TwoDefaults(BpId),
+    /// A buildpack has a slice with a text that is no pattern.
+    BadPattern(BpId, Text),
     /// The run image below an image isn't the one that it was made on.
     TopDiffers {
         recorded: Digest,
@@ -111,6 +117,8 @@ impl Refusal {
             Refusal::Exists(_) => 15,
             Refusal::NoGroup { erred: false } => 20,
             Refusal::NoGroup { erred: true } => 21,
+            Refusal::BadRecord(_) => 22,
+            Refusal::RecordDiffers(_) => 23,
             Refusal::Damaged { .. } => 30,
             Refusal::NoImage(_) => 31,
             Refusal::BuildFailed { .. } => 51,
@@ -119,6 +127,7 @@ impl Refusal {
             Refusal::Clash { .. } => 61,
             Refusal::NoPrevious(_, _) => 62,
             Refusal::TwoDefaults(_) => 63,
+            Refusal::BadPattern(_, _) => 64,
             Refusal::TopDiffers { .. } => 70,
             Refusal::TargetDiffers { .. } => 71,
             Refusal::ShellProcess(_) => 80,
@@ -146,6 +155,8 @@ impl Refusal {
             Refusal::NoTree(_) => "NoTree",
             Refusal::Exists(_) => "Exists",
             Refusal::NoGroup { .. } => "NoGroup",
+            Refusal::BadRecord(_) => "BadRecord",
+            Refusal::RecordDiffers(_) => "RecordDiffers",
             Refusal::Damaged { .. } => "Damaged",
             Refusal::NoImage(_) => "NoImage",
             Refusal::BuildFailed { .. } => "BuildFailed",
@@ -154,6 +165,7 @@ impl Refusal {
             Refusal::Clash { .. } => "Clash",
             Refusal::NoPrevious(_, _) => "NoPrevious",
             Refusal::TwoDefaults(_) => "TwoDefaults",
+            Refusal::BadPattern(_, _) => "BadPattern",
             Refusal::TopDiffers { .. } => "TopDiffers",
             Refusal::TargetDiffers { .. } => "TargetDiffers",
             Refusal::ShellProcess(_) => "ShellProcess",

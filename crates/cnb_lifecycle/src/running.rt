@@ -1,27 +1,29 @@
 // What the commands do that use neither caches nor what was exported, with their refusals as the lifecycle's.
-ghost use Rattle.std.specs.Prelude.{◌<◌, List as Seq, ℕ, length};
+ghost use Rattle.std.specs.Prelude.{◌≡◌, ◌<◌, List as Seq, ℕ, IsTrue, None, Some, length};
 ghost use Rattle.cnb_words.specs.Analyze as analyze_words;
 ghost use Rattle.cnb_words.specs.Base as base_words;
 ghost use Rattle.cnb_words.specs.Build as build_words;
+ghost use Rattle.cnb_words.specs.Check as check_words;
+ghost use Rattle.cnb_words.specs.Choice as choice_words;
 ghost use Rattle.cnb_words.specs.Detect.{KeepsLimits};
 ghost use Rattle.cnb_words.specs.Prune as prune_words;
 ghost use Rattle.cnb_words.specs.Rebase as rebase_words;
+ghost use Rattle.cnb_words.specs.RecordPath.{is_record_path};
 ghost use Rattle.cnb_words.specs.Show as show_words;
 ghost use Rattle.cnb_words.specs.Verify as verify_words;
 ghost use Rattle.steps.specs.Outside.{faults_of, outside, seen, spawners_seen};
 ghost use Rattle.cnb_build.specs.Command.{commands_build};
-ghost use Rattle.cnb_detect.specs.Detects.{detects};
-ghost use Rattle.cnb_detect.specs.declared.target.TargetSource.TheVariants as target;
-ghost use Rattle.cnb_detect.specs.Outcome.{ComesTo};
 ghost use Rattle.cnb_rebase.specs.Bases.{bases_command};
 ghost use Rattle.cnb_rebase.specs.Rebases.{rebases_command};
 ghost use Rattle.cnb_rebase.specs.Shows.{shows_command};
+ghost use Rattle.cnb_record.specs.Checks.{checks};
 ghost use Rattle.cnb_restore.specs.Commands.{analyzes_command};
 ghost use Rattle.store_prune.specs.Prunes.{prunes_command};
 ghost use Rattle.store_prune.specs.Verifies.{verifies_command};
+ghost use Rattle.cnb_lifecycle.specs.Detecting.{comes_into, detects_into, detects_words, ComesToWords};
 ghost use Rattle.cnb_lifecycle.specs.Ends.{CountsChild};
 ghost use Rattle.cnb_lifecycle.specs.Faults.{cause_of, of_detect};
-ghost use Rattle.cnb_lifecycle.specs.PhaseFaults.{of_base, of_build, of_image, of_prune, of_rebase, of_restore, of_verify};
+ghost use Rattle.cnb_lifecycle.specs.PhaseFaults.{of_base, of_build, of_check, of_image, of_prune, of_rebase, of_restore, of_verify};
 ghost use Rattle.cnb_lifecycle.specs.Telling.{tells};
 
 use crate::answer::Answer;
@@ -29,15 +31,66 @@ use crate::refusal::Refusal;
 use cnb_build::build_command;
 use cnb_detect::detect;
 use cnb_rebase::{base_command, rebase_command, show_command};
+use cnb_record::{check, detect_recorded};
 use cnb_restore::analyze_command;
 use cnb_words::{
-    AnalyzeWords, BaseWords, BuildWords, DetectWords, PruneWords, RebaseWords, ShowWords,
-    VerifyWords,
+    AnalyzeWords, BaseWords, BuildWords, CheckWords, ChoiceWords, DetectWords, PruneWords,
+    RebaseWords, ShowWords, VerifyWords,
 };
-use cnb_world::{Env, Spawner, World};
+use cnb_world::{Env, Path, Spawner, World};
 use std::alloc::Global;
 use std::thread::Threads;
 use store_prune::{prune_command, verify_command};
+
+// Chooses a group without a record.
+fn run_choice<W: World, S: Spawner + Send, R: Threads + Sync>(
+    rt: &R,
+    alloc: Global,
+    options: &ChoiceWords,
+    env: &Env,
+    world: &mut W,
+    spawners: &mut Vec<S>,
+) -> Result<Answer, Refusal>
+    requires limits { choice_words.KeepsLimits options.now }
+    requires spawners { 0 < length spawners.old.items }
+    ensures steps { tells Answer.Printed of_detect (detects_into None options.now env.now)
+        (outside W.World S.Spawner world.old spawners.old.items)
+        result
+        (outside W.World S.Spawner world.new spawners.new.items) }
+    ensures outcome { tells Answer.Printed of_detect (comes_into None options.now env.now)
+        (outside W.World S.Spawner world.old spawners.old.items)
+        result
+        (outside W.World S.Spawner world.new spawners.new.items) }
+{
+    let text = detect(rt, alloc, options, env, world, spawners)?;
+    Ok(Answer::Printed(text))
+}
+
+// Chooses a group, and leaves the record of that.
+fn run_recorded<W: World, S: Spawner + Send, R: Threads + Sync>(
+    rt: &R,
+    alloc: Global,
+    options: &ChoiceWords,
+    path: &Path,
+    env: &Env,
+    world: &mut W,
+    spawners: &mut Vec<S>,
+) -> Result<Answer, Refusal>
+    requires limits { choice_words.KeepsLimits options.now }
+    requires place { IsTrue (is_record_path options.now.work path.now) }
+    requires spawners { 0 < length spawners.old.items }
+    ensures steps { tells Answer.Printed of_detect (detects_into (Some path.now) options.now env.now)
+        (outside W.World S.Spawner world.old spawners.old.items)
+        result
+        (outside W.World S.Spawner world.new spawners.new.items) }
+    ensures outcome { tells Answer.Printed of_detect (comes_into (Some path.now) options.now env.now)
+        (outside W.World S.Spawner world.old spawners.old.items)
+        result
+        (outside W.World S.Spawner world.new spawners.new.items) }
+{
+    let text = detect_recorded(rt, alloc, options, path, env, world, spawners)?;
+    Ok(Answer::Printed(text))
+}
 
 /// Does what the options of `detect` ask for.
 pub(crate) fn run_detect<W: World, S: Spawner + Send, R: Threads + Sync>(
@@ -50,16 +103,32 @@ pub(crate) fn run_detect<W: World, S: Spawner + Send, R: Threads + Sync>(
 ) -> Result<Answer, Refusal>
     requires limits { KeepsLimits options.now }
     requires spawners { 0 < length spawners.old.items }
-    ensures steps { tells Answer.Printed of_detect (detects target.Document options.now env.now)
+    ensures steps { tells Answer.Printed of_detect (detects_words options.now env.now)
         (outside W.World S.Spawner world.old spawners.old.items)
         result
         (outside W.World S.Spawner world.new spawners.new.items) }
-    ensures outcome { tells Answer.Printed of_detect (ComesTo target.Document options.now env.now)
+    ensures outcome { tells Answer.Printed of_detect (ComesToWords options.now env.now)
         (outside W.World S.Spawner world.old spawners.old.items)
         result
         (outside W.World S.Spawner world.new spawners.new.items) }
 {
-    let text = detect(rt, alloc, options, env, world, spawners)?;
+    match &options.proof_path {
+        None => run_choice(rt, alloc, &options.choice, env, world, spawners),
+        Some(path) => run_recorded(rt, alloc, &options.choice, path, env, world, spawners),
+    }
+}
+
+/// Does what the options of `check` ask for.
+pub(crate) fn run_check<W: World>(
+    alloc: Global,
+    options: &CheckWords,
+    world: &mut W,
+) -> Result<Answer, Refusal>
+    requires limits { check_words.KeepsLimits options.now }
+    ensures steps { tells Answer.Printed of_check (checks options.now)
+        (seen W.World world.old) result (seen W.World world.new) }
+{
+    let text = check(alloc, options, world)?;
     Ok(Answer::Printed(text))
 }
 

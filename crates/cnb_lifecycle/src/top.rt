@@ -6,9 +6,8 @@ ghost use Rattle.steps.specs.Outside.{faults_of, outside, seen, spawners_seen};
 ghost use Rattle.steps.specs.Steps.{gives};
 ghost use Rattle.shelf_set.specs.Caches.{caches_of};
 ghost use Rattle.shelf_set.specs.Dropping.{AreStanding};
-ghost use Rattle.cnb_detect.specs.Outcome.{ComesTo};
-ghost use Rattle.cnb_detect.specs.declared.target.TargetSource.TheVariants as target;
 ghost use Rattle.cnb_lifecycle.specs.Commands.{after_words, asked_of, command_in, does, options_in, options_of_create, options_of_detect, refusal_of, uses_caches, On};
+ghost use Rattle.cnb_lifecycle.specs.Detecting.{ComesToWords};
 ghost use Rattle.cnb_lifecycle.specs.Ends.{CauseOfChild, CauseOfFile, Ends};
 ghost use Rattle.cnb_lifecycle.specs.Faults.{cause_of, of_detect};
 ghost use Rattle.cnb_lifecycle.specs.Keeping.{KeepsCreated, OnRefusal};
@@ -28,7 +27,8 @@ use crate::phases::{run_create, run_export, run_restore};
 use crate::printing::finish;
 use crate::refusal::Refusal;
 use crate::running::{
-    run_analyze, run_base, run_build, run_detect, run_prune, run_rebase, run_show, run_verify,
+    run_analyze, run_base, run_build, run_check, run_detect, run_prune, run_rebase, run_show,
+    run_verify,
 };
 use crate::status::Status;
 use cnb_words::Asked;
@@ -60,7 +60,7 @@ fn run_asked<W: World, S: Spawner + Send, R: Threads + Sync>(
         (surroundings (outside W.World S.Spawner world.new spawners.new.items)
         (caches_of (map (λ s. shelf_seen (⟦<dyn Shelf as Shelf>⟧ s.vtable) s.value) shelves.new.items) places.new)) }
     ensures outcome { On (options_of_detect asked.now) (λ options.
-        over_outside (tells Answer.Printed of_detect (ComesTo target.Document options env.now))
+        over_outside (tells Answer.Printed of_detect (ComesToWords options env.now))
         (surroundings (outside W.World S.Spawner world.old spawners.old.items)
         (caches_of (map (λ s. shelf_seen (⟦<dyn Shelf as Shelf>⟧ s.vtable) s.value) shelves.old.items) places.old))
         result
@@ -92,6 +92,7 @@ fn run_asked<W: World, S: Spawner + Send, R: Threads + Sync>(
         Asked::Show(options) => run_show(alloc, options, world),
         Asked::Prune(options) => run_prune(alloc, options, world),
         Asked::Verify(options) => run_verify(alloc, options, world),
+        Asked::Check(options) => run_check(alloc, options, world),
         Asked::Drill(options) => run_drill(rt, alloc, options),
         Asked::Launch(options) => run_launch(alloc, options, env, world),
     }
@@ -129,7 +130,7 @@ fn run_words<W: World, S: Spawner + Send, R: Threads + Sync>(
     ensures outcome { let all = range_with_len 0 (length shelves.old.items) in
         On (options_in options_of_detect (command_in (map string_bytes words.now) env.now)) (λ options.
         (standing : Seq ℕ) × after_words
-        (over_outside (tells Answer.Printed of_detect (ComesTo target.Document options env.now)))
+        (over_outside (tells Answer.Printed of_detect (ComesToWords options env.now)))
         (surroundings (outside W.World S.Spawner world.old spawners.old.items)
         (caches_of (map (λ s. shelf_seen (⟦<dyn Shelf as Shelf>⟧ s.vtable) s.value) shelves.old.items) all))
         result
@@ -198,10 +199,11 @@ pub fn lifecycle<W: World, S: Spawner + Send, O: Sink, R: Threads + Sync>(
         result (O.taken out.old) (O.taken out.new)) }
     // So `detect` comes to the choice of the first trial that passes, by the files and by what its children answered,
     // however many workers ran them and in whatever order they finished, or to its refusal; each document is the old
-    // one or the whole new one, and all other files are as before.
+    // one or the whole new one, and all other files are as before. Where a record is asked for, it is left too, and
+    // proves the choice.
     ensures outcome { let all = range_with_len 0 (length shelves.old.items) in
         On (options_in options_of_detect (command_in (map string_bytes words.now) env.now)) (λ options.
-        Ends (after_words (over_outside (tells Answer.Printed of_detect (ComesTo target.Document options env.now))))
+        Ends (after_words (over_outside (tells Answer.Printed of_detect (ComesToWords options env.now))))
         (surroundings (outside W.World S.Spawner world.old spawners.old.items)
         (caches_of (map (λ s. shelf_seen (⟦<dyn Shelf as Shelf>⟧ s.vtable) s.value) shelves.old.items) all))
         (outside W.World S.Spawner world.new spawners.new.items)

@@ -1,21 +1,17 @@
-use Rattle.std.proofs.lemmas.Result.{err_from_is_err_and}
-use Rattle.cnb_lifecycle.specs.declared.answer.Answer.TheVariants.{Printed}
-use Rattle.cnb_lifecycle.proofs.TellingLemmas.{told, told_fault}
-use Rattle.cnb_lifecycle.specs.Faults.{of_detect}
+use Rattle.cnb_lifecycle.proofs.DetectingLemmas.{comes_so, detects_so, free_so}
 use Rattle.cnb_lifecycle.proofs.running.run_detect.Goals as goal
 
-pub returns-in_err-text-clause-steps : goal.returns-in_err-text-clause-steps
-returns-in_err-text-clause-steps g c =
-    let exit = err_from_is_err_and c.from_residual.result c.from_residual.ensures.1 in
-    rw (exit.1, exit.2) (told_fault Printed of_detect _ _ _ _ c.in_err-text.ensures.steps)
+pub run_recorded-requires-clause-place : goal.run_recorded-requires-clause-place
+run_recorded-requires-clause-place g c κs within = free_so c.args.options.now.choice.work _ _ c.in-Some.is c.requires.limits.is_free
 
-pub returns-in_err-text-clause-outcome : goal.returns-in_err-text-clause-outcome
-returns-in_err-text-clause-outcome g c =
-    let exit = err_from_is_err_and c.from_residual.result c.from_residual.ensures.1 in
-    rw (exit.1, exit.2) (told_fault Printed of_detect _ _ _ _ c.in_err-text.ensures.outcome)
+pub returns-in-None-clause-steps : goal.returns-in-None-clause-steps
+returns-in-None-clause-steps g c = detects_so _ _ _ _ _ _ _ c.in-None.is c.run_choice.ensures.steps
 
-pub returns-clause-steps : goal.returns-clause-steps
-returns-clause-steps g c = told Printed of_detect _ _ _ _ c.in_ok-text.ensures.steps
+pub returns-in-None-clause-outcome : goal.returns-in-None-clause-outcome
+returns-in-None-clause-outcome g c = comes_so _ _ _ _ _ _ _ c.in-None.is c.run_choice.ensures.outcome
 
-pub returns-clause-outcome : goal.returns-clause-outcome
-returns-clause-outcome g c = told Printed of_detect _ _ _ _ c.in_ok-text.ensures.outcome
+pub returns-in-Some-clause-steps : goal.returns-in-Some-clause-steps
+returns-in-Some-clause-steps g c = detects_so _ _ _ _ _ _ _ c.in-Some.is c.run_recorded.ensures.steps
+
+pub returns-in-Some-clause-outcome : goal.returns-in-Some-clause-outcome
+returns-in-Some-clause-outcome g c = comes_so _ _ _ _ _ _ _ c.in-Some.is c.run_recorded.ensures.outcome

@@ -1,10 +1,9 @@
 use Rattle.std.proofs.Common.{Err}
 use Rattle.steps.specs.Outside.{outside}
 use Rattle.steps.specs.Steps.{gives}
-use Rattle.cnb_detect.specs.Outcome.{ComesTo}
-use Rattle.cnb_detect.specs.declared.target.TargetSource.TheVariants as target
 use Rattle.cnb_lifecycle.specs.Commands.{after_words, does}
 use Rattle.cnb_create.specs.Headline.{ComesToImage}
+use Rattle.cnb_lifecycle.specs.Detecting.{ComesToWords}
 use Rattle.cnb_lifecycle.specs.Faults.{cause_of, of_detect}
 use Rattle.cnb_lifecycle.specs.PhaseFaults.{of_create}
 use Rattle.cnb_create.specs.Surroundings.{over_outside, surroundings}
@@ -27,7 +26,7 @@ returns-clause-does g c =
 
 pub returns-clause-outcome : goal.returns-clause-outcome
 returns-clause-outcome g c =
-    ends_counted _ (λ options. after_words (over_outside (tells Printed of_detect (ComesTo target.Document options c.args.env.now)))) _ c.args.env.now _ _ _ _ _ _ _ _ c.run_words-end.ensures.outcome c.run_words-end.ensures.refused c.run_words-end.ensures.does c.finish.ensures.finishes
+    ends_counted _ (λ options. after_words (over_outside (tells Printed of_detect (ComesToWords options c.args.env.now)))) _ c.args.env.now _ _ _ _ _ _ _ _ c.run_words-end.ensures.outcome c.run_words-end.ensures.refused c.run_words-end.ensures.does c.finish.ensures.finishes
 
 pub returns-clause-headline : goal.returns-clause-headline
 returns-clause-headline g c =

@@ -1,9 +1,8 @@
 use Rattle.std.proofs.Common.{refl}
 use Rattle.std.specs.Prelude.{OnErr}
-use Rattle.cnb_detect.specs.Outcome.{ComesTo}
-use Rattle.cnb_detect.specs.declared.target.TargetSource.TheVariants as target
 use Rattle.cnb_create.specs.Headline.{ComesToImage}
 use Rattle.cnb_lifecycle.specs.Commands.{options_of_create, options_of_detect}
+use Rattle.cnb_lifecycle.specs.Detecting.{ComesToWords}
 use Rattle.cnb_lifecycle.specs.Faults.{of_detect}
 use Rattle.cnb_lifecycle.specs.Keeping.{KeepsCreated}
 use Rattle.cnb_lifecycle.specs.PhaseFaults.{of_create}
@@ -17,7 +16,7 @@ use Rattle.cnb_lifecycle.proofs.top.run_asked.Goals as goal
 
 pub returns-in-Detect-clause-outcome : goal.returns-in-Detect-clause-outcome
 returns-in-Detect-clause-outcome g c =
-    choice_arm options_of_detect _ _ _ (λ options. over_outside (tells Printed of_detect (ComesTo target.Document options c.args.env.now))) _ _ _ c.in-Detect.is refl (lifted_outside _ _ _ _ _ c.run_detect.ensures.outcome)
+    choice_arm options_of_detect _ _ _ (λ options. over_outside (tells Printed of_detect (ComesToWords options c.args.env.now))) _ _ _ c.in-Detect.is refl (lifted_outside _ _ _ _ _ c.run_detect.ensures.outcome)
 
 pub returns-in-Detect-clause-does : goal.returns-in-Detect-clause-does
 returns-in-Detect-clause-does g c = arm _ _ _ _ _ _ c.in-Detect.is (lifted_outside _ _ _ _ _ c.run_detect.ensures.steps)
@@ -57,6 +56,9 @@ returns-in-Prune-clause-does g c = arm _ _ _ _ _ _ c.in-Prune.is (lifted_world _
 
 pub returns-in-Verify-clause-does : goal.returns-in-Verify-clause-does
 returns-in-Verify-clause-does g c = arm _ _ _ _ _ _ c.in-Verify.is (lifted_world _ _ _ _ _ _ c.run_verify.ensures.steps)
+
+pub returns-in-Check-clause-does : goal.returns-in-Check-clause-does
+returns-in-Check-clause-does g c = arm _ _ _ _ _ _ c.in-Check.is (lifted_world _ _ _ _ _ _ c.run_check.ensures.steps)
 
 pub returns-in-Drill-clause-does : goal.returns-in-Drill-clause-does
 returns-in-Drill-clause-does g c = arm _ _ _ _ _ _ c.in-Drill.is (known _ _ _ c.run_drill.ensures.text c.run_drill.ensures.memory)

@@ -3,10 +3,9 @@ use Rattle.std.specs.List.{range_with_len}
 use Rattle.std.specs.Prelude.{OnErr}
 use Rattle.std.proofs.lemmas.Result.{err_from_is_err_and}
 use Rattle.steps.specs.Causes.{OutOfMemory}
-use Rattle.cnb_detect.specs.Outcome.{ComesTo}
-use Rattle.cnb_detect.specs.declared.target.TargetSource.TheVariants as target
 use Rattle.cnb_create.specs.Headline.{ComesToImage}
 use Rattle.cnb_lifecycle.specs.Commands.{options_of_create, options_of_detect}
+use Rattle.cnb_lifecycle.specs.Detecting.{ComesToWords}
 use Rattle.cnb_lifecycle.specs.Faults.{of_detect}
 use Rattle.cnb_lifecycle.specs.Keeping.{KeepsCreated}
 use Rattle.cnb_lifecycle.specs.PhaseFaults.{of_create}
@@ -38,7 +37,7 @@ returns-in_err-places-clause-does g c =
 pub returns-in_err-places-clause-outcome : goal.returns-in_err-places-clause-outcome
 returns-in_err-places-clause-outcome g c =
     let exit = err_from_is_err_and c.from_residual.result c.from_residual.ensures.1 in
-    rw (exit.1, exit.2) (early_choice options_of_detect _ (λ options. over_outside (tells Printed of_detect (ComesTo target.Document options c.args.env.now))) _ _ _ _ tt tt)
+    rw (exit.1, exit.2) (early_choice options_of_detect _ (λ options. over_outside (tells Printed of_detect (ComesToWords options c.args.env.now))) _ _ _ _ tt tt)
 
 pub returns-in_err-places-clause-headline : goal.returns-in_err-places-clause-headline
 returns-in_err-places-clause-headline g c =
@@ -64,7 +63,7 @@ returns-in_err-asked-clause-does g c =
 pub returns-in_err-asked-clause-outcome : goal.returns-in_err-asked-clause-outcome
 returns-in_err-asked-clause-outcome g c =
     let exit = err_from_is_err_and c.from_residual-in_err-asked.result c.from_residual-in_err-asked.ensures.1 in
-    rw (exit.1, exit.2) (early_choice options_of_detect _ (λ options. over_outside (tells Printed of_detect (ComesTo target.Document options c.args.env.now))) _ _ _ _ c.in_err-asked.ensures.command c.in_err-asked.ensures.cause)
+    rw (exit.1, exit.2) (early_choice options_of_detect _ (λ options. over_outside (tells Printed of_detect (ComesToWords options c.args.env.now))) _ _ _ _ c.in_err-asked.ensures.command c.in_err-asked.ensures.cause)
 
 pub returns-in_err-asked-clause-headline : goal.returns-in_err-asked-clause-headline
 returns-in_err-asked-clause-headline g c =
@@ -85,7 +84,7 @@ returns-clause-does g c = begun _ _ (c.in_ok-places.ensures ∙ ap (range_with_l
 
 pub returns-clause-outcome : goal.returns-clause-outcome
 returns-clause-outcome g c =
-    choice_begun _ _ (c.in_ok-places.ensures ∙ ap (range_with_len 0) (c.len.ensures ∙ c.args.shelves.now.ok.0)) _ _ _ _ _ _ options_of_detect _ _ (λ options. over_outside (tells Printed of_detect (ComesTo target.Document options c.args.env.now))) c.in_ok-asked.ensures.command c.run_asked.ensures.outcome
+    choice_begun _ _ (c.in_ok-places.ensures ∙ ap (range_with_len 0) (c.len.ensures ∙ c.args.shelves.now.ok.0)) _ _ _ _ _ _ options_of_detect _ _ (λ options. over_outside (tells Printed of_detect (ComesToWords options c.args.env.now))) c.in_ok-asked.ensures.command c.run_asked.ensures.outcome
 
 pub returns-clause-headline : goal.returns-clause-headline
 returns-clause-headline g c =
