@@ -4,10 +4,11 @@ use cnb_world::Memory;
 use std::alloc::Global;
 
 // The commands with their options, those that may be left out in brackets (docs/FORMATS.md).
-const USAGES: [(&str, &str); 14] = [
+const USAGES: [(&str, &str); 15] = [
     (
         "detect",
-        "--order <path> --buildpacks <path> --app <path> --platform <path> --work <path> [--workers <number>]",
+        "--order <path> --buildpacks <path> --app <path> --platform <path> --work <path> [--workers <number>] \
+         [--record <path>]",
     ),
     (
         "analyze",
@@ -41,6 +42,10 @@ const USAGES: [(&str, &str); 14] = [
     ("show", "--store <path> --image <name>"),
     ("prune", "--store <path>"),
     ("verify", "--store <path> --image <name>"),
+    (
+        "check",
+        "--order <path> --buildpacks <path> --work <path> --record <path>",
+    ),
     (
         "launch",
         "[--root <path>] [<type or word> ..] | [--root <path>] -- <program> [<word> ..]",
