@@ -31,7 +31,7 @@ fn push_copies(alloc: Global, copies: &mut List<Path>, folders: &[Path]) -> Resu
 fn guarded_by(alloc: Global, asked: &Asked) -> Result<List<Path>, Memory> {
     let mut folders = List::new(alloc);
     match asked {
-        Asked::Detect(options) => folders.push(options.work.copy(alloc)?)?,
+        Asked::Detect(options) => folders.push(options.choice.work.copy(alloc)?)?,
         Asked::Analyze(options) => folders.push(options.work.copy(alloc)?)?,
         Asked::Restore(options) => folders.push(options.layers.copy(alloc)?)?,
         Asked::Build(options) => {
@@ -47,8 +47,12 @@ fn guarded_by(alloc: Global, asked: &Asked) -> Result<List<Path>, Memory> {
         Asked::Rebase(options) => folders.push(options.store.copy(alloc)?)?,
         Asked::Base(options) => folders.push(options.store.copy(alloc)?)?,
         Asked::Prune(options) => folders.push(options.store.copy(alloc)?)?,
-        Asked::Unpack(_) | Asked::Show(_) | Asked::Verify(_) | Asked::Drill(_) | Asked::Launch(_) =>
-            {}
+        Asked::Unpack(_)
+        | Asked::Show(_)
+        | Asked::Verify(_)
+        | Asked::Check(_)
+        | Asked::Drill(_)
+        | Asked::Launch(_) => {}
     }
     Ok(folders)
 }
