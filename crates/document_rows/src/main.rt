@@ -2,8 +2,8 @@
 //!
 //! Gone through are names (data/names.toml), metadata and documents as such (data/metadata.toml), orders, descriptors
 //! and Build Plans (data/buildpacks.toml), the documents of a run (data/run.toml) and of images (data/images.toml),
-//! documents in files (data/files.toml) and the words of a command line (data/store-words.toml, data/words.toml,
-//! data/options.toml).
+//! documents in files (data/files.toml) and the words of a command line (data/store-words.toml,
+//! data/record-words.toml, data/words.toml, data/options.toml).
 //! data/README.md says how a row is written.
 #![tactic(auto)]
 
@@ -70,6 +70,7 @@ fn main(rt: HostRuntime) -> Result<ExitCode, RowFault> {
             "images.toml",
             "files.toml",
             "store-words.toml",
+            "record-words.toml",
             "words.toml",
             "options.toml",
         ],

@@ -1,8 +1,9 @@
 // What each command asks for, as its name and each of its options.
 use cnb_toml::ImageName;
 use cnb_words::{
-    AnalyzeWords, BaseWords, BuildWords, Call, CreateWords, DetectWords, DrillWords, ExportWords,
-    LaunchWords, PruneWords, RebaseWords, RestoreWords, ShowWords, UnpackWords, VerifyWords,
+    AnalyzeWords, BaseWords, BuildWords, Call, CheckWords, ChoiceWords, CreateWords, DetectWords,
+    DrillWords, ExportWords, LaunchWords, PruneWords, RebaseWords, RestoreWords, ShowWords,
+    UnpackWords, VerifyWords,
 };
 use cnb_world::{List, Path, Text};
 use std::alloc::AllocError;
@@ -36,7 +37,7 @@ fn name_or_none(previous: &Option<ImageName>) -> &str {
     }
 }
 
-pub(crate) fn detect(text: &mut String, options: &DetectWords) -> Result<(), AllocError> {
+fn choice(text: &mut String, command: &str, options: &ChoiceWords) -> Result<(), AllocError> {
     let shown = [
         ("order", options.order.as_str()),
         ("buildpacks", options.buildpacks.as_str()),
@@ -44,8 +45,26 @@ pub(crate) fn detect(text: &mut String, options: &DetectWords) -> Result<(), All
         ("platform", options.platform.as_str()),
         ("work", options.work.as_str()),
     ];
-    add_all(text, "detect", &shown)?;
+    add_all(text, command, &shown)?;
     write!(text, " workers={}", options.workers)
+}
+
+pub(crate) fn detect(text: &mut String, options: &DetectWords) -> Result<(), AllocError> {
+    choice(text, "detect", &options.choice)?;
+    match &options.proof_path {
+        Some(path) => write!(text, " record={}", path.as_str()),
+        None => Ok(()),
+    }
+}
+
+pub(crate) fn check(text: &mut String, options: &CheckWords) -> Result<(), AllocError> {
+    let shown = [
+        ("order", options.order.as_str()),
+        ("buildpacks", options.buildpacks.as_str()),
+        ("work", options.work.as_str()),
+        ("record", options.proof_path.as_str()),
+    ];
+    add_all(text, "check", &shown)
 }
 
 pub(crate) fn analyze(text: &mut String, options: &AnalyzeWords) -> Result<(), AllocError> {
@@ -100,7 +119,7 @@ pub(crate) fn create(text: &mut String, options: &CreateWords) -> Result<(), All
         ("previous", name_or_none(&options.previous)),
     ];
     text.push_str("create ")?;
-    detect(text, &options.detect)?;
+    choice(text, "detect", &options.detect)?;
     add_all(text, "", &shown)
 }
 

@@ -28,6 +28,7 @@ fn add_command(text: &mut String, asked: &Asked) -> Result<(), AllocError> {
         Asked::Show(options) => options::show(text, options),
         Asked::Prune(options) => options::prune(text, options),
         Asked::Verify(options) => options::verify(text, options),
+        Asked::Check(options) => options::check(text, options),
         Asked::Drill(options) => options::drill(text, options),
         Asked::Launch(options) => options::launch(text, options),
     }
