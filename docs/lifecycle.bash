@@ -3,7 +3,7 @@
 # The options of a command.
 _lifecycle_options() {
     case $1 in
-        detect) echo --order --buildpacks --app --platform --work --workers ;;
+        detect) echo --order --buildpacks --app --platform --work --workers --record ;;
         analyze) echo --store --run --work --previous ;;
         restore) echo --store --work --layers --cache ;;
         build) echo --buildpacks --app --platform --work --layers ;;
@@ -17,6 +17,7 @@ _lifecycle_options() {
         unpack) echo --store --image --root ;;
         show | verify) echo --store --image ;;
         prune) echo --store ;;
+        check) echo --order --buildpacks --work --record ;;
         launch) echo --root -- ;;
     esac
 }
@@ -47,10 +48,10 @@ _lifecycle() {
     local current=${COMP_WORDS[COMP_CWORD]} words
     COMPREPLY=()
     if [ "$COMP_CWORD" -eq 1 ]; then
-        words='analyze base build create detect drill export launch prune rebase restore show unpack verify'
+        words='analyze base build check create detect drill export launch prune rebase restore show unpack verify'
     else
         case ${COMP_WORDS[COMP_CWORD - 1]} in
-            --order) mapfile -t COMPREPLY < <(compgen -f -- "$current") && return ;;
+            --order | --record) mapfile -t COMPREPLY < <(compgen -f -- "$current") && return ;;
             --app | --buildpacks | --cache | --launcher | --layers | --platform | --root | --store | --tree | --work)
                 mapfile -t COMPREPLY < <(compgen -d -- "$current") && return
                 ;;
