@@ -1,5 +1,5 @@
 -- What an export leaves alone: a path that no file of a tree is written at or beside.
-use Rattle.std.proofs.Common.{◌≡◌, ap, ℕ, Bool, true, false, ◌&&◌, ◌||◌, List, [], ◌∷◌, Option, Some, None, Result, Ok}
+use Rattle.std.proofs.Common.{◌≡◌, ap, ℕ, Bool, true, false, List, [], ◌∷◌, Option, Some, None, Result, Ok}
 use Rattle.app_slices.specs.Slots.{Slices}
 use Rattle.app_slices.specs.declared.item.Item.{Item}
 use Rattle.image_docs.specs.declared.analyzed.Analyzed.{Analyzed}
@@ -13,6 +13,7 @@ use Rattle.run_docs.specs.Launch.{launch_in}
 use Rattle.run_docs.specs.Store.{store_in}
 use Rattle.layer_flags.specs.declared.export.ExportRow.{ExportRow}
 use Rattle.layer_flags.specs.declared.export.ExportRow.TheVariants as table
+use Rattle.layer_flags.specs.declared.flags.Flags.{Flags}
 use Rattle.cnb_env.specs.Files.{is_absent}
 use Rattle.steps.specs.Outside.{Seen}
 use Rattle.steps.specs.Frames.{standing}
@@ -23,9 +24,9 @@ use Rattle.tree_store.specs.Writing.{trees_of}
 use Rattle.cnb_create.specs.Apart.{are_apart}
 use Rattle.cnb_export.specs.Buildpack.{exports_buildpack, exports_documents, exports_layers, exports_store, one_default, reads_launch, reads_store}
 use Rattle.cnb_export.specs.Exports.{exports, gains}
-use Rattle.cnb_export.specs.Gathering.{exports_found, exports_layer, exports_some, nothing_gathered}
+use Rattle.cnb_export.specs.Gathering.{exports_layer, keeps_found, keeps_layer, keeps_some, nothing_gathered}
 use Rattle.cnb_export.specs.Images.{reads_layers, reads_previous}
-use Rattle.cnb_export.specs.Layer.{finds_contents, finds_layer, finds_some, keeps_tree, looks_for_contents, reads_layer, some_of, takes_found, takes_if, takes_tree, there_by}
+use Rattle.cnb_export.specs.Layer.{finds_contents, flags_of, keeps_tree, looks_for_contents, puts_contents, reads_layer, takes_contents, takes_there, takes_whole, there_by}
 use Rattle.layer_paths.specs.Names.{layers_among}
 use Rattle.cnb_export.specs.Names.{lists_unless, reads_layer_names, reads_names}
 use Rattle.cnb_export.specs.Patterns.{adds_pattern, adds_slice, reads_pattern, reads_slices}
@@ -135,20 +136,17 @@ module _ (path : List ℕ) where
   kept_stored store digest = keeps_bind path _ _ (keeps_told path Store _ (kept_tree_look store digest)) (λ stored. keeps_gives path cause_of _)
 
   kept_check : (store : List ℕ) → KeepsBoth path (checks_reused store)
-  kept_check store (Some contents) before = keeps_yields path tt
+  kept_check store (Some digest) before = keeps_yields path tt
   kept_check store None None = keeps_yields path tt
   kept_check store None (Some row) = kept_stored store row.digest
 
-  kept_reuse : (store id layer : List ℕ) → KeepsBoth path (reuses store id layer)
-  unfolding reuses
-  kept_reuse store id layer found before = keeps_bind path _ _ (kept_check store _ before) (λ checked. keeps_gives path cause_of _)
-
   kept_settled : (line : ExportRow) (store id layer : List ℕ) → KeepsBoth path (settles_by line store id layer)
-  kept_settled table.Skip store id layer found before = keeps_gives path cause_of _
-  kept_settled table.Add store id layer found before = keeps_gives path cause_of _
-  kept_settled table.Reuse store id layer found before = kept_reuse store id layer found before
-  kept_settled table.NoContents store id layer found before = keeps_gives path cause_of _
-  kept_settled table.NoPrevious store id layer found before = keeps_gives path cause_of _
+  unfolding reuses
+  kept_settled table.Skip store id layer digest before = keeps_yields path _
+  kept_settled table.Add store id layer digest before = keeps_yields path _
+  kept_settled table.Reuse store id layer digest before = keeps_bind path _ _ (kept_check store digest before) (λ checked. keeps_yields path _)
+  kept_settled table.NoContents store id layer digest before = keeps_gives path cause_of _
+  kept_settled table.NoPrevious store id layer digest before = keeps_gives path cause_of _
 
 -- ---- what puts trees too
 
@@ -157,43 +155,35 @@ module _ (store path : List ℕ) (apart : are_apart (trees_of store) path ≡ tr
   kept_tree true tree = keeps_told path Store _ (keeps_puts path store tree (free_of_trees store path apart))
   kept_tree false tree = keeps_gives path cause_of _
 
-  kept_taken : (launch : Bool) (at : List ℕ) → Preserves path (takes_tree store launch at)
-  unfolding takes_tree
-  kept_taken launch at = keeps_bind path _ _ (keeps_told path Store _ (keeps_reads_tree path at)) (λ tree. keeps_bind path _ _ (kept_tree launch tree) (λ digest. keeps_yields path _))
+  kept_there : (cache launch : Bool) (at : List ℕ) → Preserves path (takes_there store cache launch at)
+  unfolding takes_whole puts_contents
+  kept_there true launch at = keeps_bind path _ _ (keeps_told path Store _ (keeps_reads_tree path at)) (λ tree. keeps_bind path _ _ (kept_tree launch tree) (λ digest. keeps_yields path _))
+  kept_there false true at = keeps_bind path _ _ (keeps_told path Store _ (keeps_puts_folder store path apart at)) (λ digest. keeps_yields path _)
+  kept_there false false at = keeps_yields path _
 
-  kept_if : (there launch : Bool) (at : List ℕ) → Preserves path (takes_if there store launch at)
-  unfolding some_of
-  kept_if true launch at = keeps_bind path _ _ (kept_taken launch at) (λ value. keeps_yields path (Some value))
-  kept_if false launch at = keeps_yields path None
+  kept_taken : (flags : Flags) (at : List ℕ) (there : Bool) → Preserves path (takes_contents store flags at there)
+  kept_taken flags at true = kept_there flags.cache flags.launch at
+  kept_taken flags at false = keeps_yields path _
 
-  kept_found : (at : List ℕ) (doc : LayerDoc) → Preserves path (takes_found store at doc)
-  unfolding takes_found
-  kept_found at doc = keeps_bind path _ _ (kept_look path at) (λ there. keeps_bind path _ _ (kept_if (there && (doc.launch || doc.cache)) doc.launch at) (λ contents. keeps_yields path _))
+  kept_contents : (folder layer : List ℕ) (flags : Flags) → Preserves path (finds_contents store folder layer flags)
+  unfolding finds_contents
+  kept_contents folder layer flags = keeps_bind path _ _ (keeps_gives path cause_of _) (λ at. keeps_bind path _ _ (kept_look path at) (λ there. kept_taken flags at there))
 
-  kept_find : (folder layer : List ℕ) (doc : LayerDoc) → Preserves path (finds_some store folder layer doc)
-  unfolding finds_some
-  kept_find folder layer doc = keeps_bind path _ _ (keeps_gives path cause_of _) (λ at. keeps_bind path _ _ (kept_found at doc) (λ found. keeps_yields path (Some found)))
+  kept_found : (previous : List LayerRow) (id folder layer : List ℕ) (doc : Option LayerDoc) → Preserves path (keeps_found store previous id folder layer doc)
+  unfolding keeps_some
+  kept_found previous id folder layer None = keeps_yields path None
+  kept_found previous id folder layer (Some doc) =
+      keeps_bind path _ _ (kept_contents folder layer (flags_of doc))
+      (λ contents. keeps_bind path _ _ (kept_settled path (decision_of (flags_of doc) contents (row_of previous id layer)) store id layer contents.digest (row_of previous id layer))
+      (λ settled. keeps_gives path cause_of _))
 
-  kept_contents : (folder layer : List ℕ) (doc : Option LayerDoc) → Preserves path (finds_contents store folder layer doc)
-  kept_contents folder layer None = keeps_yields path None
-  kept_contents folder layer (Some doc) = kept_find folder layer doc
-
-  kept_layer : (folder layer : List ℕ) → Preserves path (finds_layer store folder layer)
-  unfolding finds_layer
-  kept_layer folder layer = keeps_bind path _ _ (keeps_gives path cause_of _) (λ document. keeps_bind path _ _ (kept_layer_document path document) (λ doc. kept_contents folder layer doc))
-
-  kept_exported : (previous : List LayerRow) (id layer : List ℕ) → KeepsBoth path (exports_some store previous id layer)
-  unfolding exports_some
-  kept_exported previous id layer gathered found =
-      keeps_bind path _ _ (kept_settled path (decision_of found (row_of previous id layer)) store id layer found (row_of previous id layer)) (λ kept. keeps_gives path cause_of _)
-
-  kept_export : (previous : List LayerRow) (id layer : List ℕ) → KeepsBoth path (exports_found store previous id layer)
-  kept_export previous id layer gathered None = keeps_yields path gathered
-  kept_export previous id layer gathered (Some found) = kept_exported previous id layer gathered found
+  kept_layer : (previous : List LayerRow) (id folder layer : List ℕ) → Preserves path (keeps_layer store previous id folder layer)
+  unfolding keeps_layer
+  kept_layer previous id folder layer = keeps_bind path _ _ (keeps_gives path cause_of _) (λ document. keeps_bind path _ _ (kept_layer_document path document) (λ doc. kept_found previous id folder layer doc))
 
   kept_one : (previous : List LayerRow) (id folder layer : List ℕ) → KeepsEach path (exports_layer store previous id folder layer)
   unfolding exports_layer
-  kept_one previous id folder layer gathered = keeps_bind path _ _ (kept_layer folder layer) (λ found. kept_export previous id layer gathered found)
+  kept_one previous id folder layer gathered = keeps_bind path _ _ (kept_layer previous id folder layer) (λ kept. keeps_gives path cause_of _)
 
   kept_layers : (previous : List LayerRow) (id folder : List ℕ) → KeepsEach path (exports_layers store previous id folder)
   unfolding exports_layers

@@ -1,5 +1,5 @@
 -- What an export does to the counts of the world, by what ended it.
-use Rattle.std.proofs.Common.{◌≡◌, refl, ℕ, ◌&&◌, ◌||◌, Bool, true, false, List, [], ◌∷◌, Option, Some, None, Result}
+use Rattle.std.proofs.Common.{◌≡◌, refl, ℕ, Bool, true, false, List, [], ◌∷◌, Option, Some, None, Result}
 use Rattle.app_slices.specs.Slots.{Slices}
 use Rattle.cnb_env.specs.Files.{is_absent}
 use Rattle.cnb_toml.specs.declared.fault.DocFault.{DocFault}
@@ -15,6 +15,7 @@ use Rattle.image_files.specs.declared.fault.ImageFault.TheVariants as image
 use Rattle.image_files.proofs.CountLaws as images
 use Rattle.layer_flags.specs.declared.export.ExportRow.{ExportRow}
 use Rattle.layer_flags.specs.declared.export.ExportRow.TheVariants as decision
+use Rattle.layer_flags.specs.declared.flags.Flags.{Flags}
 use Rattle.run_docs.specs.declared.group.GroupRow.{GroupRow}
 use Rattle.run_docs.specs.declared.layer.LayerDoc.{LayerDoc}
 use Rattle.shelf_set.proofs.CountLaws.{BesideCaches, beside_link, beside_rest, obeys_in_caches, obeys_in_world, stores_rows_ends}
@@ -31,16 +32,14 @@ use Rattle.cnb_export.specs.declared.exported.ExportFrame.{ExportFrame}
 use Rattle.cnb_export.specs.declared.exported.Gathered.{Gathered}
 use Rattle.cnb_export.specs.declared.fault.ExportFault.{ExportFault}
 use Rattle.cnb_export.specs.declared.fault.ExportFault.TheVariants.{Store}
-use Rattle.cnb_export.specs.declared.layer.FoundLayer.{FoundLayer}
-use Rattle.cnb_export.specs.declared.layer.LayerTree.{LayerTree}
 use Rattle.cnb_export.specs.declared.refusal.ExportRefusal.TheVariants.{Fault}
 use Rattle.cnb_export.specs.Buildpack.{exports_buildpack, exports_documents, exports_group, exports_layers, exports_store, reads_launch, reads_store}
 use Rattle.cnb_export.specs.Command.{exports_command, exports_given, finishes_export, saves_image, saves_readable_image}
 use Rattle.cnb_export.specs.Exports.{exports, gains}
-use Rattle.cnb_export.specs.Gathering.{exports_found, exports_layer, exports_some}
+use Rattle.cnb_export.specs.Gathering.{exports_layer, keeps_found, keeps_layer, keeps_some}
 use Rattle.cnb_export.specs.Given.{reads_given, reads_group, reads_needed, refusal_cause}
 use Rattle.cnb_export.specs.Images.{reads_layers, reads_previous}
-use Rattle.cnb_export.specs.Layer.{finds_contents, finds_layer, finds_some, keeps_tree, looks_for_contents, reads_layer, some_of, takes_found, takes_if, takes_tree}
+use Rattle.cnb_export.specs.Layer.{finds_contents, flags_of, keeps_tree, looks_for_contents, puts_contents, reads_layer, takes_contents, takes_there, takes_whole}
 use Rattle.cnb_export.specs.Names.{lists_unless, reads_layer_names, reads_names}
 use Rattle.cnb_export.specs.Reading.{reads_as, reads_some}
 use Rattle.cnb_export.specs.Refusals.{cause_of, of_image_fault}
@@ -108,64 +107,56 @@ keep_tree_counts : (store : List ℕ) (launch : Bool) (tree : Node) → Obeys Fi
 keep_tree_counts store true tree = of_store _ (put_tree_counts store tree)
 keep_tree_counts store false tree = obeys_gives _ _ _ files_rest
 
-take_tree_counts : (store : List ℕ) (launch : Bool) (path : List ℕ) → Obeys FileCounts cause_of (takes_tree store launch path)
-unfolding takes_tree
-take_tree_counts store launch path =
+take_there_counts : (store : List ℕ) (cache launch : Bool) (path : List ℕ) → Obeys FileCounts cause_of (takes_there store cache launch path)
+unfolding takes_whole puts_contents
+take_there_counts store true launch path =
     obeys_bind _ _ _ _ files_link (of_store _ (read_tree_counts path))
     (λ tree. obeys_bind _ _ _ _ files_link (keep_tree_counts store launch tree) (λ digest. obeys_yields _ _ _ files_rest))
+take_there_counts store false true path = obeys_bind _ _ _ _ files_link (of_store _ (put_folder_counts store path)) (λ digest. obeys_yields _ _ _ files_rest)
+take_there_counts store false false path = obeys_yields _ _ _ files_rest
 
-take_if_counts : (taken : Bool) (store : List ℕ) (launch : Bool) (path : List ℕ) → Obeys FileCounts cause_of (takes_if taken store launch path)
-unfolding some_of
-take_if_counts true store launch path = obeys_bind _ _ _ _ files_link (take_tree_counts store launch path) (λ tree. obeys_yields _ _ _ files_rest)
-take_if_counts false store launch path = obeys_yields _ _ _ files_rest
+take_contents_counts : (store : List ℕ) (flags : Flags) (path : List ℕ) (there : Bool) → Obeys FileCounts cause_of (takes_contents store flags path there)
+take_contents_counts store flags path true = take_there_counts store flags.cache flags.launch path
+take_contents_counts store flags path false = obeys_yields _ _ _ files_rest
 
-take_found_counts : (store path : List ℕ) (doc : LayerDoc) → Obeys FileCounts cause_of (takes_found store path doc)
-unfolding takes_found
-take_found_counts store path doc =
-    obeys_bind _ _ _ _ files_link (look_for_contents_counts path)
-    (λ there. obeys_bind _ _ _ _ files_link (take_if_counts (there && (doc.launch || doc.cache)) store doc.launch path) (λ contents. obeys_yields _ _ _ files_rest))
-
-find_contents_counts : (store folder layer : List ℕ) (doc : Option LayerDoc) → Obeys FileCounts cause_of (finds_contents store folder layer doc)
-unfolding finds_some
-find_contents_counts store folder layer None = obeys_yields _ _ _ files_rest
-find_contents_counts store folder layer (Some doc) =
+find_contents_counts : (store folder layer : List ℕ) (flags : Flags) → Obeys FileCounts cause_of (finds_contents store folder layer flags)
+unfolding finds_contents
+find_contents_counts store folder layer flags =
     obeys_bind _ _ _ _ files_link (obeys_gives _ _ _ files_rest)
-    (λ path. obeys_bind _ _ _ _ files_link (take_found_counts store path doc) (λ found. obeys_yields _ _ _ files_rest))
-
-find_layer_counts : (store folder layer : List ℕ) → Obeys FileCounts cause_of (finds_layer store folder layer)
-unfolding finds_layer
-find_layer_counts store folder layer =
-    obeys_bind _ _ _ _ files_link (obeys_gives _ _ _ files_rest)
-    (λ document. obeys_bind _ _ _ _ files_link (read_layer_counts document) (λ doc. find_contents_counts store folder layer doc))
+    (λ path. obeys_bind _ _ _ _ files_link (look_for_contents_counts path) (λ there. take_contents_counts store flags path there))
 
 look_for_stored_counts : (store digest : List ℕ) → Obeys FileCounts cause_of (looks_for_stored store digest)
 unfolding looks_for_stored
 look_for_stored_counts store digest = obeys_bind _ _ _ _ files_link (of_store _ (look_for_tree_counts store digest)) (λ stored. obeys_gives _ _ _ files_rest)
 
-check_reused_counts : (store : List ℕ) (contents : Option LayerTree) (before : Option LayerRow) → Obeys FileCounts cause_of (checks_reused store contents before)
-check_reused_counts store (Some contents) before = obeys_yields _ _ _ files_rest
+check_reused_counts : (store : List ℕ) (digest : Option (List ℕ)) (before : Option LayerRow) → Obeys FileCounts cause_of (checks_reused store digest before)
+check_reused_counts store (Some digest) before = obeys_yields _ _ _ files_rest
 check_reused_counts store None None = obeys_yields _ _ _ files_rest
 check_reused_counts store None (Some row) = look_for_stored_counts store row.digest
 
-settle_by_counts : (row : ExportRow) (store id layer : List ℕ) (found : FoundLayer) (before : Option LayerRow) → Obeys FileCounts cause_of (settles_by row store id layer found before)
+settle_by_counts : (row : ExportRow) (store id layer : List ℕ) (digest : Option (List ℕ)) (before : Option LayerRow) → Obeys FileCounts cause_of (settles_by row store id layer digest before)
 unfolding reuses
-settle_by_counts decision.Skip store id layer found before = obeys_gives _ _ _ files_rest
-settle_by_counts decision.Add store id layer found before = obeys_gives _ _ _ files_rest
-settle_by_counts decision.Reuse store id layer found before = obeys_bind _ _ _ _ files_link (check_reused_counts store found.contents before) (λ checked. obeys_gives _ _ _ files_rest)
-settle_by_counts decision.NoContents store id layer found before = obeys_gives _ _ _ files_rest
-settle_by_counts decision.NoPrevious store id layer found before = obeys_gives _ _ _ files_rest
+settle_by_counts decision.Skip store id layer digest before = obeys_yields _ _ _ files_rest
+settle_by_counts decision.Add store id layer digest before = obeys_yields _ _ _ files_rest
+settle_by_counts decision.Reuse store id layer digest before = obeys_bind _ _ _ _ files_link (check_reused_counts store digest before) (λ checked. obeys_yields _ _ _ files_rest)
+settle_by_counts decision.NoContents store id layer digest before = obeys_gives _ _ _ files_rest
+settle_by_counts decision.NoPrevious store id layer digest before = obeys_gives _ _ _ files_rest
 
-export_found_counts : (store : List ℕ) (previous : List LayerRow) (id layer : List ℕ) (gathered : Gathered) (found : Option FoundLayer)
-    → Obeys FileCounts cause_of (exports_found store previous id layer gathered found)
-unfolding exports_some
-export_found_counts store previous id layer gathered None = obeys_yields _ _ _ files_rest
-export_found_counts store previous id layer gathered (Some found) =
-    obeys_bind _ _ _ _ files_link (settle_by_counts (decision_of found (row_of previous id layer)) store id layer found (row_of previous id layer)) (λ kept. obeys_gives _ _ _ files_rest)
+keep_found_counts : (store : List ℕ) (previous : List LayerRow) (id folder layer : List ℕ) (doc : Option LayerDoc) → Obeys FileCounts cause_of (keeps_found store previous id folder layer doc)
+unfolding keeps_some
+keep_found_counts store previous id folder layer None = obeys_yields _ _ _ files_rest
+keep_found_counts store previous id folder layer (Some doc) =
+    obeys_bind _ _ _ _ files_link (find_contents_counts store folder layer (flags_of doc))
+    (λ contents. obeys_bind _ _ _ _ files_link (settle_by_counts (decision_of (flags_of doc) contents (row_of previous id layer)) store id layer contents.digest (row_of previous id layer))
+    (λ settled. obeys_gives _ _ _ files_rest))
 
 export_layer_counts : (store : List ℕ) (previous : List LayerRow) (id folder layer : List ℕ) (gathered : Gathered) → Obeys FileCounts cause_of (exports_layer store previous id folder layer gathered)
-unfolding exports_layer
+unfolding exports_layer keeps_layer
 export_layer_counts store previous id folder layer gathered =
-    obeys_bind _ _ _ _ files_link (find_layer_counts store folder layer) (λ found. export_found_counts store previous id layer gathered found)
+    obeys_bind _ _ _ _ files_link
+    (obeys_bind _ _ _ _ files_link (obeys_gives _ _ _ files_rest)
+    (λ document. obeys_bind _ _ _ _ files_link (read_layer_counts document) (λ doc. keep_found_counts store previous id folder layer doc)))
+    (λ kept. obeys_gives _ _ _ files_rest)
 
 -- ---- a buildpack
 

@@ -35,7 +35,7 @@ use Rattle.cnb_export.specs.Image.{layer_of}
 use Rattle.cnb_export.specs.declared.exported.ExportFrame.{ExportFrame}
 use Rattle.cnb_export.specs.declared.exported.Gathered.{Gathered}
 use Rattle.cnb_export.specs.declared.exported.ImageLayer.{ImageLayer}
-use Rattle.cnb_export.specs.declared.settling.Kept.{Kept}
+use Rattle.cnb_export.specs.declared.gathering.Kept.{Kept}
 use Rattle.cnb_export.proofs.DistinctLaws.{same_name}
 use Rattle.cnb_export.proofs.LeftLaws.{IsCached, Keeps, is_store_left, launch_left, layer_exported, names_left, store_left}
 
@@ -107,7 +107,7 @@ module _ (id : List ℕ) (rest : List GroupRow) (apart : (other : List ℕ) → 
         → AreApart true id names rest (with_row rows row tree)
     with_cached rows row None h e f cached kept = fewer true name names rows h
     with_cached rows row (Some tree) h e f cached kept =
-        with_one true rows row h e f (and_from (not (true && not row.flags.cache)) (is_kept row.meta) (ap (λ cache. not (true && not cache)) cached) kept)
+        with_one true rows row h e f (and_from (not (true && not row.flags.cache)) (is_kept row.meta) (ap (λ cache. not (true && not cache)) cached.0) kept)
 
     image_after : (gathered : Gathered) (kept : Option Kept) → AreApart false id (name ∷ names) rest (map layer_of gathered.layers) → Keeps id name kept → AreApart false id names rest (map layer_of (with_kept gathered kept).layers)
     image_after gathered None h k = fewer false name names (map layer_of gathered.layers) h

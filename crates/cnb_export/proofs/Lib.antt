@@ -8,9 +8,9 @@ pub mod FormLaws
 pub mod GatherLaws
 pub mod ImageLaws
 pub mod LeftLaws
+pub mod MatchLaws
 pub mod OneImageLaws
 pub mod PatternLaws
 pub mod PlaceLaws
 pub mod ReadSteps
 pub mod StandLaws
-pub mod SettleLemmas

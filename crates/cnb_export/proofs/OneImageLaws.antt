@@ -1,5 +1,5 @@
 -- The files alone decide what an export makes: each of its steps is decided by them.
-use Rattle.std.proofs.Common.{◌≡◌, ◌∙◌, refl, sym, ap, subst, ℕ, Bool, true, false, ◌&&◌, ◌||◌, List, [], ◌∷◌, Option, Some, None, Result, Ok, Err, inl, inr, ◌⊎◌}
+use Rattle.std.proofs.Common.{◌≡◌, ◌∙◌, refl, sym, ap, subst, ℕ, Bool, true, false, List, [], ◌∷◌, Option, Some, None, Result, Ok, Err, inl, inr, ◌⊎◌}
 use Rattle.app_slices.specs.Slots.{Slices}
 use Rattle.cnb_toml.specs.declared.fault.DocFault.{DocFault}
 use Rattle.cnb_toml.specs.declared.process.Process.{Process}
@@ -12,6 +12,7 @@ use Rattle.image_files.specs.declared.fault.ImageFault.{ImageFault}
 use Rattle.image_files.specs.declared.fault.ImageFault.TheVariants as image
 use Rattle.layer_flags.specs.declared.export.ExportRow.{ExportRow}
 use Rattle.layer_flags.specs.declared.export.ExportRow.TheVariants as table
+use Rattle.layer_flags.specs.declared.flags.Flags.{Flags}
 use Rattle.layer_paths.specs.Names.{layers_among}
 use Rattle.cnb_env.specs.Files.{is_absent}
 use Rattle.run_docs.specs.Launch.{launch_in}
@@ -29,9 +30,9 @@ use Rattle.tree_store.specs.Steps.{looks_for_tree}
 use Rattle.tree_store.specs.declared.fault.StoreFault.{StoreFault}
 use Rattle.cnb_export.specs.Buildpack.{exports_buildpack, exports_documents, exports_layers, exports_store, one_default, reads_launch, reads_store}
 use Rattle.cnb_export.specs.Exports.{exports, gains}
-use Rattle.cnb_export.specs.Gathering.{exports_found, exports_layer, exports_some, nothing_gathered}
+use Rattle.cnb_export.specs.Gathering.{exports_layer, keeps_found, keeps_layer, keeps_some, nothing_gathered}
 use Rattle.cnb_export.specs.Images.{reads_layers, reads_previous}
-use Rattle.cnb_export.specs.Layer.{finds_contents, finds_layer, finds_some, keeps_tree, looks_for_contents, reads_layer, some_of, takes_found, takes_if, takes_tree, there_by}
+use Rattle.cnb_export.specs.Layer.{finds_contents, flags_of, keeps_tree, looks_for_contents, puts_contents, reads_layer, takes_contents, takes_there, takes_whole, there_by}
 use Rattle.cnb_export.specs.Names.{lists_unless, reads_layer_names, reads_names}
 use Rattle.cnb_export.specs.OneImage.{AreOneImage, IsOneImage}
 use Rattle.cnb_export.specs.Reading.{reads_as, reads_some}
@@ -44,8 +45,6 @@ use Rattle.cnb_export.specs.declared.exported.Gathered.{Gathered}
 use Rattle.cnb_export.specs.declared.exporting.Gained.{Gained}
 use Rattle.cnb_export.specs.declared.fault.ExportFault.{ExportFault}
 use Rattle.cnb_export.specs.declared.fault.ExportFault.TheVariants.{Store}
-use Rattle.cnb_export.specs.declared.layer.FoundLayer.{FoundLayer}
-use Rattle.cnb_export.specs.declared.layer.LayerTree.{LayerTree}
 use Rattle.cnb_export.proofs.DecidedLaws.{AreDecided, always, decided_bind, decided_each, decided_gives, decided_puts, decided_puts_folder, decided_reads, decided_reads_tree, decided_told, decided_yields}
 use Rattle.cnb_export.proofs.PatternLaws.{decided_slices}
 
@@ -129,8 +128,8 @@ one_stored : (store digest : List ℕ) → AreDecided cause_of (looks_for_stored
 unfolding looks_for_stored
 one_stored store digest = decided_bind cause_of _ _ (of_store _ (one_tree_look store digest)) (λ stored. decided_gives cause_of _)
 
-one_check : (store : List ℕ) (contents : Option LayerTree) (before : Option LayerRow) → AreDecided cause_of (checks_reused store contents before)
-one_check store (Some contents) before = decided_yields cause_of tt
+one_check : (store : List ℕ) (digest : Option (List ℕ)) (before : Option LayerRow) → AreDecided cause_of (checks_reused store digest before)
+one_check store (Some digest) before = decided_yields cause_of tt
 one_check store None None = decided_yields cause_of tt
 one_check store None (Some row) = one_stored store row.digest
 
@@ -145,54 +144,43 @@ module _ (store : List ℕ) where
   one_tree true tree = of_store _ (decided_puts store tree)
   one_tree false tree = decided_gives cause_of _
 
-  one_taken : (launch : Bool) (at : List ℕ) → AreDecided cause_of (takes_tree store launch at)
-  unfolding takes_tree
-  one_taken launch at = decided_bind cause_of _ _ (of_store _ (decided_reads_tree at)) (λ tree. decided_bind cause_of _ _ (one_tree launch tree) (λ digest. decided_yields cause_of _))
+  one_there : (cache launch : Bool) (at : List ℕ) → AreDecided cause_of (takes_there store cache launch at)
+  unfolding takes_whole puts_contents
+  one_there true launch at = decided_bind cause_of _ _ (of_store _ (decided_reads_tree at)) (λ tree. decided_bind cause_of _ _ (one_tree launch tree) (λ digest. decided_yields cause_of _))
+  one_there false true at = decided_bind cause_of _ _ (of_store _ (decided_puts_folder store at)) (λ digest. decided_yields cause_of _)
+  one_there false false at = decided_yields cause_of _
 
-  one_if : (there launch : Bool) (at : List ℕ) → AreDecided cause_of (takes_if there store launch at)
-  unfolding some_of
-  one_if true launch at = decided_bind cause_of _ _ (one_taken launch at) (λ value. decided_yields cause_of (Some value))
-  one_if false launch at = decided_yields cause_of None
+  one_taken : (flags : Flags) (at : List ℕ) (there : Bool) → AreDecided cause_of (takes_contents store flags at there)
+  one_taken flags at true = one_there flags.cache flags.launch at
+  one_taken flags at false = decided_yields cause_of _
 
-  one_found : (at : List ℕ) (doc : LayerDoc) → AreDecided cause_of (takes_found store at doc)
-  unfolding takes_found
-  one_found at doc = decided_bind cause_of _ _ (one_look at) (λ there. decided_bind cause_of _ _ (one_if (there && (doc.launch || doc.cache)) doc.launch at) (λ contents. decided_yields cause_of _))
+  one_contents : (folder layer : List ℕ) (flags : Flags) → AreDecided cause_of (finds_contents store folder layer flags)
+  unfolding finds_contents
+  one_contents folder layer flags = decided_bind cause_of _ _ (decided_gives cause_of _) (λ at. decided_bind cause_of _ _ (one_look at) (λ there. one_taken flags at there))
 
-  one_find : (folder layer : List ℕ) (doc : LayerDoc) → AreDecided cause_of (finds_some store folder layer doc)
-  unfolding finds_some
-  one_find folder layer doc = decided_bind cause_of _ _ (decided_gives cause_of _) (λ at. decided_bind cause_of _ _ (one_found at doc) (λ found. decided_yields cause_of (Some found)))
-
-  one_contents : (folder layer : List ℕ) (doc : Option LayerDoc) → AreDecided cause_of (finds_contents store folder layer doc)
-  one_contents folder layer None = decided_yields cause_of None
-  one_contents folder layer (Some doc) = one_find folder layer doc
-
-  one_layer : (folder layer : List ℕ) → AreDecided cause_of (finds_layer store folder layer)
-  unfolding finds_layer
-  one_layer folder layer = decided_bind cause_of _ _ (decided_gives cause_of _) (λ document. decided_bind cause_of _ _ (one_layer_document document) (λ doc. one_contents folder layer doc))
-
-  one_reuse : (id layer : List ℕ) (found : FoundLayer) (before : Option LayerRow) → AreDecided cause_of (reuses store id layer found before)
+  one_settled : (line : ExportRow) (id layer : List ℕ) (digest : Option (List ℕ)) (before : Option LayerRow) → AreDecided cause_of (settles_by line store id layer digest before)
   unfolding reuses
-  one_reuse id layer found before = decided_bind cause_of _ _ (one_check store _ before) (λ checked. decided_gives cause_of _)
+  one_settled table.Skip id layer digest before = decided_yields cause_of _
+  one_settled table.Add id layer digest before = decided_yields cause_of _
+  one_settled table.Reuse id layer digest before = decided_bind cause_of _ _ (one_check store digest before) (λ checked. decided_yields cause_of _)
+  one_settled table.NoContents id layer digest before = decided_gives cause_of _
+  one_settled table.NoPrevious id layer digest before = decided_gives cause_of _
 
-  one_settled : (line : ExportRow) (id layer : List ℕ) (found : FoundLayer) (before : Option LayerRow) → AreDecided cause_of (settles_by line store id layer found before)
-  one_settled table.Skip id layer found before = decided_gives cause_of _
-  one_settled table.Add id layer found before = decided_gives cause_of _
-  one_settled table.Reuse id layer found before = one_reuse id layer found before
-  one_settled table.NoContents id layer found before = decided_gives cause_of _
-  one_settled table.NoPrevious id layer found before = decided_gives cause_of _
+  one_found : (previous : List LayerRow) (id folder layer : List ℕ) (doc : Option LayerDoc) → AreDecided cause_of (keeps_found store previous id folder layer doc)
+  unfolding keeps_some
+  one_found previous id folder layer None = decided_yields cause_of None
+  one_found previous id folder layer (Some doc) =
+      decided_bind cause_of _ _ (one_contents folder layer (flags_of doc))
+      (λ contents. decided_bind cause_of _ _ (one_settled (decision_of (flags_of doc) contents (row_of previous id layer)) id layer contents.digest (row_of previous id layer))
+      (λ settled. decided_gives cause_of _))
 
-  one_exported : (previous : List LayerRow) (id layer : List ℕ) (gathered : Gathered) (found : FoundLayer) → AreDecided cause_of (exports_some store previous id layer gathered found)
-  unfolding exports_some
-  one_exported previous id layer gathered found =
-      decided_bind cause_of _ _ (one_settled (decision_of found (row_of previous id layer)) id layer found (row_of previous id layer)) (λ kept. decided_gives cause_of _)
-
-  one_export : (previous : List LayerRow) (id layer : List ℕ) (gathered : Gathered) (found : Option FoundLayer) → AreDecided cause_of (exports_found store previous id layer gathered found)
-  one_export previous id layer gathered None = decided_yields cause_of gathered
-  one_export previous id layer gathered (Some found) = one_exported previous id layer gathered found
+  one_layer : (previous : List LayerRow) (id folder layer : List ℕ) → AreDecided cause_of (keeps_layer store previous id folder layer)
+  unfolding keeps_layer
+  one_layer previous id folder layer = decided_bind cause_of _ _ (decided_gives cause_of _) (λ document. decided_bind cause_of _ _ (one_layer_document document) (λ doc. one_found previous id folder layer doc))
 
   one_of : (previous : List LayerRow) (id folder layer : List ℕ) (gathered : Gathered) → AreDecided cause_of (exports_layer store previous id folder layer gathered)
   unfolding exports_layer
-  one_of previous id folder layer gathered = decided_bind cause_of _ _ (one_layer folder layer) (λ found. one_export previous id layer gathered found)
+  one_of previous id folder layer gathered = decided_bind cause_of _ _ (one_layer previous id folder layer) (λ kept. decided_gives cause_of _)
 
   one_layers : (previous : List LayerRow) (id folder : List ℕ) (gathered : Gathered) → AreDecided cause_of (exports_layers store previous id folder gathered)
   unfolding exports_layers

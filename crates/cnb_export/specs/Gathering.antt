@@ -1,25 +1,25 @@
 -- What a group left, gathered layer by layer.
-use Rattle.std.specs.Prelude.{ℕ, ◌≡◌, ◌++◌, Bool, List, [], ◌∷◌, map, Option, Some, None, Result, Ok}
+use Rattle.std.specs.Prelude.{ℕ, ◌++◌, Bool, List, [], ◌∷◌, Option, Some, None, Result, Ok}
+use Rattle.std.specs.Option.{option_map}
+use Rattle.cnb_toml.specs.declared.meta.Meta.{Meta}
 use Rattle.image_docs.specs.declared.layer_row.LayerRow.{LayerRow}
-use Rattle.shelf_set.specs.Caching.{digest_of_row, digest_of_tree}
+use Rattle.layer_flags.specs.declared.flags.Flags.{Flags}
+use Rattle.layer_paths.specs.Paths.{layer_document}
+use Rattle.run_docs.specs.declared.layer.LayerDoc.{LayerDoc}
 use Rattle.steps.specs.Outside.{Seen}
 use Rattle.steps.specs.Steps.{◌>>=◌, gives, yields}
 use Rattle.tree_canon.specs.declared.node.Node.{Node}
 use Rattle.cnb_export.specs.declared.exported.Gathered.{Gathered}
 use Rattle.cnb_export.specs.declared.exported.ImageLayer.{ImageLayer}
 use Rattle.cnb_export.specs.declared.fault.ExportFault.{ExportFault}
-use Rattle.cnb_export.specs.declared.layer.FoundLayer.{FoundLayer}
-use Rattle.cnb_export.specs.declared.settling.Kept.{Kept}
-use Rattle.cnb_export.specs.Layer.{finds_layer}
+use Rattle.cnb_export.specs.declared.gathering.Kept.{Kept}
+use Rattle.cnb_export.specs.declared.settling.Settled.{Settled}
+use Rattle.cnb_export.specs.Layer.{finds_contents, flags_of, reads_layer}
 use Rattle.cnb_export.specs.Refusals.{cause_of}
 use Rattle.cnb_export.specs.Settling.{settles}
 
 abbrev pub nothing_gathered : Gathered
 nothing_gathered = record { labels = []; processes = []; slices = []; store = []; layers = []; cached = []; trees = [] }
-
--- the tree of each layer that goes into caches has the digest of its row
-abbrev pub AreMatched : Gathered → Type 0
-AreMatched gathered = map digest_of_row gathered.cached ≡ map digest_of_tree gathered.trees
 
 -- the image's layers with one more, where it goes into the image
 abbrev pub with_image : List ImageLayer → LayerRow → Option Bool → List ImageLayer
@@ -50,17 +50,37 @@ abbrev pub with_kept : Gathered → Option Kept → Gathered
 with_kept gathered None = gathered
 with_kept gathered (Some kept) = with_layer gathered kept
 
-unfoldable pub exports_some : List ℕ → List LayerRow → List ℕ → List ℕ → Gathered → FoundLayer → Seen → Result Gathered ExportFault → Seen → Type 0
-exports_some store previous id layer gathered found = do
-  kept ← settles store previous id layer found
-  gives cause_of (Ok (with_kept gathered kept))
+-- a layer as its document has it, with the tree of its contents where that goes into caches
+abbrev pub kept_with : List ℕ → List ℕ → Flags → Meta → Option Node → Settled → Kept
+kept_with id layer flags meta tree settled = record {
+  row = record { id = id; layer = layer; flags = flags; meta = meta; digest = settled.digest };
+  reused = settled.reused;
+  tree = tree;
+}
 
-abbrev pub exports_found : List ℕ → List LayerRow → List ℕ → List ℕ → Gathered → Option FoundLayer → Seen → Result Gathered ExportFault → Seen → Type 0
-exports_found store previous id layer gathered None = yields gathered
-exports_found store previous id layer gathered (Some found) = exports_some store previous id layer gathered found
+abbrev pub kept_of : List ℕ → List ℕ → Flags → Meta → Option Node → Option Settled → Option Kept
+kept_of id layer flags meta tree settled = option_map (kept_with id layer flags meta tree) settled
 
--- a layer is read, and what becomes of it is settled
+-- the contents of a layer that has a document are found, and what becomes of it is settled
+unfoldable pub keeps_some : List ℕ → List LayerRow → List ℕ → List ℕ → List ℕ → LayerDoc → Seen → Result (Option Kept) ExportFault → Seen → Type 0
+keeps_some store previous id folder layer doc = do
+  contents ← finds_contents store folder layer (flags_of doc)
+  settled ← settles store previous id layer (flags_of doc) contents
+  gives cause_of (Ok (kept_of id layer (flags_of doc) doc.meta contents.tree settled))
+
+abbrev pub keeps_found : List ℕ → List LayerRow → List ℕ → List ℕ → List ℕ → Option LayerDoc → Seen → Result (Option Kept) ExportFault → Seen → Type 0
+keeps_found store previous id folder layer None = yields None
+keeps_found store previous id folder layer (Some doc) = keeps_some store previous id folder layer doc
+
+-- a layer's document is read, and then its contents
+unfoldable pub keeps_layer : List ℕ → List LayerRow → List ℕ → List ℕ → List ℕ → Seen → Result (Option Kept) ExportFault → Seen → Type 0
+keeps_layer store previous id folder layer = do
+  document ← gives cause_of (Ok (layer_document folder layer))
+  doc ← reads_layer document
+  keeps_found store previous id folder layer doc
+
+-- a layer is read, and added to what was gathered
 unfoldable pub exports_layer : List ℕ → List LayerRow → List ℕ → List ℕ → List ℕ → Gathered → Seen → Result Gathered ExportFault → Seen → Type 0
 exports_layer store previous id folder layer gathered = do
-  found ← finds_layer store folder layer
-  exports_found store previous id layer gathered found
+  kept ← keeps_layer store previous id folder layer
+  gives cause_of (Ok (with_kept gathered kept))

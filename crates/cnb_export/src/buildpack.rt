@@ -5,7 +5,7 @@ ghost use Rattle.steps.specs.Each.{for_each};
 ghost use Rattle.steps.specs.Outside.{seen};
 ghost use Rattle.cnb_export.specs.Buildpack.{defaults_of, exports_buildpack, exports_documents, exports_group, exports_layers, exports_store, one_default, reads_launch, reads_store, with_documents, with_store};
 ghost use Rattle.cnb_export.specs.Frame.{KeepsLimits};
-ghost use Rattle.cnb_export.specs.Gathering.{AreMatched, exports_layer};
+ghost use Rattle.cnb_export.specs.Gathering.{exports_layer};
 ghost use Rattle.cnb_export.specs.Refusals.{cause_of};
 
 use crate::exported::{ExportFrame, Gathered};
@@ -102,9 +102,7 @@ fn with_launch(
     launch: LaunchToml,
     more: List<List<Pattern>>,
 ) -> Result<Gathered, Memory>
-    requires { AreMatched gathered }
-    ensures documents { IfOk result (λ all. all ≡ with_documents gathered [] launch more None) }
-    ensures matched { IfOk result AreMatched }
+    ensures { IfOk result (λ all. all ≡ with_documents gathered [] launch more None) }
 {
     let Gathered {
         labels,
@@ -134,9 +132,7 @@ fn with_documents(
     more: List<List<Pattern>>,
     store: Option<StoreToml>,
 ) -> Result<Gathered, Memory>
-    requires { AreMatched gathered }
-    ensures documents { IfOk result (λ all. all ≡ with_documents gathered id.now launch more store) }
-    ensures matched { IfOk result AreMatched }
+    ensures { IfOk result (λ all. all ≡ with_documents gathered id.now launch more store) }
 {
     let mut all = with_launch(gathered, launch, more)?;
     push_store(alloc, &mut all.store, id, store)?;
@@ -152,11 +148,9 @@ fn export_store<W: World>(
     launch: LaunchToml,
     slices: List<List<Pattern>>,
 ) -> Result<Gathered, ExportFault>
-    requires folder { length folder.now ≤ 4352 }
-    requires matched { AreMatched gathered }
+    requires { length folder.now ≤ 4352 }
     ensures step { exports_store folder.now id.now gathered launch slices (seen W.World world.old) result
         (seen W.World world.new) }
-    ensures matched { IfOk result AreMatched }
 {
     let store = read_store(alloc, world, folder)?;
     let all = with_documents(alloc, gathered, id, launch, slices, store)?;
@@ -170,11 +164,9 @@ fn export_documents<W: World>(
     id: &BpId,
     gathered: Gathered,
 ) -> Result<Gathered, ExportFault>
-    requires folder { length folder.now ≤ 4352 }
-    requires matched { AreMatched gathered }
+    requires { length folder.now ≤ 4352 }
     ensures step { exports_documents folder.now id.now gathered (seen W.World world.old) result
         (seen W.World world.new) }
-    ensures matched { IfOk result AreMatched }
 {
     let launch = read_launch(alloc, world, folder, id)?;
     let slices = parse_slices(alloc, id, launch.slices.as_slice())?;
@@ -193,10 +185,8 @@ fn export_each<W: World>(
 ) -> Result<Gathered, ExportFault>
     requires store { length store.now ≤ 4096 }
     requires folder { length folder.now ≤ 4352 }
-    requires matched { AreMatched gathered }
     ensures step { for_each (exports_layer store.now previous.now id.now folder.now) layers.now gathered
         (seen W.World world.old) result (seen W.World world.new) }
-    ensures matched { IfOk result AreMatched }
 {
     let mut all = gathered;
     for layer in layers {
@@ -216,10 +206,8 @@ fn export_layers<W: World>(
 ) -> Result<Gathered, ExportFault>
     requires store { length store.now ≤ 4096 }
     requires folder { length folder.now ≤ 4352 }
-    requires matched { AreMatched gathered }
     ensures step { exports_layers store.now previous.now id.now folder.now gathered
         (seen W.World world.old) result (seen W.World world.new) }
-    ensures matched { IfOk result AreMatched }
 {
     let names = read_layer_names(alloc, world, folder)?;
     export_each(
@@ -242,11 +230,9 @@ fn export_buildpack<W: World>(
     row: &GroupRow,
     gathered: Gathered,
 ) -> Result<Gathered, ExportFault>
-    requires limits { KeepsLimits frame.now }
-    requires matched { AreMatched gathered }
+    requires { KeepsLimits frame.now }
     ensures step { exports_buildpack frame.now previous.now row.now gathered
         (seen W.World world.old) result (seen W.World world.new) }
-    ensures matched { IfOk result AreMatched }
 {
     let id = &row.key.id;
     let folder = layers_folder(alloc, &frame.layers, id)?;
@@ -265,7 +251,6 @@ pub(crate) fn export_group<W: World>(
     requires { KeepsLimits frame.now }
     ensures step { exports_group frame.now previous.now group.now (seen W.World world.old) result
         (seen W.World world.new) }
-    ensures matched { IfOk result AreMatched }
 {
     let mut all = nothing_gathered(alloc);
     for row in group {

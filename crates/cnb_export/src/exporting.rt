@@ -146,9 +146,10 @@ fn gain<W: World>(
 
 /// Exports an image: what the buildpacks of a group left, the application and the launcher. Trees go into the store and
 /// into the caches that stand; no image document is written. Trees that were put stay after a refusal (platform.md,
-/// "exporter"). Where no `launch.toml` has `slices`, nothing of the application is held in memory; else it is held
-/// whole, and then the trees that it is cut into (buildpack.md, "launch.toml (TOML)"). The folders of the frame have at
-/// most 4,096 bytes.
+/// "exporter"). The trees of layers with `cache` are held in memory until the end, for the caches; nothing of other
+/// layers is. Where no `launch.toml` has `slices`, nothing of the application is held; else it is held whole, and then
+/// the trees that it is cut into (buildpack.md, "launch.toml (TOML)"). The folders of the frame have at most 4,096
+/// bytes.
 pub fn export<W: World>(
     alloc: Global,
     world: &mut W,

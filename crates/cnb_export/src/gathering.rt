@@ -1,26 +1,34 @@
 // What a group left, gathered.
-ghost use Rattle.std.specs.Prelude.{◌≡◌, ◌≤◌, IfOk, IfSome, OnOk, length, map};
-ghost use Rattle.shelf_set.specs.Caching.{digest_of_row, digest_of_tree};
+ghost use Rattle.std.specs.Prelude.{◌≡◌, ◌≤◌, IfOk, OnOk, length};
 ghost use Rattle.steps.specs.Outside.{seen};
-ghost use Rattle.cnb_export.specs.Gathering.{AreMatched, exports_found, exports_layer, exports_some, nothing_gathered, with_image, with_kept, with_layer, with_row, with_tree};
-ghost use Rattle.cnb_export.specs.Layer.{IsMatched};
-ghost use Rattle.cnb_export.specs.Settling.{IsKeptRight};
+ghost use Rattle.cnb_export.specs.Gathering.{exports_layer, keeps_found, keeps_layer, keeps_some, kept_of, nothing_gathered, with_image, with_kept, with_layer, with_row, with_tree};
 
 use crate::exported::{Gathered, ImageLayer};
 use crate::fault::ExportFault;
 use crate::image::copy_layer;
-use crate::layer::{FoundLayer, find_layer};
-use crate::settling::{Kept, settle};
-use cnb_toml::{BpId, LayerName};
+use crate::layer::{find_contents, read_layer_document};
+use crate::settling::{Settled, settle};
+use cnb_toml::{BpId, LayerName, Meta};
 use cnb_world::{List, Memory, Path, World};
 use image_docs::LayerRow;
+use layer_flags::Flags;
+use layer_paths::layer_document;
+use run_docs::LayerDoc;
 use std::alloc::Global;
 use tree_canon::Tree;
 
+/// A layer that goes into the image, where `reused` says whether the previous image has the same, or into caches, with
+/// its tree.
+#[derive(Drop)]
+pub(crate) struct Kept {
+    pub(crate) row: LayerRow,
+    pub(crate) reused: Option<bool>,
+    pub(crate) tree: Option<Tree>,
+}
+
 /// Nothing yet.
 pub(crate) fn nothing_gathered(alloc: Global) -> Gathered
-    ensures nothing { result ≡ nothing_gathered }
-    ensures matched { AreMatched result }
+    ensures { result ≡ nothing_gathered }
 {
     Gathered {
         labels: List::new(alloc),
@@ -31,6 +39,101 @@ pub(crate) fn nothing_gathered(alloc: Global) -> Gathered
         cached: List::new(alloc),
         trees: List::new(alloc),
     }
+}
+
+fn kept_of(
+    alloc: Global,
+    id: &BpId,
+    layer: &LayerName,
+    flags: Flags,
+    meta: Meta,
+    tree: Option<Tree>,
+    settled: Option<Settled>,
+) -> Result<Option<Kept>, Memory>
+    ensures { IfOk result (λ kept. kept ≡ kept_of id.now layer.now flags meta tree settled) }
+{
+    match settled {
+        Some(Settled { reused, digest }) => Ok(Some(Kept {
+            row: LayerRow {
+                id: id.copy(alloc)?,
+                layer: layer.copy(alloc)?,
+                flags,
+                meta,
+                digest,
+            },
+            reused,
+            tree,
+        })),
+        None => Ok(None),
+    }
+}
+
+fn keep_some<W: World>(
+    alloc: Global,
+    world: &mut W,
+    store: &Path,
+    previous: &[LayerRow],
+    id: &BpId,
+    folder: &Path,
+    layer: &LayerName,
+    doc: LayerDoc,
+) -> Result<Option<Kept>, ExportFault>
+    requires store { length store.now ≤ 4096 }
+    requires folder { length folder.now ≤ 4352 }
+    ensures step { keeps_some store.now previous.now id.now folder.now layer.now doc
+        (seen W.World world.old) result (seen W.World world.new) }
+{
+    let flags = Flags {
+        launch: doc.launch,
+        build: doc.build,
+        cache: doc.cache,
+    };
+    let contents = find_contents(alloc, world, store, folder, layer, flags)?;
+    let settled = settle(alloc, world, store, previous, id, layer, flags, &contents)?;
+    let kept = kept_of(alloc, id, layer, flags, doc.meta, contents.tree, settled)?;
+    Ok(kept)
+}
+
+#[tactic(auto, unfolding(steps::specs::Steps::yields))]
+fn keep_found<W: World>(
+    alloc: Global,
+    world: &mut W,
+    store: &Path,
+    previous: &[LayerRow],
+    id: &BpId,
+    folder: &Path,
+    layer: &LayerName,
+    doc: Option<LayerDoc>,
+) -> Result<Option<Kept>, ExportFault>
+    requires store { length store.now ≤ 4096 }
+    requires folder { length folder.now ≤ 4352 }
+    ensures step { keeps_found store.now previous.now id.now folder.now layer.now doc
+        (seen W.World world.old) result (seen W.World world.new) }
+{
+    match doc {
+        Some(doc) => keep_some(alloc, world, store, previous, id, folder, layer, doc),
+        None => Ok(None),
+    }
+}
+
+// Reads a layer, and puts what the image needs of it into the store.
+fn keep_layer<W: World>(
+    alloc: Global,
+    world: &mut W,
+    store: &Path,
+    previous: &[LayerRow],
+    id: &BpId,
+    folder: &Path,
+    layer: &LayerName,
+) -> Result<Option<Kept>, ExportFault>
+    requires store { length store.now ≤ 4096 }
+    requires folder { length folder.now ≤ 4352 }
+    ensures step { keeps_layer store.now previous.now id.now folder.now layer.now
+        (seen W.World world.old) result (seen W.World world.new) }
+{
+    let document = layer_document(alloc, folder, layer)?;
+    let doc = read_layer_document(alloc, world, &document)?;
+    keep_found(alloc, world, store, previous, id, folder, layer, doc)
 }
 
 // Adds a layer that goes into the image.
@@ -58,11 +161,8 @@ fn add_to_caches(
     row: LayerRow,
     tree: Option<Tree>,
 ) -> Result<(), Memory>
-    requires matched { map digest_of_row cached.old ≡ map digest_of_tree trees.old }
-    requires right { IfSome tree (λ tree. row.digest ≡ digest_of_tree tree) }
     ensures rows { OnOk result (cached.new ≡ with_row cached.old row tree) }
     ensures trees { OnOk result (trees.new ≡ with_tree trees.old tree) }
-    ensures matched { OnOk result (map digest_of_row cached.new ≡ map digest_of_tree trees.new) }
 {
     if let Some(tree) = tree {
         cached.push(row)?;
@@ -72,10 +172,7 @@ fn add_to_caches(
 }
 
 fn with_layer(alloc: Global, mut gathered: Gathered, kept: Kept) -> Result<Gathered, Memory>
-    requires matched { AreMatched gathered }
-    requires right { IsKeptRight kept }
-    ensures layer { IfOk result (λ all. all ≡ with_layer gathered kept) }
-    ensures matched { IfOk result AreMatched }
+    ensures { IfOk result (λ all. all ≡ with_layer gathered kept) }
 {
     let Kept { row, reused, tree } = kept;
     add_to_image(alloc, &mut gathered.layers, &row, reused)?;
@@ -84,59 +181,10 @@ fn with_layer(alloc: Global, mut gathered: Gathered, kept: Kept) -> Result<Gathe
 }
 
 fn with_kept(alloc: Global, gathered: Gathered, kept: Option<Kept>) -> Result<Gathered, Memory>
-    requires matched { AreMatched gathered }
-    requires right { IfSome kept IsKeptRight }
-    ensures layer { IfOk result (λ all. all ≡ with_kept gathered kept) }
-    ensures matched { IfOk result AreMatched }
+    ensures { IfOk result (λ all. all ≡ with_kept gathered kept) }
 {
     match kept {
         Some(kept) => with_layer(alloc, gathered, kept),
-        None => Ok(gathered),
-    }
-}
-
-fn export_some<W: World>(
-    alloc: Global,
-    world: &mut W,
-    store: &Path,
-    previous: &[LayerRow],
-    id: &BpId,
-    layer: &LayerName,
-    gathered: Gathered,
-    found: FoundLayer,
-) -> Result<Gathered, ExportFault>
-    requires store { length store.now ≤ 4096 }
-    requires matched { AreMatched gathered }
-    requires contents { IsMatched found }
-    ensures step { exports_some store.now previous.now id.now layer.now gathered found
-        (seen W.World world.old) result (seen W.World world.new) }
-    ensures matched { IfOk result AreMatched }
-{
-    let kept = settle(alloc, world, store, previous, id, layer, found)?;
-    let all = with_kept(alloc, gathered, kept)?;
-    Ok(all)
-}
-
-#[tactic(auto, unfolding(steps::specs::Steps::yields))]
-fn export_found<W: World>(
-    alloc: Global,
-    world: &mut W,
-    store: &Path,
-    previous: &[LayerRow],
-    id: &BpId,
-    layer: &LayerName,
-    gathered: Gathered,
-    found: Option<FoundLayer>,
-) -> Result<Gathered, ExportFault>
-    requires store { length store.now ≤ 4096 }
-    requires matched { AreMatched gathered }
-    requires contents { IfSome found IsMatched }
-    ensures step { exports_found store.now previous.now id.now layer.now gathered found
-        (seen W.World world.old) result (seen W.World world.new) }
-    ensures matched { IfOk result AreMatched }
-{
-    match found {
-        Some(found) => export_some(alloc, world, store, previous, id, layer, gathered, found),
         None => Ok(gathered),
     }
 }
@@ -154,11 +202,10 @@ pub(crate) fn export_layer<W: World>(
 ) -> Result<Gathered, ExportFault>
     requires store { length store.now ≤ 4096 }
     requires folder { length folder.now ≤ 4352 }
-    requires matched { AreMatched gathered }
     ensures step { exports_layer store.now previous.now id.now folder.now layer.now gathered
         (seen W.World world.old) result (seen W.World world.new) }
-    ensures matched { IfOk result AreMatched }
 {
-    let found = find_layer(alloc, world, store, folder, layer)?;
-    export_found(alloc, world, store, previous, id, layer, gathered, found)
+    let kept = keep_layer(alloc, world, store, previous, id, folder, layer)?;
+    let all = with_kept(alloc, gathered, kept)?;
+    Ok(all)
 }

@@ -6,19 +6,19 @@ use Rattle.cnb_export.specs.declared.fault.ExportFault.TheVariants.{Store}
 use Rattle.cnb_export.specs.Buildpack.{exports_buildpack}
 use Rattle.cnb_export.proofs.buildpack.export_buildpack.Goals as goal
 
-pub returns-in_err-folder-clause-step : goal.returns-in_err-folder-clause-step
+pub returns-in_err-folder : goal.returns-in_err-folder
 unfolding exports_buildpack
-returns-in_err-folder-clause-step g c =
+returns-in_err-folder g c =
     let exit = err_from_is_err_and c.from_residual.result c.from_residual.ensures.1 in
-    rw (exit.1, exit.2) (ended _ _ _ _ _ (no_memory _ _ _ (Store stored.Memory) refl))
+    rw (exit.1, exit.2) (record { step = ended _ _ _ _ _ (no_memory _ _ _ (Store stored.Memory) refl) })
 
-pub returns-in_err-documents-clause-step : goal.returns-in_err-documents-clause-step
+pub returns-in_err-documents : goal.returns-in_err-documents
 unfolding exports_buildpack
-returns-in_err-documents-clause-step g c =
+returns-in_err-documents g c =
     let exit = err_from_is_err_and c.from_residual-in_err-documents.result c.from_residual-in_err-documents.ensures.1 in
-    rw (exit.1, exit.2) (went _ _ _ _ _ _ _ (given _ _ _ _ (ap Ok (sym c.in_ok-folder.ensures.path))) (ended _ _ _ _ _ c.in_err-documents.ensures.step))
+    rw (exit.1, exit.2) (record { step = went _ _ _ _ _ _ _ (given _ _ _ _ (ap Ok (sym c.in_ok-folder.ensures.path))) (ended _ _ _ _ _ c.in_err-documents.ensures.step) })
 
-pub returns-clause-step : goal.returns-clause-step
+pub returns : goal.returns
 unfolding exports_buildpack
-returns-clause-step g c =
-    went _ _ _ _ _ _ _ (given _ _ _ _ (ap Ok (sym c.in_ok-folder.ensures.path))) (went _ _ _ _ _ _ _ c.in_ok-documents.ensures.step c.export_layers.ensures.step)
+returns g c =
+    record { step = went _ _ _ _ _ _ _ (given _ _ _ _ (ap Ok (sym c.in_ok-folder.ensures.path))) (went _ _ _ _ _ _ _ c.in_ok-documents.ensures.step c.export_layers.ensures.step) }

@@ -4,13 +4,11 @@ use Rattle.steps.specs.Outside.{Seen, seen}
 use Rattle.cnb_export.specs.declared.exported.Gathered.{Gathered}
 use Rattle.cnb_export.specs.declared.fault.ExportFault.{ExportFault}
 use Rattle.cnb_export.specs.Buildpack.{exports_buildpack}
-use Rattle.cnb_export.specs.Gathering.{AreMatched, nothing_gathered}
+use Rattle.cnb_export.specs.Gathering.{nothing_gathered}
 use Rattle.cnb_export.proofs.buildpack.export_group.Given as goal
 
 -- the buildpacks from here on are the rest of all
 abbrev pub invariant-loop-row : goal.invariant-loop-row
-invariant-loop-row g l = record {
-  step : (result : Result Gathered ExportFault) (new : Seen) → for_each (exports_buildpack l.frame l.previous) (drop l.row-index l.group) l.all (seen g.W.World l.world) result new
-      → for_each (exports_buildpack l.frame l.previous) l.group nothing_gathered (seen g.W.World l.initial.world) result new;
-  matched : AreMatched l.all;
-}
+invariant-loop-row g l =
+    (result : Result Gathered ExportFault) (new : Seen) → for_each (exports_buildpack l.frame l.previous) (drop l.row-index l.group) l.all (seen g.W.World l.world) result new
+    → for_each (exports_buildpack l.frame l.previous) l.group nothing_gathered (seen g.W.World l.initial.world) result new

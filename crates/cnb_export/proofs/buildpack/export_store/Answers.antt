@@ -6,18 +6,18 @@ use Rattle.cnb_export.specs.declared.fault.ExportFault.TheVariants.{Store}
 use Rattle.cnb_export.specs.Buildpack.{exports_store}
 use Rattle.cnb_export.proofs.buildpack.export_store.Goals as goal
 
-pub returns-in_err-store-clause-step : goal.returns-in_err-store-clause-step
+pub returns-in_err-store : goal.returns-in_err-store
 unfolding exports_store
-returns-in_err-store-clause-step g c =
+returns-in_err-store g c =
     let exit = err_from_is_err_and c.from_residual.result c.from_residual.ensures.1 in
-    rw (exit.1, exit.2) (ended _ _ _ _ _ c.in_err-store.ensures.step)
+    rw (exit.1, exit.2) (record { step = ended _ _ _ _ _ c.in_err-store.ensures.step })
 
-pub returns-in_err-all-clause-step : goal.returns-in_err-all-clause-step
+pub returns-in_err-all : goal.returns-in_err-all
 unfolding exports_store
-returns-in_err-all-clause-step g c =
+returns-in_err-all g c =
     let exit = err_from_is_err_and c.from_residual-in_err-all.result c.from_residual-in_err-all.ensures.1 in
-    rw (exit.1, exit.2) (went _ _ _ _ _ _ _ c.in_ok-store.ensures.step (no_memory _ _ _ (Store stored.Memory) refl))
+    rw (exit.1, exit.2) (record { step = went _ _ _ _ _ _ _ c.in_ok-store.ensures.step (no_memory _ _ _ (Store stored.Memory) refl) })
 
-pub returns-clause-step : goal.returns-clause-step
+pub returns : goal.returns
 unfolding exports_store
-returns-clause-step g c = went _ _ _ _ _ _ _ c.in_ok-store.ensures.step (given _ _ _ _ (ap Ok (sym c.in_ok-all.ensures.documents)))
+returns g c = record { step = went _ _ _ _ _ _ _ c.in_ok-store.ensures.step (given _ _ _ _ (ap Ok (sym c.in_ok-all.ensures))) }

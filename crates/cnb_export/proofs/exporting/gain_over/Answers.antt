@@ -15,6 +15,7 @@ use Rattle.image_docs.specs.Image.{is_image_doc}
 use Rattle.run_docs.specs.Group.{is_group_doc}
 use Rattle.cnb_export.proofs.GatherLaws.{group_gathers}
 use Rattle.cnb_export.proofs.ImageLaws.{image_readable}
+use Rattle.cnb_export.proofs.MatchLaws.{group_matched}
 use Rattle.cnb_export.proofs.ReadSteps.{same_for}
 use Rattle.cnb_export.proofs.exporting.gain_over.Goals as goal
 
@@ -55,4 +56,5 @@ returns-clause-cacheable g c = λ distinct.
 
 pub returns-clause-matched : goal.returns-clause-matched
 returns-clause-matched g c =
-    subst (λ (gained : Gained). map digest_of_row gained.cached ≡ map digest_of_tree gained.trees) (sym c.in_ok-gained.ensures.gained) c.in_ok-gathered.ensures.matched
+    subst (λ (gained : Gained). map digest_of_row gained.cached ≡ map digest_of_tree gained.trees) (sym c.in_ok-gained.ensures.gained)
+    (group_matched _ _ _ _ _ _ c.in_ok-gathered.ensures.step)
