@@ -4,9 +4,10 @@ ghost use Rattle.std.specs.Str.{bytes_eq};
 ghost use Rattle.std.specs.Process.{command_program, command_args, command_var, command_dir, clears_env, SameProgramAndArgs, SameEnv, SameDir};
 ghost use Rattle.cnb_world.specs.Env.{value_of};
 
+use crate::fault::HostFault;
 use cnb_world::{ChildJob, DetectJob, Env, Path, Text};
 use std::alloc::{AllocError, Global};
-use std::process::Command;
+use std::process::{Child, Command, Processes, Stdio};
 
 /// The command of a job: its program with the platform folder and the plan file as arguments, in its folder, with
 /// exactly its environment (buildpack.md, "Detection"). Its standard input is for the caller to give, and it inherits
@@ -20,10 +21,22 @@ pub fn detect_command(alloc: Global, job: &DetectJob) -> Result<Command, AllocEr
         → command_var command name ≡ option_map Some (value_of job.now.env name)) }
 {
     let mut command = Command::new(alloc, job.program.as_str())?;
+    set_detect(&mut command, job)?;
+    Ok(command)
+}
+
+fn set_detect(command: &mut Command, job: &DetectJob) -> Result<(), AllocError>
+    requires { command_args command.old ≡ [] }
+    ensures program { OnOk result (command_program command.new ≡ command_program command.old) }
+    ensures args { OnOk result (command_args command.new ≡ job.now.platform ∷ job.now.plan ∷ []) }
+    ensures dir { OnOk result (command_dir command.new ≡ Some job.now.dir) }
+    ensures clears { OnOk result (clears_env command.new ≡ true) }
+    ensures vars { OnOk result ((name : Seq ℕ)
+        → command_var command.new name ≡ option_map Some (value_of job.now.env name)) }
+{
     command.arg(job.platform.as_str())?;
     command.arg(job.plan.as_str())?;
-    set_surroundings(&mut command, &job.dir, &job.env)?;
-    Ok(command)
+    set_surroundings(command, &job.dir, &job.env)
 }
 
 /// The command of a job: its program with its arguments, in its folder, with exactly its environment. It inherits
@@ -37,9 +50,21 @@ pub fn child_command(alloc: Global, job: &ChildJob) -> Result<Command, AllocErro
         → command_var command name ≡ option_map Some (value_of job.now.env name)) }
 {
     let mut command = Command::new(alloc, job.program.as_str())?;
-    add_arguments(&mut command, job.args.as_slice())?;
-    set_surroundings(&mut command, &job.dir, &job.env)?;
+    set_child(&mut command, job)?;
     Ok(command)
+}
+
+fn set_child(command: &mut Command, job: &ChildJob) -> Result<(), AllocError>
+    requires { command_args command.old ≡ [] }
+    ensures program { OnOk result (command_program command.new ≡ command_program command.old) }
+    ensures args { OnOk result (command_args command.new ≡ job.now.args) }
+    ensures dir { OnOk result (command_dir command.new ≡ Some job.now.dir) }
+    ensures clears { OnOk result (clears_env command.new ≡ true) }
+    ensures vars { OnOk result ((name : Seq ℕ)
+        → command_var command.new name ≡ option_map Some (value_of job.now.env name)) }
+{
+    add_arguments(command, job.args.as_slice())?;
+    set_surroundings(command, &job.dir, &job.env)
 }
 
 pub(crate) fn add_arguments(command: &mut Command, args: &[Text]) -> Result<(), AllocError>
@@ -64,8 +89,7 @@ fn set_surroundings(command: &mut Command, dir: &Path, env: &Env) -> Result<(), 
 {
     command.current_dir(dir.as_str())?;
     command.env_clear();
-    set_variables(command, env)?;
-    Ok(())
+    set_variables(command, env)
 }
 
 // From the last variable to the first.
@@ -93,4 +117,23 @@ fn set_variable(command: &mut Command, name: &str, value: &str) -> Result<(), Al
 {
     command.env(name, value)?;
     Ok(())
+}
+
+/// Starts a program with this standard input and the outputs of this process.
+pub fn start_command<R: Processes>(
+    rt: &R,
+    command: &Command,
+    input: &Stdio,
+) -> Result<Child<R::Started>, HostFault> {
+    let output = Stdio::inherit();
+    start_with(rt, command, input, &output)
+}
+
+fn start_with<R: Processes>(
+    rt: &R,
+    command: &Command,
+    input: &Stdio,
+    output: &Stdio,
+) -> Result<Child<R::Started>, HostFault> {
+    Ok(rt.spawn(command, input, output, output)?)
 }

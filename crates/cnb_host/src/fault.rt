@@ -6,7 +6,7 @@ use std::io;
 use std::io::ErrorKind;
 
 /// Why the system gave no answer: a failure to be counted, or want of memory.
-#[derive(Clone, Copy, Debug, PartialEq, Eq)]
+#[derive(Clone, Copy)]
 pub enum HostFault {
     Failed,
     Memory,

@@ -117,8 +117,7 @@ where
     if found.is_file() && found.len() == 0 {
         return Ok(Bytes::from_vec(Vec::new(alloc)));
     }
-    let (file, len) = open_to_read(rt, path, &found)?;
-    read_at_most(alloc, &file, 0, len.min(max))
+    read_found(rt, alloc, path, &found, 0, max)
 }
 
 /// The bytes of the regular file at a path, at most `max` of them, where anything stands there.
@@ -132,11 +131,10 @@ where
     R::File: FileExt,
     ensures bound { IfOk result (λ found. IfSome found (λ bytes. length bytes ≤ max)) }
 {
-    let Some(found) = look_at(rt, path)? else {
-        return Ok(None);
-    };
-    let (file, len) = open_to_read(rt, path, &found)?;
-    Ok(Some(read_at_most(alloc, &file, 0, len.min(max))?))
+    match look_at(rt, path)? {
+        Some(found) => Ok(Some(read_found(rt, alloc, path, &found, 0, max)?)),
+        None => Ok(None),
+    }
 }
 
 // The regular file that was found at a path, opened, and its length.
@@ -233,14 +231,26 @@ fn let_run(file: &impl OpenFile) -> Result<(), HostFault> {
 }
 
 fn replace_with<R: Files>(rt: &R, path: &str, mode: u32) -> Result<R::File, HostFault> {
-    if let Some(file) = make_new(rt, path, mode)? {
-        return Ok(file);
+    match make_new(rt, path, mode)? {
+        Some(file) => Ok(file),
+        None => {
+            remove_regular(rt, path)?;
+            make_again(rt, path, mode)
+        }
     }
+}
+
+// Takes away the regular file that stands at a path, if one does.
+fn remove_regular(rt: &impl Files, path: &str) -> Result<(), HostFault> {
     match kind_at(rt, path)? {
-        Kind::Absent => {}
-        Kind::File { .. } => fs::remove_file(rt, path)?,
-        Kind::Folder | Kind::Link | Kind::Odd => return Err(HostFault::Failed),
+        Kind::Absent => Ok(()),
+        Kind::File { .. } => Ok(fs::remove_file(rt, path)?),
+        Kind::Folder | Kind::Link | Kind::Odd => Err(HostFault::Failed),
     }
+}
+
+// Makes an empty file at a path that was made free, and opens it.
+fn make_again<R: Files>(rt: &R, path: &str, mode: u32) -> Result<R::File, HostFault> {
     make_new(rt, path, mode)?.ok_or(HostFault::Failed)
 }
 
@@ -250,10 +260,8 @@ pub fn fresh_file<R: Files>(rt: &R, path: &str) -> Result<(), HostFault> {
         return Ok(());
     }
     unlink_at(rt, path)?;
-    match make_new(rt, path, PLAIN)? {
-        Some(_) => Ok(()),
-        None => Err(HostFault::Failed),
-    }
+    make_again(rt, path, PLAIN)?;
+    Ok(())
 }
 
 // Takes away what stands at a path, which the system refuses where that is a folder.
@@ -286,8 +294,7 @@ pub fn append_bytes(rt: &impl Files, path: &str, bytes: &[u8]) -> Result<(), Hos
     options.append(true);
     let found = fs::symlink_metadata(rt, path)?;
     let (mut file, _) = open_found(rt, &options, path, &found)?;
-    file.write_all(bytes)?;
-    Ok(())
+    Ok(file.write_all(bytes)?)
 }
 
 /// Makes a folder and those above it that are missing.
@@ -316,14 +323,27 @@ pub fn rename_open<R: Files>(
 ) -> Result<(), HostFault> {
     file.sync_data()?;
     let opened = file.metadata()?;
-    match kind_at(rt, new)? {
-        Kind::File { .. } | Kind::Absent => {}
-        Kind::Folder | Kind::Link | Kind::Odd => return Err(HostFault::Failed),
-    }
-    if !is_same_file(&fs::symlink_metadata(rt, old)?, &opened) {
-        return Err(HostFault::Failed);
-    }
+    check_free(rt, new)?;
+    check_same(rt, old, &opened)?;
     Ok(fs::rename(rt, old, new)?)
+}
+
+// Refuses a path at which stands anything but a regular file.
+fn check_free(rt: &impl Files, path: &str) -> Result<(), HostFault> {
+    match kind_at(rt, path)? {
+        Kind::File { .. } | Kind::Absent => Ok(()),
+        Kind::Folder | Kind::Link | Kind::Odd => Err(HostFault::Failed),
+    }
+}
+
+// Refuses a path at which another file stands than the one that was opened.
+fn check_same(rt: &impl Files, path: &str, opened: &Metadata) -> Result<(), HostFault> {
+    let found = fs::symlink_metadata(rt, path)?;
+    if is_same_file(&found, opened) {
+        Ok(())
+    } else {
+        Err(HostFault::Failed)
+    }
 }
 
 /// Puts a file with these bytes at a path, in place of a regular file that stands there. It is written beside its place
@@ -334,9 +354,18 @@ pub fn replace_file<R: Files + AllocGlobal>(
     bytes: &[u8],
 ) -> Result<(), HostFault> {
     let unfinished = format!(in rt.alloc(); "{path}.new")?;
-    let mut file = create_file(rt, unfinished.as_str(), false)?;
+    replace_through(rt, unfinished.as_str(), path, bytes)
+}
+
+fn replace_through<R: Files>(
+    rt: &R,
+    unfinished: &str,
+    path: &str,
+    bytes: &[u8],
+) -> Result<(), HostFault> {
+    let mut file = create_file(rt, unfinished, false)?;
     file.write_all(bytes)?;
-    rename_open(rt, &file, unfinished.as_str(), path)
+    rename_open(rt, &file, unfinished, path)
 }
 
 fn is_same_file(found: &Metadata, opened: &Metadata) -> bool {

@@ -59,11 +59,19 @@ impl<R: Files> KeptFile<R> {
     /// Gives a regular file a new name, in place of a regular file that has it, once what it holds has reached the
     /// disk.
     pub fn rename(&mut self, rt: &R, old: &Path, new: &Path) -> Result<(), HostFault> {
-        match self.made.take() {
-            Some(made) if made.path.as_str() == old.as_str() => {
-                rename_open(rt, &made.file, old.as_str(), new.as_str())
-            }
-            _ => rename_file(rt, old.as_str(), new.as_str()),
-        }
+        let made = self.made.take();
+        rename_made(rt, &made, old.as_str(), new.as_str())
+    }
+}
+
+fn rename_made<R: Files>(
+    rt: &R,
+    made: &Option<Made<R>>,
+    old: &str,
+    new: &str,
+) -> Result<(), HostFault> {
+    match made {
+        Some(made) if made.path.as_str() == old => rename_open(rt, &made.file, old, new),
+        _ => rename_file(rt, old, new),
     }
 }

@@ -32,11 +32,25 @@ fn read_names<R: Files + AllocGlobal + Clone + Drop>(
     path: &str,
 ) -> Result<Vec<String>, HostFault> {
     let mut names = Vec::new(rt.alloc());
-    for entry in fs::read_dir(rt, path)? {
-        names.push(String::from_str(rt.alloc(), entry?.file_name())?)?;
-    }
+    push_names(rt, path, &mut names)?;
     names.sort()?;
     Ok(names)
+}
+
+fn push_names<R: Files + AllocGlobal + Clone + Drop>(
+    rt: &R,
+    path: &str,
+    names: &mut Vec<String>,
+) -> Result<(), HostFault> {
+    for entry in fs::read_dir(rt, path)? {
+        push_text(rt.alloc(), entry?.file_name(), names)?;
+    }
+    Ok(())
+}
+
+/// Adds a copy of a text.
+pub fn push_text(alloc: Global, text: &str, texts: &mut Vec<String>) -> Result<(), HostFault> {
+    Ok(texts.push(String::from_str(alloc, text)?)?)
 }
 
 fn names_of(alloc: Global, names: Vec<String>) -> Result<List<Text>, HostFault>

@@ -36,10 +36,9 @@ impl PlanFolder {
             return Ok(());
         }
         self.last = None;
-        let made = Text::of(alloc, folder)?;
         make_folders(rt, folder)?;
         fresh_file(rt, plan.as_str())?;
-        self.last = Some(made);
+        self.last = Some(Text::of(alloc, folder)?);
         Ok(())
     }
 

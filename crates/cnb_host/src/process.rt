@@ -37,24 +37,49 @@ pub fn words<R: rt::Env + AllocGlobal>(rt: &R) -> Result<Vec<String>, StartFault
 /// first counts.
 pub fn environment<R: rt::Env + AllocGlobal>(rt: &R) -> Result<Env, Memory> {
     let mut variables = Env::new(rt.alloc());
+    add_entries(rt, &mut variables)?;
+    Ok(variables)
+}
+
+fn add_entries<R: rt::Env + AllocGlobal>(rt: &R, variables: &mut Env) -> Result<(), Memory> {
     for place in 0..usize::MAX {
-        let Some(entry) = entry_at(rt, place)? else {
-            return Ok(variables);
-        };
-        if let Ok(text) = str::from_utf8(&entry) {
-            add_entry(rt.alloc(), &mut variables, text)?;
+        if !add_entry_at(rt, variables, place)? {
+            return Ok(());
         }
     }
     Err(Memory)
 }
 
+// Adds the entry at a place. Returns whether there is one.
+fn add_entry_at<R: rt::Env + AllocGlobal>(
+    rt: &R,
+    variables: &mut Env,
+    place: usize,
+) -> Result<bool, Memory> {
+    match entry_at(rt, place)? {
+        Some(entry) => add_bytes(rt.alloc(), variables, &entry),
+        None => Ok(false),
+    }
+}
+
+fn add_bytes(alloc: Global, variables: &mut Env, entry: &[u8]) -> Result<bool, Memory> {
+    if let Ok(text) = str::from_utf8(entry) {
+        add_entry(alloc, variables, text)?;
+    }
+    Ok(true)
+}
+
 fn add_entry(alloc: Global, variables: &mut Env, entry: &str) -> Result<(), Memory> {
     match entry.split_once('=') {
         Some((name, value)) if !name.is_empty() && variables.get(name).is_none() => {
-            variables.set(Text::of(alloc, name)?, Text::of(alloc, value)?)
+            set_entry(alloc, variables, name, value)
         }
         _ => Ok(()),
     }
+}
+
+fn set_entry(alloc: Global, variables: &mut Env, name: &str, value: &str) -> Result<(), Memory> {
+    variables.set(Text::of(alloc, name)?, Text::of(alloc, value)?)
 }
 
 const FIRST_ROOM: usize = 4096;

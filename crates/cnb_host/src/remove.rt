@@ -2,9 +2,11 @@
 
 use crate::fault::HostFault;
 use crate::files::kind_at;
+use crate::names::push_text;
 use cnb_world::Kind;
+use std::alloc::Global;
 use std::fs;
-use std::fs::Permissions;
+use std::fs::{DirEntry, Permissions};
 use std::io::ErrorKind;
 use std::os::unix::fs::{MetadataExt, PermissionsExt};
 use std::rt::Files;
@@ -49,15 +51,31 @@ fn remove_folder<R: Files + AllocGlobal + Clone + Drop>(
 // Gives the owner every right to the folder at a path and to those below it.
 fn open_below<R: Files + AllocGlobal + Clone + Drop>(rt: &R, path: &str) -> Result<(), HostFault> {
     let mut folders = Vec::new(rt.alloc());
-    folders.push(String::from_str(rt.alloc(), path)?)?;
+    push_text(rt.alloc(), path, &mut folders)?;
+    open_all(rt, &mut folders)
+}
+
+fn open_all<R: Files + AllocGlobal + Clone + Drop>(
+    rt: &R,
+    folders: &mut Vec<String>,
+) -> Result<(), HostFault> {
     for _ in 0..u64::MAX {
         let Some(folder) = folders.pop() else {
             return Ok(());
         };
-        open_folder(rt, folder.as_str())?;
-        push_folders(rt, folder.as_str(), &mut folders)?;
+        open_one(rt, folder.as_str(), folders)?;
     }
     Err(HostFault::Failed)
+}
+
+// Gives the right to one folder, and adds those below it to the others.
+fn open_one<R: Files + AllocGlobal + Clone + Drop>(
+    rt: &R,
+    folder: &str,
+    folders: &mut Vec<String>,
+) -> Result<(), HostFault> {
+    open_folder(rt, folder)?;
+    push_folders(rt, folder, folders)
 }
 
 fn open_folder(rt: &impl Files, path: &str) -> Result<(), HostFault> {
@@ -76,9 +94,18 @@ fn push_folders<R: Files + AllocGlobal + Clone + Drop>(
 ) -> Result<(), HostFault> {
     for entry in fs::read_dir(rt, folder)? {
         let entry = entry?;
-        if entry.metadata()?.is_dir() {
-            folders.push(String::from_str(rt.alloc(), entry.path().as_str())?)?;
-        }
+        push_folder(rt.alloc(), &entry, folders)?;
+    }
+    Ok(())
+}
+
+fn push_folder<R: Files>(
+    alloc: Global,
+    entry: &DirEntry<R>,
+    folders: &mut Vec<String>,
+) -> Result<(), HostFault> {
+    if entry.metadata()?.is_dir() {
+        push_text(alloc, entry.path().as_str(), folders)?;
     }
     Ok(())
 }

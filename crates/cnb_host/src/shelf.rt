@@ -6,7 +6,7 @@ ghost use Rattle.cnb_world.specs.Calls.{CountsShelf};
 use crate::fault::HostFault;
 use crate::files::{kind_at, make_folders, read_if_there, replace_file};
 use cnb_world::{Bytes, Kind, Path, Shelf, ShelfFault};
-use std::alloc::AllocError;
+use std::alloc::{AllocError, Global};
 use std::marker::Model;
 use std::os::unix::fs::FileExt;
 use std::rt::Files;
@@ -61,24 +61,19 @@ impl<R: Files + AllocGlobal + Drop> FolderShelf<R> {
         R::File: FileExt,
         ensures bound { IfOk result (λ bytes. length bytes ≤ 1073741824) }
     {
-        let alloc = self.rt.alloc();
-        match read_if_there(&self.rt, alloc, self.rows_path()?.as_str(), MOST)? {
-            Some(bytes) => Ok(bytes),
-            None => Ok(Bytes::from_vec(Vec::new(alloc))),
-        }
+        let path = self.rows_path()?;
+        read_or_nothing(&self.rt, self.rt.alloc(), path.as_str())
     }
 
     fn write_rows(&self, bytes: &[u8]) -> Result<(), HostFault> {
         make_folders(&self.rt, self.folder.as_str())?;
-        replace_file(&self.rt, self.rows_path()?.as_str(), bytes)
+        let path = self.rows_path()?;
+        replace_file(&self.rt, path.as_str(), bytes)
     }
 
     fn has_tree(&self, digest: &[u8; 32]) -> Result<bool, HostFault> {
-        match kind_at(&self.rt, self.tree_path(digest)?.as_str())? {
-            Kind::Absent => Ok(false),
-            Kind::File { .. } => Ok(true),
-            Kind::Folder | Kind::Link | Kind::Odd => Err(HostFault::Failed),
-        }
+        let path = self.tree_path(digest)?;
+        has_file(&self.rt, path.as_str())
     }
 
     fn read_tree(&self, digest: &[u8; 32]) -> Result<Option<Bytes>, HostFault>
@@ -86,17 +81,19 @@ impl<R: Files + AllocGlobal + Drop> FolderShelf<R> {
         R::File: FileExt,
         ensures bound { IfOk result (λ found. IfSome found (λ bytes. length bytes ≤ 1073741824)) }
     {
-        read_if_there(
-            &self.rt,
-            self.rt.alloc(),
-            self.tree_path(digest)?.as_str(),
-            MOST,
-        )
+        let path = self.tree_path(digest)?;
+        read_if_there(&self.rt, self.rt.alloc(), path.as_str(), MOST)
     }
 
     fn write_tree(&self, digest: &[u8; 32], bytes: &[u8]) -> Result<(), HostFault> {
-        make_folders(&self.rt, self.trees_path()?.as_str())?;
-        replace_file(&self.rt, self.tree_path(digest)?.as_str(), bytes)
+        self.make_trees()?;
+        let path = self.tree_path(digest)?;
+        replace_file(&self.rt, path.as_str(), bytes)
+    }
+
+    fn make_trees(&self) -> Result<(), HostFault> {
+        let path = self.trees_path()?;
+        make_folders(&self.rt, path.as_str())
     }
 
     fn counted<T>(&mut self, outcome: Result<T, HostFault>) -> Result<T, ShelfFault>
@@ -147,5 +144,24 @@ where
     fn put(&mut self, digest: &[u8; 32], bytes: &[u8]) -> Result<(), ShelfFault> {
         let written = self.write_tree(digest, bytes);
         self.counted(written)
+    }
+}
+
+fn read_or_nothing<R: Files>(rt: &R, alloc: Global, path: &str) -> Result<Bytes, HostFault>
+where
+    R::File: FileExt,
+    ensures bound { IfOk result (λ bytes. length bytes ≤ 1073741824) }
+{
+    match read_if_there(rt, alloc, path, MOST)? {
+        Some(bytes) => Ok(bytes),
+        None => Ok(Bytes::from_vec(Vec::new(alloc))),
+    }
+}
+
+fn has_file(rt: &impl Files, path: &str) -> Result<bool, HostFault> {
+    match kind_at(rt, path)? {
+        Kind::Absent => Ok(false),
+        Kind::File { .. } => Ok(true),
+        Kind::Folder | Kind::Link | Kind::Odd => Err(HostFault::Failed),
     }
 }

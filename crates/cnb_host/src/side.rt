@@ -1,31 +1,26 @@
 // Children whose descriptor 3 is kept.
 //
 // std gives a child its standard input and its two outputs alone. So a shell stands between: it has the writing end of
-// a pipe as its standard input, makes that its descriptor 3, and runs `env` in its place, which runs the program with
-// exactly the variables that it is handed (a shell itself adds some, and drops names that are no identifiers).
+// a pipe as its standard input, makes that its descriptor 3, and runs the program in its place (shell.rt).
 //
 // A program that can't be started must be told from one that ends with 126 or 127. So it is looked at before, here and
 // by the shell, which writes a byte before it runs anything. Not told apart is a program for the machine whose own
 // loader is missing.
 ghost use Rattle.std.specs.Prelude.{◌≡◌, ◌≤◌, ◌-◌, ◌++◌, ◌∷◌, [], IfOk, OnOk, OnErr, Some, codes, length, map, take, true, vec_len};
-ghost use Rattle.std.specs.List.{list_any};
 ghost use Rattle.std.specs.Process.{clears_env, command_args, command_dir, command_program};
-ghost use Rattle.cnb_host.specs.Side.{assignment, env_words, has_equals, program_words, side_words};
+ghost use Rattle.cnb_host.specs.Side.{side_words};
 
-use crate::command::add_arguments;
+use crate::command::{add_arguments, start_command};
 use crate::fault::HostFault;
 use crate::files::read_part;
-use cnb_world::{Bytes, ChildJob, End, Env, LONGEST_DOCUMENT, List, Memory, Text};
+use crate::shell::{BY_ENV, PLAIN, side_words};
+use cnb_world::{Bytes, ChildJob, End, LONGEST_DOCUMENT};
 use std::alloc::{AllocError, Global};
 use std::fs;
 use std::io::{self, ErrorKind, PipeReader, PipeWriter, Read};
 use std::os::unix::fs::{FileExt, MetadataExt};
-use std::process::{Child, Command, ExitStatus, Processes};
+use std::process::{Child, Command, ExitStatus, Processes, Stdio};
 use std::rt::Files;
-
-/// Makes standard input descriptor 3, and hands the other words to `env`. The first word is the program.
-const SCRIPT: &str =
-    "exec 3>&0 </dev/null && test -x \"$0\" && command -v env >/dev/null && command -v nice >/dev/null && printf . >&3 && exec env -i -- \"$@\"";
 
 /// Where the shell finds `env` and `nice`.
 const TOOLS: &str = "/usr/local/sbin:/usr/local/bin:/usr/sbin:/usr/bin:/sbin:/bin";
@@ -33,87 +28,40 @@ const TOOLS: &str = "/usr/local/sbin:/usr/local/bin:/usr/sbin:/usr/bin:/sbin:/bi
 /// The most that is kept: one byte more than an output may have.
 const SIDE_MAX: usize = LONGEST_DOCUMENT + 1;
 
-fn has_equals(program: &[u8]) -> bool
-    ensures { result ≡ has_equals program.now }
-{
-    program.iter().any(|byte| *byte == b'=')
-}
-
-fn assignment(alloc: Global, name: &str, value: &str) -> Result<Text, Memory>
-    ensures { IfOk result (λ text. text ≡ name.now ++ codes "=" ++ value.now) }
-{
-    let mut text = String::from_str(alloc, name)?;
-    text.push_str("=")?;
-    text.push_str(value)?;
-    Ok(Text::from_string(text))
-}
-
-fn push_text(alloc: Global, words: &mut List<Text>, text: &str) -> Result<(), Memory>
-    ensures { OnOk result (words.new ≡ words.old ++ text.now ∷ []) }
-{
-    words.push(Text::of(alloc, text)?)
-}
-
-fn push_variables(alloc: Global, words: &mut List<Text>, env: &Env) -> Result<(), Memory>
-    ensures { OnOk result (words.new ≡ words.old ++ map assignment env.now) }
-{
-    for variable in env.variables() {
-        words.push(assignment(alloc, variable.name.as_str(), variable.value.as_str())?)?;
-    }
-    Ok(())
-}
-
-// A path with `=` would be taken for a variable: it is run by `nice`, which changes nothing.
-fn push_program(alloc: Global, words: &mut List<Text>, program: &str) -> Result<(), Memory>
-    ensures { OnOk result (words.new ≡ words.old ++ program_words program.now) }
-{
-    if has_equals(program.as_bytes()) {
-        push_text(alloc, words, "nice")?;
-        push_text(alloc, words, "-n")?;
-        push_text(alloc, words, "0")?;
-    }
-    push_text(alloc, words, program)
-}
-
-fn push_args(alloc: Global, words: &mut List<Text>, args: &[Text]) -> Result<(), Memory>
-    ensures { OnOk result (words.new ≡ words.old ++ args.now) }
-{
-    for arg in args {
-        words.push(arg.copy(alloc)?)?;
-    }
-    Ok(())
-}
-
-// The words that the shell is handed.
-fn side_words(alloc: Global, job: &ChildJob) -> Result<List<Text>, Memory>
-    ensures { IfOk result (λ words. words ≡ side_words SCRIPT.now job.now) }
-{
-    let mut words = List::new(alloc);
-    push_text(alloc, &mut words, "-c")?;
-    push_text(alloc, &mut words, SCRIPT)?;
-    push_text(alloc, &mut words, job.program.as_str())?;
-    push_variables(alloc, &mut words, &job.env)?;
-    push_program(alloc, &mut words, job.program.as_str())?;
-    push_args(alloc, &mut words, job.args.as_slice())?;
-    Ok(words)
-}
-
-// The command of a job, behind a shell that makes the pipe descriptor 3. It inherits the two outputs, and the program
-// has no standard input.
-fn side_command(alloc: Global, job: &ChildJob, side: PipeWriter) -> Result<Command, HostFault>
+// The command of a job, behind a shell that makes its standard input descriptor 3. It inherits the two outputs, and the
+// program has no standard input.
+fn side_command(alloc: Global, job: &ChildJob) -> Result<Command, HostFault>
     ensures program { IfOk result (λ command. command_program command ≡ codes "/bin/sh") }
-    ensures args { IfOk result (λ command. command_args command ≡ side_words SCRIPT.now job.now) }
+    ensures args { IfOk result (λ command. command_args command ≡ side_words PLAIN.now BY_ENV.now job.now) }
     ensures dir { IfOk result (λ command. command_dir command ≡ Some job.now.dir) }
     ensures clears { IfOk result (λ command. clears_env command ≡ true) }
 {
-    let words = side_words(alloc, job)?;
     let mut command = Command::new(alloc, "/bin/sh")?;
-    add_arguments(&mut command, words.as_slice())?;
-    command.stdin(side);
+    set_shell(alloc, &mut command, job)?;
+    Ok(command)
+}
+
+fn set_shell(alloc: Global, command: &mut Command, job: &ChildJob) -> Result<(), HostFault>
+    requires { command_args command.old ≡ [] }
+    ensures program { OnOk result (command_program command.new ≡ command_program command.old) }
+    ensures args { OnOk result (command_args command.new ≡ side_words PLAIN.now BY_ENV.now job.now) }
+    ensures dir { OnOk result (command_dir command.new ≡ Some job.now.dir) }
+    ensures clears { OnOk result (clears_env command.new ≡ true) }
+{
+    add_words(alloc, command, job)?;
     command.current_dir(job.dir.as_str())?;
     command.env_clear();
     command.env("PATH", TOOLS)?;
-    Ok(command)
+    Ok(())
+}
+
+fn add_words(alloc: Global, command: &mut Command, job: &ChildJob) -> Result<(), HostFault>
+    requires { command_args command.old ≡ [] }
+    ensures args { OnOk result (command_args command.new ≡ side_words PLAIN.now BY_ENV.now job.now) }
+    ensures program { OnOk result (command_program command.new ≡ command_program command.old) }
+{
+    let words = side_words(alloc, job)?;
+    Ok(add_arguments(command, words.as_slice())?)
 }
 
 fn start<R: Files + Processes + AllocGlobal>(
@@ -121,15 +69,9 @@ fn start<R: Files + Processes + AllocGlobal>(
     job: &ChildJob,
     side: PipeWriter,
 ) -> Result<Child<R::Started>, HostFault> {
-    let mut command = side_command(rt.alloc(), job, side)?;
-    spawned(rt, &mut command)
-}
-
-fn spawned<R: Files + Processes>(
-    rt: &R,
-    command: &mut Command,
-) -> Result<Child<R::Started>, HostFault> {
-    Ok(command.spawn(rt)?)
+    let command = side_command(rt.alloc(), job)?;
+    let input = Stdio::from(side);
+    start_command(rt, &command, &input)
 }
 
 // The first words of a script name its interpreter.
@@ -152,7 +94,10 @@ where
     R::File: FileExt,
 {
     let head = read_part(rt, rt.alloc(), program, 0, HEAD)?;
-    let head = head.as_slice();
+    check_head(rt, head.as_slice())
+}
+
+fn check_head(rt: &impl Files, head: &[u8]) -> Result<(), HostFault> {
     if head.starts_with(b"\x7fELF") {
         return Ok(());
     }
@@ -183,16 +128,24 @@ fn read_side(alloc: Global, mut side: PipeReader) -> Result<Vec<u8>, HostFault>
     ensures { IfOk result (λ kept. vec_len kept ≤ 1048578) }
 {
     let mut kept = Vec::new(alloc);
+    read_all(&mut side, &mut kept)?;
+    Ok(kept)
+}
+
+fn read_all(side: &mut PipeReader, kept: &mut Vec<u8>) -> Result<(), HostFault>
+    requires { vec_len kept.old ≤ 1048578 }
+    ensures { OnOk result (vec_len kept.new ≤ 1048578) }
+{
     let mut piece = [0u8; 4096];
     for _ in 0..u64::MAX {
         match side.read(&mut piece) {
             Ok(0) => break,
-            Ok(count) => keep(&mut kept, &piece[..count])?,
+            Ok(count) => keep(kept, &piece[..count])?,
             Err(error) if error.kind() == ErrorKind::Interrupted => {}
             Err(error) => return Err(HostFault::from(error)),
         }
     }
-    Ok(kept)
+    Ok(())
 }
 
 // What is kept behind the byte that the shell writes before it runs the program.
@@ -218,10 +171,32 @@ where
 {
     check_program(rt, job.program.as_str())?;
     let (reader, writer) = io::pipe(rt)?;
-    let mut child = start(rt, job, writer)?;
-    let kept = read_side(rt.alloc(), reader);
+    let child = start(rt, job, writer)?;
+    wait_for(rt, child, reader)
+}
+
+fn wait_for<R: Processes + AllocGlobal>(
+    rt: &R,
+    mut child: Child<R::Started>,
+    side: PipeReader,
+) -> Result<End, HostFault>
+    ensures { IfOk result (λ end. length end.side ≤ 1048577) }
+{
+    let kept = read_side(rt.alloc(), side);
     let status = child.wait();
-    end_of(rt.alloc(), status?, kept?.as_slice())
+    ended(rt.alloc(), status, kept)
+}
+
+fn ended(
+    alloc: Global,
+    status: io::Result<ExitStatus>,
+    kept: Result<Vec<u8>, HostFault>,
+) -> Result<End, HostFault>
+    requires { IfOk kept (λ kept. vec_len kept ≤ 1048578) }
+    ensures { IfOk result (λ end. length end.side ≤ 1048577) }
+{
+    let status = status?;
+    end_of(alloc, status, kept?.as_slice())
 }
 
 // The end of a child, by its status and what was kept of what it wrote.

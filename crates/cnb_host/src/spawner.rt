@@ -1,29 +1,25 @@
 // Detect children as programs of the system.
-ghost use Rattle.std.specs.Prelude.{◌≡◌, ◌≤◌, ◌++◌, ◌∷◌, [], None, IfOk, Ok, OnErr, length};
+ghost use Rattle.std.specs.Prelude.{◌≡◌, ◌≤◌, ◌++◌, ◌∷◌, [], None, IfOk, OnErr, OnOk, length};
 ghost use Rattle.std.specs.Result.{result_ok};
 ghost use Rattle.cnb_world.specs.Calls.{CountsDetect};
 
-use crate::command::detect_command;
 use crate::fault::HostFault;
-use crate::plans::{PlanFolder, read_plan};
-use cnb_world::{DetectFault, DetectJob, Probed, Spawner};
-use std::fs::OpenOptions;
+use crate::prober::Prober;
+use cnb_world::{DetectFault, DetectJob, Memory, Probed, Spawner};
+use std::alloc::Global;
 use std::marker::Model;
 use std::os::unix::fs::FileExt;
-use std::process::{Command, Processes, Stdio};
+use std::process::{Processes, Stdio};
 use std::rt::Files;
 
 /// A spawner that runs each detect child as a program, waits for it, and keeps the list of those that ended. Contracts
 /// see it as that list and the count of the children that gave no answer.
-///
-/// The empty file that children have as standard input is opened for the first of them, and stays open.
 #[derive(Drop)]
 pub struct HostSpawner<R: Files + Processes + AllocGlobal + Drop> {
     rt: R,
     runs: Vec<Row>,
     faults: u64,
-    folder: PlanFolder,
-    input: Option<Stdio>,
+    prober: Prober,
 }
 
 // A child that ended.
@@ -59,8 +55,7 @@ impl<R: Files + Processes + AllocGlobal + Drop> HostSpawner<R> {
             rt,
             runs,
             faults: 0,
-            folder: PlanFolder::none(),
-            input: None,
+            prober: Prober::new(),
         }
     }
 
@@ -76,57 +71,19 @@ impl<R: Files + Processes + AllocGlobal + Drop> HostSpawner<R> {
     {
         self.runs.reserve(1)?;
         let kept = job.copy(self.rt.alloc())?;
-        let probed = self.probe(job);
-        self.keep(kept, probed)
-    }
-
-    // Makes the child's plan file, runs the child, and reads what it left there.
-    fn probe(&mut self, job: &DetectJob) -> Result<Probed, HostFault>
-    where
-        R::File: FileExt + Into<Stdio>,
-        ensures bound { IfOk result (λ probed. length probed.plan ≤ 1048577) }
-        ensures runs { self.new.runs ≡ self.old.runs }
-        ensures faults { self.new.faults ≡ self.old.faults }
-    {
-        let alloc = self.rt.alloc();
-        self.folder.make_plan(&self.rt, alloc, &job.plan)?;
-        let code = self.run_child(job)?;
-        let plan = read_plan(&self.rt, alloc, &job.plan)?;
-        Ok(Probed { code, plan })
-    }
-
-    // Adds the row of a child that ended.
-    fn keep(
-        &mut self,
-        job: DetectJob,
-        probed: Result<Probed, HostFault>,
-    ) -> Result<Probed, HostFault>
-        ensures ok { IfOk result (λ probed. self.new.runs
-            ≡ self.old.runs ++ record { job = job; probed = probed } ∷ []) }
-        ensures same { IfOk result (λ given. probed ≡ Ok given) }
-        ensures err { OnErr result (self.new.runs ≡ self.old.runs) }
-        ensures faults { self.new.faults ≡ self.old.faults }
-    {
-        let probed = probed?;
-        let kept = probed.copy(self.rt.alloc())?;
-        self.runs.push(Row { job, probed: kept })?;
+        let probed = self.prober.probe(&self.rt, job)?;
+        self.keep(kept, &probed)?;
         Ok(probed)
     }
 
-    // Runs the child and waits for it. A child that a signal ended has no code.
-    fn run_child(&mut self, job: &DetectJob) -> Result<Option<i32>, HostFault>
-    where
-        R::File: Into<Stdio>,
-        ensures runs { self.new.runs ≡ self.old.runs }
+    // Adds the row of a child that ended.
+    fn keep(&mut self, job: DetectJob, probed: &Probed) -> Result<(), HostFault>
+        ensures ok { OnOk result (self.new.runs ≡ self.old.runs ++ record { job = job; probed = probed.now } ∷ []) }
+        ensures err { OnErr result (self.new.runs ≡ self.old.runs) }
         ensures faults { self.new.faults ≡ self.old.faults }
     {
-        let input = match self.input.take() {
-            Some(input) => input,
-            None => empty_input(&self.rt)?,
-        };
-        let code = end_code(&self.rt, &input, job);
-        self.input = Some(input);
-        code
+        let row = row_of(self.rt.alloc(), job, probed)?;
+        Ok(self.runs.push(row)?)
     }
 
     fn counted(&mut self, outcome: Result<Probed, HostFault>) -> Result<Probed, DetectFault>
@@ -163,31 +120,9 @@ where
     }
 }
 
-// What a child without standard input reads.
-fn empty_input<R: Files>(rt: &R) -> Result<Stdio, HostFault>
-where
-    R::File: Into<Stdio>,
+fn row_of(alloc: Global, job: DetectJob, probed: &Probed) -> Result<Row, Memory>
+    ensures { IfOk result (λ row. row ≡ record { job = job; probed = probed.now }) }
 {
-    let mut options = OpenOptions::new();
-    options.read(true);
-    Ok(options.open(rt, "/dev/null")?.into())
-}
-
-fn end_code<R: Processes + AllocGlobal>(
-    rt: &R,
-    input: &Stdio,
-    job: &DetectJob,
-) -> Result<Option<i32>, HostFault> {
-    let command = detect_command(rt.alloc(), job)?;
-    code_of(rt, &command, input)
-}
-
-fn code_of<R: Processes>(
-    rt: &R,
-    command: &Command,
-    input: &Stdio,
-) -> Result<Option<i32>, HostFault> {
-    let output = Stdio::inherit();
-    let mut child = rt.spawn(command, input, &output, &output)?;
-    Ok(child.wait()?.code())
+    let probed = probed.copy(alloc)?;
+    Ok(Row { job, probed })
 }

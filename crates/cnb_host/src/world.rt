@@ -1,5 +1,5 @@
 // Files and children of the system as a world.
-ghost use Rattle.std.specs.Prelude.{◌≡◌, ◌≤◌, ◌++◌, ◌∷◌, [], None, false, IfOk, Ok, OnErr, length};
+ghost use Rattle.std.specs.Prelude.{◌≡◌, ◌≤◌, ◌++◌, ◌∷◌, [], None, false, IfOk, OnErr, OnOk, length};
 ghost use Rattle.std.specs.Result.{result_ok};
 ghost use Rattle.cnb_world.specs.Calls.{CountsChild, CountsFailed, LastFailed};
 ghost use Rattle.cnb_host.specs.System.{runs_of};
@@ -15,6 +15,7 @@ use crate::writer::Writer;
 use cnb_world::{
     Bytes, ChildFault, ChildJob, End, FileFault, Kind, List, Memory, Path, Text, World,
 };
+use std::alloc::Global;
 use std::marker::Model;
 use std::os::unix::fs::FileExt;
 use std::process::{Command, Processes};
@@ -134,23 +135,21 @@ impl<R: Files + Processes + AllocGlobal + Clone + Drop> HostWorld<R> {
     {
         self.runs.reserve(1)?;
         let kept = job.copy(self.rt.alloc())?;
-        let end = run_child(&self.rt, job);
-        self.keep(kept, end)
+        let end = run_child(&self.rt, job)?;
+        self.keep(kept, &end)?;
+        Ok(end)
     }
 
     // Adds the row of a child that ended.
-    fn keep(&mut self, job: ChildJob, end: Result<End, HostFault>) -> Result<End, HostFault>
-        ensures ok { IfOk result (λ end. self.new.runs ≡ self.old.runs ++ record { job = job; end = end } ∷ []) }
-        ensures same { IfOk result (λ given. end ≡ Ok given) }
+    fn keep(&mut self, job: ChildJob, end: &End) -> Result<(), HostFault>
+        ensures ok { OnOk result (self.new.runs ≡ self.old.runs ++ record { job = job; end = end.now } ∷ []) }
         ensures err { OnErr result (self.new.runs ≡ self.old.runs) }
         ensures files { self.new.file_faults ≡ self.old.file_faults }
         ensures at { self.new.failed_at ≡ self.old.failed_at }
         ensures children { self.new.child_faults ≡ self.old.child_faults }
     {
-        let end = end?;
-        let kept = end.copy(self.rt.alloc())?;
-        self.runs.push(Row { job, end: kept })?;
-        Ok(end)
+        let row = row_of(self.rt.alloc(), job, end)?;
+        Ok(self.runs.push(row)?)
     }
 }
 
@@ -242,15 +241,26 @@ where
     ensures side { job.now.side ≡ false → IfOk result (λ end. end.side ≡ []) }
 {
     if job.side {
-        return run_side(rt, job);
+        run_side(rt, job)
+    } else {
+        let code = run_alone(rt, job)?;
+        let side = Bytes::from_vec(Vec::new(rt.alloc()));
+        Ok(End { code, side })
     }
+}
+
+fn run_alone<R: Processes + AllocGlobal>(rt: &R, job: &ChildJob) -> Result<Option<i32>, HostFault> {
     let mut command = child_command(rt.alloc(), job)?;
-    Ok(End {
-        code: code_of(rt, &mut command)?,
-        side: Bytes::from_vec(Vec::new(rt.alloc())),
-    })
+    code_of(rt, &mut command)
 }
 
 fn code_of<R: Processes>(rt: &R, command: &mut Command) -> Result<Option<i32>, HostFault> {
     Ok(command.status(rt)?.code())
+}
+
+fn row_of(alloc: Global, job: ChildJob, end: &End) -> Result<Row, Memory>
+    ensures { IfOk result (λ row. row ≡ record { job = job; end = end.now }) }
+{
+    let end = end.copy(alloc)?;
+    Ok(Row { job, end })
 }
