@@ -1,5 +1,5 @@
 -- Searching shelves for bytes.
-use Rattle.std.proofs.Common.{◌≡◌, ℕ, ◌+◌, ◌-◌, ◌<◌, ◌≤◌, List, [], ◌∷◌, ◌++◌, map, length, refl, sym, ap, subst, ◌∙◌, arith, Result, Ok, Err, Option, append-nil}
+use Rattle.std.proofs.Common.{◌≡◌, ℕ, ◌+◌, ◌-◌, ◌<◌, ◌≤◌, Bool, true, false, cond, not, List, [], ◌∷◌, ◌++◌, map, length, refl, sym, ap, subst, ◌∙◌, arith, Result, Ok, Err, Option, is_some, append-nil}
 use Rattle.std.specs.Prelude.{Some, None, IfSome}
 use Rattle.std.specs.List.{AllByRecursion}
 use Rattle.std.specs.FinMap.{get}
@@ -9,9 +9,9 @@ use Rattle.cnb_world.specs.declared.shelf.ShelfFault.{ShelfFault}
 use Rattle.cnb_world.specs.declared.shelf.ShelfFault.TheVariants as shelf
 use Rattle.cnb_world.specs.declared.values.Memory.{Memory}
 use Rattle.shelf_set.specs.ShelfState.{ShelfState}
-use Rattle.shelf_set.specs.Dropping.{Turn, after_of, left_of}
+use Rattle.shelf_set.specs.Dropping.{Turn, after_of, has_failed, left_of}
 use Rattle.shelf_set.specs.Turns.{TakesTurn, is_failed}
-use Rattle.shelf_set.specs.Finding.{TellsSame, IsFirst, holds_first}
+use Rattle.shelf_set.specs.Finding.{TellsSame, IsFirst, IsUnasked, NoneBehind, holds_first, tells_of}
 use Rattle.shelf_set.specs.Searching.{Asks, Lacks, Searching, Searches}
 use Rattle.shelf_set.proofs.Lists.{map-last, onto, all_both}
 use Rattle.shelf_set.proofs.TurnLemmas.{counted, OneMore, one_more, left-kept, left-dropped, still, all_still, none_yet, finish, left_tell, ends_at}
@@ -35,6 +35,43 @@ first_some (x ∷ ss) s rest digest bytes all is = by x.held all.0 (first_some s
     by : (o : Option Held) → IfSome o (λ h. get h digest ≡ None) → IsFirst (ss ++ s ∷ rest) digest (Some bytes) → IfSome o (λ h. holds_first digest (get h digest) (IsFirst (ss ++ s ∷ rest) digest (Some bytes)) (Some bytes))
     by None l later = tt
     by (Some h) l later = subst (λ f. holds_first digest f (IsFirst (ss ++ s ∷ rest) digest (Some bytes)) (Some bytes)) (sym l) later
+
+-- ---- none is asked behind one that holds the digest
+
+-- a shelf that was dropped, or doesn't tell that it holds the digest
+abbrev IsPassed : List ℕ → Turn → Type 0
+IsPassed digest t = t.failed ≡ false → tells_of digest t.before.held ≡ true → ⊥
+
+passed : (digest : List ℕ) (turns : List Turn) → AllByRecursion TellsSame turns → AllByRecursion (Lacks digest) (map after_of (left_of turns)) → AllByRecursion (IsPassed digest) turns
+passed digest [] same lacks = tt
+passed digest (t ∷ ts) same lacks = by (has_failed t) refl (passed digest ts same.1) lacks
+  where
+    lacking : (b a : Option Held) → a ≡ b → IfSome a (λ h. get h digest ≡ None) → tells_of digest b ≡ true → ⊥
+    lacking None a e l h = cc
+    lacking (Some g) None e l h = cc
+    lacking (Some g) (Some k) e l h = let same : k ≡ g = cc in let no : false ≡ true = sym (ap is_some (sym (ap (λ x. get x digest) same) ∙ l)) ∙ h in cc
+
+    by : (v : Bool) → has_failed t ≡ v → (AllByRecursion (Lacks digest) (map after_of (left_of ts)) → AllByRecursion (IsPassed digest) ts)
+        → AllByRecursion (Lacks digest) (map after_of (cond (not v) (t ∷ left_of ts) (left_of ts))) → AllByRecursion (IsPassed digest) (t ∷ ts)
+    by true e rest l = ((λ stays tells. let no : true ≡ false = sym e ∙ stays in cc), rest l)
+    by false e rest l = ((λ stays tells. lacking t.before.held t.after.held same.0.0 l.0 tells), rest l.1)
+
+behind_passed : (digest : List ℕ) (turns rest : List Turn) → AllByRecursion (IsPassed digest) turns → NoneBehind digest rest → NoneBehind digest (turns ++ rest)
+behind_passed digest [] rest all none = none
+behind_passed digest (t ∷ ts) rest all none = ((λ stays tells. absurd (all.0 stays tells)), behind_passed digest ts rest all.1 none)
+
+unasked_still : (rest : List ShelfState) (later : List ℕ) → AllByRecursion IsUnasked (still rest later)
+unasked_still rest later = all_still IsUnasked (λ n s. (refl, refl)) rest later
+
+behind_still : (digest : List ℕ) (rest : List ShelfState) (later : List ℕ) → NoneBehind digest (still rest later)
+behind_still digest [] later = tt
+behind_still digest (s ∷ ss) [] = tt
+behind_still digest (s ∷ ss) (n ∷ ns) = ((λ stays tells. unasked_still ss ns), behind_still digest ss ns)
+
+-- the turns so far, the last one asked, and the others
+behind_last : (digest : List ℕ) (turns : List Turn) (t : Turn) (rest : List ShelfState) (later : List ℕ) → AllByRecursion (IsPassed digest) turns → NoneBehind digest ((turns ++ t ∷ []) ++ still rest later)
+behind_last digest turns t rest later all =
+    subst (NoneBehind digest) (sym (onto turns t (still rest later))) (behind_passed digest turns (t ∷ still rest later) all ((λ stays tells. unasked_still rest later), behind_still digest rest later))
 
 -- ---- the search
 
@@ -106,6 +143,7 @@ module _ (old now new : List ShelfState) (places numbers later digest : List ℕ
         drops = finish turns old new places later next _ g end.stands;
         same = all_both TellsSame turns (still g.rest g.later) (same_more (Err shelf.Memory) m) (same_still g.rest g.later);
         first = tt;
+        unasked = behind_last digest s.turns m.turn g.rest g.later (passed digest s.turns s.same s.lacks);
         fits = end.fits;
       }
 
@@ -123,6 +161,7 @@ module _ (old now new : List ShelfState) (places numbers later digest : List ℕ
         drops = finish turns old new places later next _ g end.stands;
         same = all_both TellsSame turns (still g.rest g.later) (same_more (Ok (Some bytes)) m) (same_still g.rest g.later);
         first = subst (λ l. IsFirst l digest (Some bytes)) (sym list) (first_some A m.turn.after g.rest digest bytes s.lacks told);
+        unasked = behind_last digest s.turns m.turn g.rest g.later (passed digest s.turns s.same s.lacks);
         fits = end.fits;
       }
     where
@@ -155,6 +194,7 @@ nowhere old new places numbers digest at asked s all =
       drops = finish s.turns old new places numbers at at g end.stands;
       same = all_both TellsSame s.turns (still g.rest g.later) s.same (same_still g.rest g.later);
       first = subst (λ l. IsFirst l digest None) (sym (left_tell s.turns g.rest g.later g.paired ∙ no_rest g.rest (g.paired ∙ none))) (first_none (map after_of (left_of s.turns)) digest s.lacks);
+      unasked = behind_passed digest s.turns (still g.rest g.later) (passed digest s.turns s.same s.lacks) (behind_still digest g.rest g.later);
       fits = end.fits;
     }
   where

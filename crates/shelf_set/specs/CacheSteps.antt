@@ -2,7 +2,7 @@
 use Rattle.std.specs.Prelude.{ℕ, ◌≡◌, List, Result, Ok, Err}
 use Rattle.steps.specs.Causes.{Cause, OutOfMemory}
 use Rattle.shelf_set.specs.Caches.{Caches}
-use Rattle.shelf_set.specs.Finding.{Finds, LeavesSame}
+use Rattle.shelf_set.specs.Finding.{Finds, LeavesSame, LeavesSearched}
 use Rattle.shelf_set.specs.Gathering.{Gathers}
 use Rattle.shelf_set.specs.declared.finding.Search.{Search}
 use Rattle.shelf_set.specs.declared.gathering.Gathered.{Gathered}
@@ -15,4 +15,4 @@ gathers cause_of old (Err fault) new = (cause_of fault ≡ OutOfMemory) × Leave
 -- the tree of a digest is searched
 unfoldable pub finds : {E : Type 0} → (E → Cause) → List ℕ → Caches → Result Search E → Caches → Type 0
 finds cause_of digest old (Ok search) new = Finds old.shelves old.standing digest search.found new.shelves new.standing search.gone
-finds cause_of digest old (Err fault) new = (cause_of fault ≡ OutOfMemory) × LeavesSame old.shelves old.standing new.shelves new.standing
+finds cause_of digest old (Err fault) new = (cause_of fault ≡ OutOfMemory) × LeavesSearched old.shelves old.standing digest new.shelves new.standing

@@ -8,7 +8,7 @@ use Rattle.cnb_world.specs.declared.values.Memory.{Memory}
 use Rattle.shelf_set.specs.ShelfState.{ShelfState}
 use Rattle.shelf_set.specs.Dropping.{Turn, after_of, left_of, Drops}
 use Rattle.shelf_set.specs.Turns.{Goes}
-use Rattle.shelf_set.specs.Finding.{TellsSame, IsFirst}
+use Rattle.shelf_set.specs.Finding.{TellsSame, IsFirst, NoneBehind}
 
 -- what one shelf answers, and how it is before and after
 pub record Asks (digest : List ℕ) (result : Result (Option (List ℕ)) ShelfFault) (before after : ShelfState) : Type 0 where
@@ -35,4 +35,5 @@ pub record Searches (old : List ShelfState) (places : List ℕ) (digest : List �
   pub drops : Drops turns old new places (take standing numbers) (drop standing numbers)
   pub same : AllByRecursion TellsSame turns
   pub first : IfOk found (IsFirst (map after_of (left_of turns)) digest)
+  pub unasked : NoneBehind digest turns
   pub fits : standing ≤ length numbers

@@ -2,7 +2,7 @@
 ghost use Rattle.std.specs.Prelude.{IfOk, OnErr, map};
 ghost use Rattle.shelf_set.specs.ShelfState.{state_of};
 ghost use Rattle.shelf_set.specs.Dropping.{AreStanding};
-ghost use Rattle.shelf_set.specs.Finding.{IsFound, Finds, LeavesSame};
+ghost use Rattle.shelf_set.specs.Finding.{IsFound, Finds, LeavesSearched};
 
 use crate::searching::{Searched, search};
 use crate::turns::{Shelves, part};
@@ -44,7 +44,8 @@ fn answer(alloc: Global, digest: &Digest, held: Option<Bytes>) -> Result<Found, 
 }
 
 /// Searches the shelves that stand, in order, for the tree of a digest. `places` has their numbers, and the first
-/// shelves of the list, as many, are these. Each is asked at most once, and none behind one that holds the digest.
+/// shelves of the list, as many, are these. Each is asked at most once, and none behind one that holds the digest:
+/// those are the very same afterwards, and none of them is dropped.
 #[tactic(auto, using(crate::proofs::FindLemmas::finds, crate::proofs::FindLemmas::leaves))]
 pub fn find(
     alloc: Global,
@@ -57,8 +58,8 @@ pub fn find(
         (map (λ s. state_of (held s) (rows s) (faults s)) shelves.old.items) places.old
         digest.now search.found
         (map (λ s. state_of (held s) (rows s) (faults s)) shelves.new.items) places.new search.gone) }
-    ensures memory { OnErr result (LeavesSame
-        (map (λ s. state_of (held s) (rows s) (faults s)) shelves.old.items) places.old
+    ensures memory { OnErr result (LeavesSearched
+        (map (λ s. state_of (held s) (rows s) (faults s)) shelves.old.items) places.old digest.now
         (map (λ s. state_of (held s) (rows s) (faults s)) shelves.new.items) places.new) }
     ensures again { AreStanding places.new (map (λ s. state_of (held s) (rows s) (faults s)) shelves.new.items) }
 {
