@@ -14,6 +14,7 @@ pub mod Fit
 pub mod Fitting
 pub mod Kept
 pub mod Laid
+pub mod Matching
 pub mod Overlays
 pub mod Partly
 pub mod PartlyLaid

@@ -65,7 +65,7 @@ pub record IsAway (given : List Given) (q : List ℕ) : Type 0 where
   pub none : given_at given q ≡ None
   pub stays : is_replaced given q ≡ false
 
-given-append : (xs ys : List Given) (q : List ℕ) → given_at (xs ++ ys) q ≡ option_or (given_at xs q) (given_at ys q)
+pub given-append : (xs ys : List Given) (q : List ℕ) → given_at (xs ++ ys) q ≡ option_or (given_at xs q) (given_at ys q)
 given-append [] ys q = refl
 given-append (x ∷ xs) ys q = ap (λ o. cond (bytes_eq q x.0) (Some x.1) o) (given-append xs ys q) ∙ by (bytes_eq q x.0)
   where

@@ -14,7 +14,7 @@ use Rattle.std.proofs.lemmas.List.Folds.{list_any-append}
 use Rattle.cnb_world.proofs.Parents.{has_slash}
 use Rattle.tree_canon.specs.Names.{is_dots, is_name, is_plain, is_text}
 
-joined_front : (folder name : List ℕ) → joined folder name ≡ joined folder [] ++ name
+pub joined_front : (folder name : List ℕ) → joined folder name ≡ joined folder [] ++ name
 joined_front folder name = ap (λ f. f ++ name) (sym (append-nil (cond (bytes_eq folder (47 ∷ [])) folder (folder ++ 47 ∷ []))))
 
 -- at a path or below it
@@ -114,7 +114,7 @@ below_child path n q h =
     (ap (starts_with nat_eq q) more.1 ∙ below_front path q more.0 p.1)
 
 -- the front of a folder, whether it is `/` or not
-slash_front : (path q : List ℕ) → starts_with nat_eq q (path ++ 47 ∷ []) ≡ true → starts_with nat_eq q (joined path []) ≡ true
+pub slash_front : (path q : List ℕ) → starts_with nat_eq q (path ++ 47 ∷ []) ≡ true → starts_with nat_eq q (joined path []) ≡ true
 slash_front path q h = by (bytes_eq path (47 ∷ []))
   where
     by : (v : Bool) → starts_with nat_eq q ((cond v path (path ++ 47 ∷ [])) ++ []) ≡ true
@@ -186,7 +186,7 @@ made_length path f h = by (list_any (bytes_eq f) (folders_above path)) refl (byt
 
 -- ---- the name of what is below a folder
 
-abbrev until_slash : List ℕ → List ℕ
+abbrev pub until_slash : List ℕ → List ℕ
 until_slash [] = []
 until_slash (c ∷ cs) = cond (c == 47) [] (c ∷ until_slash cs)
 

@@ -40,21 +40,21 @@ parent_below (c ∷ r) s some = by (list_any (λ b. b == 47) s) (front_split (c 
 below_is : (r q : List ℕ) → starts_with nat_eq q (r ++ 47 ∷ []) ≡ true → q ≡ r ++ 47 ∷ drop (length (r ++ 47 ∷ [])) q
 below_is r q h = starts_split q (r ++ 47 ∷ []) h ∙ append_assoc r (47 ∷ []) (drop (length (r ++ 47 ∷ [])) q)
 
-abbrev InFolders : Tree → Type 0
+abbrev pub InFolders : Tree → Type 0
 InFolders files = (path : List ℕ) → IsTrue (is_some (get files path)) → StandsRight files path
 
-no_folder : (o : Option Item) → is_other o ≡ true → is_folder o ≡ true → ⊥
-no_folder None a b = cc
-no_folder (Some item.Folder) a b = cc
-no_folder (Some (item.File exec bytes)) a b = cc
-no_folder (Some (item.Link target)) a b = cc
-no_folder (Some item.Odd) a b = cc
+other_plain : (o : Option Item) → is_other o ≡ true → is_folder o ≡ false
+other_plain None h = absurd (cc)
+other_plain (Some item.Folder) h = absurd (cc)
+other_plain (Some (item.File exec bytes)) h = refl
+other_plain (Some (item.Link target)) h = refl
+other_plain (Some item.Odd) h = refl
 
 other_some : (o : Option Item) → is_other o ≡ true → IsTrue (is_some o)
 other_some None h = absurd (cc)
 other_some (Some x) h = refl
 
-filled : (r : List ℕ) → IsTrue (is_path r) → bytes_eq r [] ≡ false
+pub filled : (r : List ℕ) → IsTrue (is_path r) → bytes_eq r [] ≡ false
 filled [] h = absurd (cc)
 filled (c ∷ r) h = refl
 
@@ -62,23 +62,18 @@ nonempty : (r : List ℕ) → bytes_eq r [] ≡ false → 0 < length r
 nonempty [] h = absurd (cc)
 nonempty (c ∷ r) h = omega arith
 
-standing_from : (files : Tree) → InFolders files → IsStanding files
-standing_from files all = record { clean = λ r q other below. go r other (length q) q (omega arith) below }
+-- Below a path where no folder stands is nothing.
+pub nothing_below : (files : Tree) → InFolders files → (r : List ℕ) → bytes_eq r [] ≡ false → is_folder (item_at files r) ≡ false → (q : List ℕ) → starts_with nat_eq q (r ++ 47 ∷ []) ≡ true → get files q ≡ None
+nothing_below files all r some_r other q below = go (length q) q (omega arith) below
   where
-    at_r : (r : List ℕ) → is_other (get files r) ≡ true → is_folder (item_at files r) ≡ true → ⊥
-    at_r r other h = no_folder (get files r) other (sym (ap (λ v. is_folder (cond v (Some item.Folder) (get files r))) (all r (other_some (get files r) other)).1.0) ∙ h)
-
     plain : (r p : List ℕ) → starts_with nat_eq p (r ++ 47 ∷ []) ≡ true → bytes_eq r [] ≡ false → is_root p ≡ false
     plain [] p h some = absurd (cc)
     plain (c ∷ r) p h some = not_longer p (47 ∷ []) (let long : length (c ∷ r) + 1 ≤ length p = below_length p (c ∷ r) h in omega arith)
 
-    go : (r : List ℕ) → is_other (get files r) ≡ true → (n : ℕ) (q : List ℕ) → length q ≤ n → starts_with nat_eq q (r ++ 47 ∷ []) ≡ true → get files q ≡ None
-    go r other zero q short below = absurd (let long : length r + 1 ≤ length q = below_length q r below in omega arith)
-    go r other (suc n) q short below = by (get files q) refl (go r other n)
+    go : (n : ℕ) (q : List ℕ) → length q ≤ n → starts_with nat_eq q (r ++ 47 ∷ []) ≡ true → get files q ≡ None
+    go zero q short below = absurd (let long : length r + 1 ≤ length q = below_length q r below in omega arith)
+    go (suc n) q short below = by (get files q) refl (go n)
       where
-        some_r : bytes_eq r [] ≡ false
-        some_r = filled r (all r (other_some (get files r) other)).0
-
         by : (found : Option Item) → get files q ≡ found → ((p : List ℕ) → length p ≤ n → starts_with nat_eq p (r ++ 47 ∷ []) ≡ true → get files p ≡ None) → found ≡ None
         by None e shorter = refl
         by (Some x) e shorter = absurd (cases (parent_below r (drop (length (r ++ 47 ∷ [])) q) some_r))
@@ -93,11 +88,20 @@ standing_from files all = record { clean = λ r q other below. go r other (lengt
             less = let lt : length (parent_of q) < length q = parent_shorter q (let long : length r + 1 ≤ length q = below_length q r below in let more : 0 < length r = nonempty r some_r in omega arith) in omega arith
 
             cases : (parent_of (r ++ 47 ∷ drop (length (r ++ 47 ∷ [])) q) ≡ r) ⊎ (starts_with nat_eq (parent_of (r ++ 47 ∷ drop (length (r ++ 47 ∷ [])) q)) (r ++ 47 ∷ []) ≡ true) → ⊥
-            cases (inl is) = at_r r other (ap (λ p. is_folder (item_at files p)) (sym (parent ∙ is)) ∙ folder)
+            cases (inl is) = let no : false ≡ true = sym other ∙ ap (λ p. is_folder (item_at files p)) (sym (parent ∙ is)) ∙ folder in cc
             cases (inr is) =
                 let under : starts_with nat_eq (parent_of q) (r ++ 47 ∷ []) ≡ true = ap (λ p. starts_with nat_eq p (r ++ 47 ∷ [])) parent ∙ is in
                 let gone : get files (parent_of q) ≡ None = shorter (parent_of q) less under in
                 let no : false ≡ true = sym (ap (λ v. is_folder (cond v (Some item.Folder) (get files (parent_of q)))) (plain r (parent_of q) under some_r) ∙ ap is_folder gone) ∙ folder in cc
+
+standing_from : (files : Tree) → InFolders files → IsStanding files
+standing_from files all = record { clean = λ r q other below. nothing_below files all r (filled r (right r other).0) (no_folder r other) q below }
+  where
+    right : (r : List ℕ) → is_other (get files r) ≡ true → StandsRight files r
+    right r other = all r (other_some (get files r) other)
+
+    no_folder : (r : List ℕ) → is_other (get files r) ≡ true → is_folder (item_at files r) ≡ false
+    no_folder r other = ap (λ v. is_folder (cond v (Some item.Folder) (get files r))) (right r other).1.0 ∙ other_plain (get files r) other
 
 pub tree_stands : (o : Option Tree) → IfSome o IsTree → IfSome o IsStanding
 tree_stands None is = tt

@@ -6,6 +6,7 @@ pub mod Comparing
 pub mod Digests
 pub mod Judging
 pub mod Laying
+pub mod Matching
 pub mod Overlay
 pub mod Partly
 pub mod Reading

@@ -7,6 +7,7 @@ mod fault;
 mod folders;
 mod judging;
 mod kept_bytes;
+mod laws;
 mod laying;
 mod laying_kept;
 mod naming;
@@ -17,6 +18,7 @@ mod writing;
 
 pub use fault::StoreFault;
 pub use folders::{check_tree, lay_stored, put_folder};
+pub use laws::read_trees_match;
 pub use laying::write_tree;
 pub use reading::read_tree;
 pub use store::{get, has, put};

@@ -14,6 +14,7 @@ ghost use Rattle.steps.specs.Causes.{CountsFiles, IsAnswer};
 ghost use Rattle.steps.specs.Outside.{seen};
 ghost use Rattle.steps.specs.Reading.{ReadFrame};
 ghost use Rattle.tree_store.specs.Answers.{BlamesAt, BlamesWithin, is_free, cause_of};
+ghost use Rattle.tree_store.specs.Matching.{Matches};
 ghost use Rattle.tree_store.specs.Steps.{reads_tree};
 ghost use Rattle.tree_store.specs.Reading.{room, link_of, node_at, node_of, in_order, tree_in, FitsFrom};
 
@@ -386,6 +387,7 @@ fn tree_at<W: World>(alloc: Global, world: &mut W, path: &Path) -> Result<Tree, 
 pub fn read_tree<W: World>(alloc: Global, world: &mut W, path: &Path) -> Result<Tree, StoreFault>
     requires { length path.now ≤ 8192 }
     ensures steps { reads_tree path.now (seen W.World world.old) result (seen W.World world.new) }
+    ensures paths { IfSome (W.tree world.old) (λ files. IfOk result (λ tree. Matches path.now tree files)) }
     ensures blames { IfErr result (BlamesWithin path.now) }
 {
     tree_at(alloc, world, path)
