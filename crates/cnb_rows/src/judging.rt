@@ -5,7 +5,8 @@ use scenarios::{Came, Chain, Comparison, Fault, Fields, Outage, Standing, path_o
 use std::alloc::Global;
 use std::thread::Threads;
 
-/// What differs in the run of a row from what it wants and, where every call is to fail in turn, in those runs.
+/// What differs in the run of a row from what it wants and, where every call is to fail in turn or a file is to be cut
+/// at each place, in those runs.
 pub(crate) fn judge<R: Threads + Sync>(
     rt: &R,
     chain: &Chain,
@@ -18,7 +19,17 @@ pub(crate) fn judge<R: Threads + Sync>(
     if every_call && comparison.text.is_empty() {
         fail_each(rt, &mut comparison, &whole, &came)?;
     }
+    cut_each(rt, &mut comparison)?;
     Ok(comparison.text)
+}
+
+// Each beginning of the file that the row wants cut.
+fn cut_each<R: Threads + Sync>(rt: &R, comparison: &mut Comparison) -> Result<(), Fault> {
+    for length in 0..comparison.chain.cuts()? {
+        let mut came = run(rt, comparison.chain, Outage::Cut(length))?;
+        comparison.judge_damaged(&mut came, length)?;
+    }
+    Ok(())
 }
 
 // Each call of the outside, in turn.

@@ -3,19 +3,25 @@ use crate::chain::Chain;
 use crate::fault::Fault;
 use crate::outage::{Outage, with};
 use crate::sink::PieceSink;
-use cnb_world::{List, MemSpawner, MemWorld};
+use cnb_world::{List, MemSpawner, MemWorld, Placed};
 
 impl Chain<'_> {
     /// The files before the run, with these calls failing.
     pub(crate) fn world(&self, failing: List<u64>) -> Result<MemWorld, Fault> {
-        let items = self.items()?;
-        let plays = self.plays()?;
-        Ok(MemWorld::new(self.alloc, items, plays, failing)?)
+        self.world_of(self.items()?, failing)
+    }
+
+    fn world_of(&self, items: List<Placed>, failing: List<u64>) -> Result<MemWorld, Fault> {
+        Ok(MemWorld::new(self.alloc, items, self.plays()?, failing)?)
     }
 
     /// The files before the run.
     pub fn failing_world(&self, outage: Outage) -> Result<MemWorld, Fault> {
-        self.world(with(self.failing("world")?, outage.of_world())?)
+        let mut items = self.items()?;
+        if let Outage::Cut(length) = outage {
+            self.push_cut(&mut items, length)?;
+        }
+        self.world_of(items, with(self.failing("world")?, outage.of_world())?)
     }
 
     /// The children that are asked.

@@ -52,6 +52,7 @@ const SCENARIO: Form = Form {
         ("spawners", BYTE),
         ("failing", Shape::Form(&FAILING)),
         ("every-call", Shape::Flag),
+        ("every-prefix", Shape::Text),
         ("over-liars", Shape::Text),
         ("want", Shape::Form(&WANT)),
     ],

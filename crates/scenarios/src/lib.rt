@@ -8,6 +8,7 @@ mod chain;
 mod compared_caches;
 mod compared_files;
 mod comparison;
+mod cut;
 mod failed;
 mod fault;
 mod folder;

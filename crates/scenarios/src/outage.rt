@@ -3,7 +3,7 @@ use crate::fault::Fault;
 use cnb_world::List;
 
 /// A call that fails besides those that the row names, by its number from 0; of a cache by the cache's number before
-/// it.
+/// it. Or how many of the bytes of a file are there, of the one that the row names as cut.
 #[derive(Clone, Copy, PartialEq, Eq)]
 pub enum Outage {
     Nothing,
@@ -11,6 +11,7 @@ pub enum Outage {
     Spawner(u64),
     Sink(u64),
     Shelf(usize, u64),
+    Cut(usize),
 }
 
 impl Outage {

@@ -4,6 +4,7 @@ use crate::reading::{path_of, text_or_none};
 use crate::shared::Shared;
 use crate::words::{damage_words, digest_words, path_words, tree_words, yes_or_no};
 use crate::worlds::tree_of;
+use cnb_world::{FileFault, Path, World};
 use row_files::Row;
 use std::alloc::Global;
 use tree_canon::{Digest, Tree, encode};
@@ -121,9 +122,41 @@ fn laid_below(
     told_done(alloc, answer)
 }
 
+fn rewrite(world: &mut Shared, path: &Path, bytes: &[u8]) -> Result<(), FileFault> {
+    world.create(path, false)?;
+    world.append(path, bytes)
+}
+
+// A call over each proper prefix of the tree's file: how many are damaged, or what the first comes to that isn't.
+fn over_prefixes(
+    alloc: Global,
+    world: &mut Shared,
+    tree: &Tree,
+    call: &str,
+) -> Result<String, Fault> {
+    let whole = encode(alloc, tree)?;
+    let whole = whole.as_slice();
+    let asked = Digest::of(whole);
+    let path = format!(in alloc; "/s/trees/{}", asked.text(alloc)?.as_str())?;
+    let path = path_of(alloc, path.as_str())?;
+    for length in 0..whole.len() {
+        let part = &whole[..length];
+        if rewrite(world, &path, part).is_err() {
+            return Err(Fault::wrong(alloc, "no such file:", path.as_str()));
+        }
+        let answer = stored(alloc, world, tree, call)?;
+        let wanted = damage_words(alloc, &asked, &Digest::of(part), None)?;
+        if answer.as_str() != wanted.as_str() {
+            return Ok(format!(in alloc; "of {length} bytes {answer}")?);
+        }
+    }
+    Ok(format!(in alloc; "damaged, {} of them", whole.len())?)
+}
+
 fn called(alloc: Global, world: &mut Shared, tree: &Tree, line: &str) -> Result<String, Fault> {
     match line.split_once(' ') {
         Some(("lay_below", words)) => laid_below(alloc, world, tree, words),
+        Some(("prefixes", call)) => over_prefixes(alloc, world, tree, call),
         Some((call, path)) => at_path(alloc, world, tree, call, path),
         None => stored(alloc, world, tree, line),
     }
