@@ -16,6 +16,7 @@ mod plans;
 mod prober;
 mod process;
 mod remove;
+mod rows;
 mod shelf;
 mod shell;
 mod side;

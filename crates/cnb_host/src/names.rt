@@ -43,7 +43,8 @@ fn push_names<R: Files + AllocGlobal + Clone + Drop>(
     names: &mut Vec<String>,
 ) -> Result<(), HostFault> {
     for entry in fs::read_dir(rt, path)? {
-        push_text(rt.alloc(), entry?.file_name(), names)?;
+        let entry = entry?;
+        push_text(rt.alloc(), entry.file_name(), names)?;
     }
     Ok(())
 }

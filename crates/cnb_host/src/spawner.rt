@@ -5,6 +5,7 @@ ghost use Rattle.cnb_world.specs.Calls.{CountsDetect};
 
 use crate::fault::HostFault;
 use crate::prober::Prober;
+use crate::rows::{once_kept, with_end};
 use cnb_world::{DetectFault, DetectJob, Memory, Probed, Spawner};
 use std::alloc::Global;
 use std::marker::Model;
@@ -71,9 +72,10 @@ impl<R: Files + Processes + AllocGlobal + Drop> HostSpawner<R> {
     {
         self.runs.reserve(1)?;
         let kept = job.copy(self.rt.alloc())?;
-        let probed = self.prober.probe(&self.rt, job)?;
-        self.keep(kept, &probed)?;
-        Ok(probed)
+        let probed = self.prober.probe(&self.rt, job);
+        let (kept, probed) = with_end(kept, probed)?;
+        let done = self.keep(kept, &probed);
+        once_kept(done, probed)
     }
 
     // Adds the row of a child that ended.

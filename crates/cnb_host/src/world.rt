@@ -10,6 +10,7 @@ use crate::files::link_target;
 use crate::locks::LockFolder;
 use crate::looked::LookedAt;
 use crate::names::names_in;
+use crate::rows::{once_kept, with_end};
 use crate::side::run_side;
 use crate::writer::Writer;
 use cnb_world::{
@@ -135,9 +136,10 @@ impl<R: Files + Processes + AllocGlobal + Clone + Drop> HostWorld<R> {
     {
         self.runs.reserve(1)?;
         let kept = job.copy(self.rt.alloc())?;
-        let end = run_child(&self.rt, job)?;
-        self.keep(kept, &end)?;
-        Ok(end)
+        let end = run_child(&self.rt, job);
+        let (kept, end) = with_end(kept, end)?;
+        let done = self.keep(kept, &end);
+        once_kept(done, end)
     }
 
     // Adds the row of a child that ended.
