@@ -4,12 +4,15 @@
 //! tests is a few calls that put an answer into words, and files of rows beside it in data/.
 #![tactic(auto)]
 
+mod answer;
 mod fault;
 mod fields;
 mod form;
+mod reading;
 mod row;
 mod running;
 
+pub use answer::Answer;
 pub use fault::RowFault;
 pub use fields::{Fields, text_of};
 pub use form::{Form, Shape, read_file};

@@ -4,6 +4,7 @@ use crate::fields::{Fields, text_of};
 use crate::form::{Form, Shape};
 use std::alloc::{AllocError, Global};
 use std::collections::BTreeMap;
+use toml::{Table, Value};
 
 /// The form of a file of rows.
 pub(crate) const FILE: Form = Form {
@@ -47,7 +48,14 @@ impl Row {
         self.name.push_str(fields.text_or_empty("name"))?;
         self.call.push_str(fields.text_or_empty("call"))?;
         self.want.push_str(fields.text_or_empty("want"))?;
-        for (name, value) in &fields.members(alloc, "given")? {
+        match fields.value.get("given") {
+            Some(Value::Table(given)) => self.give_all(alloc, given),
+            _ => Ok(()),
+        }
+    }
+
+    fn give_all(&mut self, alloc: Global, given: &Table) -> Result<(), AllocError> {
+        for (name, value) in given {
             self.give(alloc, name, text_of(value))?;
         }
         Ok(())
@@ -57,6 +65,14 @@ impl Row {
         let name = String::from_str(alloc, name)?;
         self.given.insert(name, String::from_str(alloc, text)?)?;
         Ok(())
+    }
+
+    /// What is given under a name, or the empty text.
+    pub fn text_or_empty(&self, name: &str) -> &str {
+        match self.given.get(name) {
+            Some(text) => text.as_str(),
+            None => "",
+        }
     }
 
     /// What is given under a name.

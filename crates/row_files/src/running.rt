@@ -3,6 +3,7 @@ use crate::fault::RowFault;
 use crate::fields::Fields;
 use crate::form::read_file;
 use crate::row::{FILE, Row};
+use std::alloc::{AllocError, Global};
 use std::fs;
 use std::process::ExitCode;
 use toml::Value;
@@ -54,24 +55,21 @@ fn run_row<F: Fn(&HostRuntime, &Row) -> Result<String, RowFault>>(
     requires { F.IsAlwaysCallable answer.now }
 {
     let row = Row::of(rt.alloc(), fields)?;
-    tell(rt, &row, &answer(rt, &row))
+    let line = line_of(rt.alloc(), &row, &answer(rt, &row))?;
+    println!(rt; "{line}")?;
+    Ok(line.starts_with("ok "))
 }
 
-// Prints the line of a row, and tells whether the row is as wanted.
-fn tell(rt: &HostRuntime, row: &Row, found: &Result<String, RowFault>) -> Result<bool, RowFault> {
+// The line of a row, which begins with `ok` where the row is as wanted.
+fn line_of(
+    alloc: Global,
+    row: &Row,
+    found: &Result<String, RowFault>,
+) -> Result<String, AllocError> {
     let (name, want) = (&row.name, &row.want);
     match found {
-        Ok(found) if found.as_str() == want.as_str() => {
-            println!(rt; "ok {name}")?;
-            Ok(true)
-        }
-        Ok(found) => {
-            println!(rt; "differs {name}: `{found}` for `{want}`")?;
-            Ok(false)
-        }
-        Err(fault) => {
-            println!(rt; "wrong {name}: {fault}")?;
-            Ok(false)
-        }
+        Ok(found) if found.as_str() == want.as_str() => format!(in alloc; "ok {name}"),
+        Ok(found) => format!(in alloc; "differs {name}: `{found}` for `{want}`"),
+        Err(fault) => format!(in alloc; "wrong {name}: {fault}"),
     }
 }
