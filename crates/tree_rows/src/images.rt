@@ -1,63 +1,83 @@
 // Calls of image_files: the documents of images and run images in the store at `/s`.
-use crate::fault::Fault;
-use crate::reading::path_of;
-use crate::words::{path_words, text_of};
+ghost use Rattle.std.specs.Prelude.{◌≤◌, length};
+
+use crate::reading::cut;
+use crate::words::put_bytes;
 use crate::worlds::world_of;
 use cnb_toml::ImageName;
-use cnb_world::{List, MemWorld};
+use cnb_world::{Bytes, List, MemWorld, Memory, Path};
 use doc_files::write_document;
 use image_docs::{ImageDoc, RunDoc, write_image, write_run};
 use image_files::{
     ImageFault, base_of, find_document, image_env, image_path, push_run_rows, read_image,
     read_run_image, run_path, save_image, save_run_image,
 };
-use row_files::Row;
+use row_files::{Answer, Row};
 use std::alloc::Global;
 use tree_canon::Digest;
 
-fn fault_words(alloc: Global, fault: &ImageFault) -> Result<String, Fault> {
+fn put_fault(answer: &mut Answer, fault: &ImageFault) {
     match fault {
-        ImageFault::NoImage(name) => Ok(format!(in alloc; "NoImage {}", name.as_str())?),
+        ImageFault::NoImage(name) => answer.put_all(&["NoImage ", name.as_str()]),
         ImageFault::Document(path, fault) => {
-            Ok(format!(in alloc; "Document {}: {fault}", path.as_str())?)
+            answer.put_all(&["Document ", path.as_str(), ": "]);
+            answer.show(fault);
         }
-        ImageFault::Limit(kind) => Ok(format!(in alloc; "Limit {kind:?}")?),
-        ImageFault::File(path) => path_words(alloc, "File", path),
-        ImageFault::Memory => Err(Fault::Memory),
+        ImageFault::Limit(kind) => {
+            answer.put("Limit ");
+            answer.debug(kind);
+        }
+        ImageFault::File(path) => answer.put_all(&["File ", path.as_str()]),
+        ImageFault::Memory => answer.run_out(),
     }
 }
 
-fn told_image(alloc: Global, answer: Result<ImageDoc, ImageFault>) -> Result<String, Fault> {
-    match answer {
-        Ok(image) => told_text(alloc, write_image(alloc, &image)?.as_slice()),
-        Err(fault) => fault_words(alloc, &fault),
+fn put_image(answer: &mut Answer, image: &Result<ImageDoc, ImageFault>) {
+    match image {
+        Ok(image) => put_document(answer, &write_image(answer.alloc, image)),
+        Err(fault) => put_fault(answer, fault),
     }
 }
 
-fn told_run_image(alloc: Global, answer: Result<RunDoc, ImageFault>) -> Result<String, Fault> {
-    match answer {
-        Ok(image) => told_text(alloc, write_run(alloc, &image)?.as_slice()),
-        Err(fault) => fault_words(alloc, &fault),
+fn put_run_image(answer: &mut Answer, image: &Result<RunDoc, ImageFault>) {
+    match image {
+        Ok(image) => put_document(answer, &write_run(answer.alloc, image)),
+        Err(fault) => put_fault(answer, fault),
     }
 }
 
-fn told_text(alloc: Global, bytes: &[u8]) -> Result<String, Fault> {
-    let text = text_of(alloc, bytes)?;
-    let text = text.as_str();
-    Ok(format!(in alloc; "a document\n{}", text.strip_suffix("\n").unwrap_or(text))?)
-}
-
-fn told_done(alloc: Global, answer: Result<(), ImageFault>) -> Result<String, Fault> {
-    match answer {
-        Ok(()) => Ok(String::from_str(alloc, "done")?),
-        Err(fault) => fault_words(alloc, &fault),
+fn put_document(answer: &mut Answer, written: &Result<Bytes, Memory>) {
+    match written {
+        Ok(bytes) => {
+            let bytes = bytes.as_slice();
+            answer.put("a document\n");
+            put_bytes(answer, bytes.strip_suffix(b"\n").unwrap_or(bytes));
+        }
+        Err(Memory) => answer.run_out(),
     }
 }
 
-fn name_of(alloc: Global, text: &str) -> Result<ImageName, Fault> {
-    match ImageName::parse(alloc, text) {
-        Ok(name) => Ok(name),
-        Err(_) => Err(Fault::wrong(alloc, "no image's name:", text)),
+fn put_done(answer: &mut Answer, done: &Result<(), ImageFault>) {
+    match done {
+        Ok(()) => answer.put("done"),
+        Err(fault) => put_fault(answer, fault),
+    }
+}
+
+fn put_path(answer: &mut Answer, path: &Result<Path, Memory>) {
+    match path {
+        Ok(path) => answer.put_all(&["at ", path.as_str()]),
+        Err(Memory) => answer.run_out(),
+    }
+}
+
+fn name_of(answer: &mut Answer, text: &str) -> Option<ImageName> {
+    match ImageName::parse(answer.alloc, text) {
+        Ok(name) => Some(name),
+        Err(_) => {
+            answer.wrong("no image's name:", text);
+            None
+        }
     }
 }
 
@@ -65,140 +85,163 @@ fn name_of(alloc: Global, text: &str) -> Result<ImageName, Fault> {
 fn save_as(
     alloc: Global,
     world: &mut MemWorld,
+    store: &Path,
     name: &ImageName,
     other: &ImageName,
-) -> Result<String, Fault> {
-    let store = path_of(alloc, "/s")?;
-    match read_image(alloc, world, &store, name) {
-        Ok(image) => told_done(alloc, save_image(alloc, world, &store, other, &image)),
-        Err(fault) => fault_words(alloc, &fault),
-    }
+) -> Result<(), ImageFault>
+    requires { length store.now ≤ 4096 }
+{
+    let image = read_image(alloc, world, store, name)?;
+    save_image(alloc, world, store, other, &image)
 }
 
 // Saves the run image of a name under another one.
 fn save_run_as(
     alloc: Global,
     world: &mut MemWorld,
+    store: &Path,
     name: &ImageName,
     other: &ImageName,
-) -> Result<String, Fault> {
-    let store = path_of(alloc, "/s")?;
-    match read_run_image(alloc, world, &store, name) {
-        Ok(image) => told_done(alloc, save_run_image(alloc, world, &store, other, &image)),
-        Err(fault) => fault_words(alloc, &fault),
+) -> Result<(), ImageFault>
+    requires { length store.now ≤ 4096 }
+{
+    let image = read_run_image(alloc, world, store, name)?;
+    save_run_image(alloc, world, store, other, &image)
+}
+
+// Adds what an image notes of a run image, with the digest of no bytes where that has no rows.
+fn put_base(answer: &mut Answer, name: &ImageName, run: &RunDoc) {
+    if let Some(base) = answer.made(base_of(answer.alloc, name, run, Digest::of(b""))) {
+        let (name, os, arch) = (base.name.as_str(), base.os.as_str(), base.arch.as_str());
+        answer.put_all(&[name, " ", os, "/", arch, " "]);
+        answer.put_made(base.top.text(answer.alloc));
     }
 }
 
-// What an image notes of a run image, with the digest of no bytes where that has no rows.
-fn base_words(alloc: Global, name: &ImageName, run: &RunDoc) -> Result<String, Fault> {
-    let base = base_of(alloc, name, run, Digest::of(b""))?;
-    let (name, os, arch) = (base.name.as_str(), base.os.as_str(), base.arch.as_str());
-    let top = base.top.text(alloc)?;
-    Ok(format!(in alloc; "{name} {os}/{arch} {}", top.as_str())?)
-}
-
-fn env_words(alloc: Global, run: &RunDoc) -> Result<String, Fault> {
-    let env = image_env(alloc, &run.env)?;
-    let mut words = String::new(alloc);
-    for variable in env.variables() {
-        let (name, value) = (variable.name.as_str(), variable.value.as_str());
-        words.push_str(format!(in alloc; "\n{name}={value}")?.as_str())?;
-    }
-    Ok(words)
-}
-
-fn row_words(alloc: Global, name: &ImageName, run: &RunDoc) -> Result<String, Fault> {
-    let mut rows = List::new(alloc);
-    push_run_rows(alloc, &mut rows, name, run.rows.as_slice())?;
-    let mut words = String::new(alloc);
-    for row in rows.as_slice() {
-        let (role, digest) = (row.role.as_str(), row.digest.text(alloc)?);
-        let (place, digest, by) = (row.place.as_str(), digest.as_str(), row.by.as_str());
-        words.push_str(format!(in alloc; "\n{role} {place} {digest} {by}")?.as_str())?;
-    }
-    Ok(words)
-}
-
-// What an image takes from the run image of a name.
-fn taken(
-    alloc: Global,
-    world: &mut MemWorld,
-    call: &str,
-    name: &ImageName,
-) -> Result<String, Fault> {
-    let Ok(mut run) = read_run_image(alloc, world, &path_of(alloc, "/s")?, name) else {
-        return Err(Fault::wrong(alloc, "no run image:", name.as_str()));
-    };
-    match call {
-        "image_env" => env_words(alloc, &run),
-        "push_run_rows" => row_words(alloc, name, &run),
-        "base_of" => base_words(alloc, name, &run),
-        "base_of_no_rows" => {
-            run.rows = List::new(alloc);
-            base_words(alloc, name, &run)
+fn put_env(answer: &mut Answer, run: &RunDoc) {
+    if let Some(env) = answer.made(image_env(answer.alloc, &run.env)) {
+        for variable in env.variables() {
+            answer.put_all(&["\n", variable.name.as_str(), "=", variable.value.as_str()]);
         }
-        _ => Err(Fault::wrong(alloc, "no such call:", call)),
     }
 }
 
-fn named(
-    alloc: Global,
+fn put_rows(answer: &mut Answer, name: &ImageName, run: &RunDoc) {
+    let mut rows = List::new(answer.alloc);
+    answer.done(push_run_rows(answer.alloc, &mut rows, name, run.rows.as_slice()));
+    for row in rows.as_slice() {
+        answer.put_all(&["\n", row.role.as_str(), " ", row.place.as_str(), " "]);
+        answer.put_made(row.digest.text(answer.alloc));
+        answer.put_all(&[" ", row.by.as_str()]);
+    }
+}
+
+// Adds what an image takes from a run image.
+fn put_taken(answer: &mut Answer, run: &RunDoc, call: &str, name: &ImageName) {
+    match call {
+        "image_env" => put_env(answer, run),
+        "push_run_rows" => put_rows(answer, name, run),
+        "base_of" | "base_of_no_rows" => put_base(answer, name, run),
+        _ => answer.wrong("no such call:", call),
+    }
+}
+
+fn take(answer: &mut Answer, world: &mut MemWorld, store: &Path, call: &str, name: &ImageName)
+    requires { length store.now ≤ 4096 }
+{
+    let Ok(mut run) = read_run_image(answer.alloc, world, store, name) else {
+        answer.wrong("no run image:", name.as_str());
+        return;
+    };
+    if call == "base_of_no_rows" {
+        run.rows = List::new(answer.alloc);
+    }
+    put_taken(answer, &run, call, name);
+}
+
+fn call_named(
+    answer: &mut Answer,
     world: &mut MemWorld,
+    store: &Path,
     call: &str,
     name: &ImageName,
     other: &ImageName,
-) -> Result<String, Fault> {
-    let store = path_of(alloc, "/s")?;
+)
+    requires { length store.now ≤ 4096 }
+{
+    let alloc = answer.alloc;
     match call {
-        "read_image" => told_image(alloc, read_image(alloc, world, &store, name)),
-        "read_run_image" => told_run_image(alloc, read_run_image(alloc, world, &store, name)),
-        "save_image" => save_as(alloc, world, name, other),
-        "save_run_image" => save_run_as(alloc, world, name, other),
-        "image_path" => path_words(alloc, "at", &image_path(alloc, &store, name)?),
-        "run_path" => path_words(alloc, "at", &run_path(alloc, &store, name)?),
-        _ => taken(alloc, world, call, name),
+        "read_image" => put_image(answer, &read_image(alloc, world, store, name)),
+        "read_run_image" => put_run_image(answer, &read_run_image(alloc, world, store, name)),
+        "save_image" => put_done(answer, &save_as(alloc, world, store, name, other)),
+        "save_run_image" => put_done(answer, &save_run_as(alloc, world, store, name, other)),
+        "image_path" => put_path(answer, &image_path(alloc, store, name)),
+        "run_path" => put_path(answer, &run_path(alloc, store, name)),
+        _ => take(answer, world, store, call, name),
     }
 }
 
 // The run image at a path, where one is there.
-fn find_words(alloc: Global, world: &mut MemWorld, path: &str) -> Result<String, Fault> {
-    let path = path_of(alloc, path)?;
-    match find_document::<MemWorld, RunDoc>(alloc, world, &path) {
-        Ok(Some(run)) => told_run_image(alloc, Ok(run)),
-        Ok(None) => Ok(String::from_str(alloc, "none")?),
-        Err(fault) => fault_words(alloc, &ImageFault::from(fault)),
+fn find_run(
+    alloc: Global,
+    world: &mut MemWorld,
+    path: &Path,
+) -> Result<Option<RunDoc>, ImageFault> {
+    Ok(find_document::<MemWorld, RunDoc>(alloc, world, path)?)
+}
+
+fn put_found(answer: &mut Answer, found: &Result<Option<RunDoc>, ImageFault>) {
+    match found {
+        Ok(Some(run)) => put_document(answer, &write_run(answer.alloc, run)),
+        Ok(None) => answer.put("none"),
+        Err(fault) => put_fault(answer, fault),
     }
 }
 
-// Writes a document `notes.toml` with this text, and tells its bytes.
-fn write_words(alloc: Global, world: &mut MemWorld, folder: &str) -> Result<String, Fault> {
-    let folder = path_of(alloc, folder)?;
-    told_done(
-        alloc,
-        write_document(alloc, world, &folder, "notes.toml", b"x = 1\n"),
-    )
+// Looks for a run image at a path, or writes a document `notes.toml` with this text into the folder there.
+fn call_at(answer: &mut Answer, world: &mut MemWorld, call: &str, path: &str) {
+    let alloc = answer.alloc;
+    let Some(path) = answer.path(path) else {
+        return;
+    };
+    match call {
+        "find_document" => put_found(answer, &find_run(alloc, world, &path)),
+        _ => put_done(
+            answer,
+            &write_document(alloc, world, &path, "notes.toml", b"x = 1\n"),
+        ),
+    }
 }
 
-fn called(alloc: Global, world: &mut MemWorld, line: &str) -> Result<String, Fault> {
-    let (call, words) = line.split_once(' ').unwrap_or((line, ""));
+fn call_once(answer: &mut Answer, world: &mut MemWorld, store: &Path, line: &str)
+    requires { length store.now ≤ 4096 }
+{
+    let (call, words) = cut(line);
+    if call == "find_document" || call == "write_document" {
+        call_at(answer, world, call, words);
+        return;
+    }
     let (name, other) = words.split_once(' ').unwrap_or((words, words));
-    match call {
-        "find_document" => find_words(alloc, world, name),
-        "write_document" => write_words(alloc, world, name),
-        _ => {
-            let (name, other) = (name_of(alloc, name)?, name_of(alloc, other)?);
-            named(alloc, world, call, &name, &other)
-        }
+    if let (Some(name), Some(other)) = (name_of(answer, name), name_of(answer, other)) {
+        call_named(answer, world, store, call, &name, &other);
+    }
+}
+
+fn call_each(answer: &mut Answer, world: &mut MemWorld, lines: &str) {
+    let Some(store) = answer.path("/s") else {
+        return;
+    };
+    for line in lines.lines() {
+        answer.put_all(&[line, ": "]);
+        call_once(answer, world, &store, line);
+        answer.put("\n");
     }
 }
 
 /// What calls answer, one after another in one world.
-pub(crate) fn called_in_turn(alloc: Global, row: &Row) -> Result<String, Fault> {
-    let mut world = world_of(alloc, row)?;
-    let mut words = String::new(alloc);
-    for line in row.text(alloc, "calls")?.lines() {
-        let answer = called(alloc, &mut world, line)?;
-        words.push_str(format!(in alloc; "{line}: {answer}\n")?.as_str())?;
+pub(crate) fn called_in_turn(answer: &mut Answer, row: &Row) {
+    let lines = answer.given(row, "calls");
+    if let Some(mut world) = world_of(answer, row) {
+        call_each(answer, &mut world, lines);
     }
-    Ok(words)
 }

@@ -2,7 +2,6 @@
 //! documents of images in a store.
 #![tactic(auto)]
 
-mod fault;
 mod flags;
 mod images;
 mod reading;
@@ -14,9 +13,7 @@ mod watched;
 mod words;
 mod worlds;
 
-use fault::{Fault, row_fault};
-use row_files::{Row, RowFault, run};
-use std::alloc::Global;
+use row_files::{Answer, Row, RowFault, run};
 use std::process::ExitCode;
 
 const FILES: [&str; 7] = [
@@ -29,33 +26,30 @@ const FILES: [&str; 7] = [
     "images.toml",
 ];
 
-fn answer_in(alloc: Global, row: &Row) -> Result<String, Fault> {
+fn put_answer(answer: &mut Answer, row: &Row) {
     match row.call.as_str() {
-        "decode" => trees::decoded(alloc, row),
-        "feed" => trees::fed(alloc, row),
-        "scan" => trees::scanned(alloc, row),
-        "events" => trees::events(alloc, row),
-        "make" => trees::made(alloc, row),
-        "target" => trees::target(alloc, row),
-        "judge" => trees::judged(alloc, row),
-        "digest" => trees::digest(alloc, row),
-        "read_digest" => trees::digest_read(alloc, row),
-        "store" => stores::called_in_turn(alloc, row),
-        "shelves" => shelves::called_in_turn(alloc, row),
-        "images" => images::called_in_turn(alloc, row),
-        "restore_row" => flags::restored(alloc, row),
-        "export_row" => flags::exported(alloc, row),
-        call => Err(Fault::wrong(alloc, "no such call:", call)),
+        "decode" => trees::decoded(answer, row),
+        "feed" => trees::fed(answer, row),
+        "scan" => trees::scanned(answer, row),
+        "events" => trees::events(answer, row),
+        "make" => trees::made(answer, row),
+        "target" => trees::target(answer, row),
+        "judge" => trees::judged(answer, row),
+        "digest" => trees::digest(answer, row),
+        "read_digest" => trees::digest_read(answer, row),
+        "store" => stores::called_in_turn(answer, row),
+        "shelves" => shelves::called_in_turn(answer, row),
+        "images" => images::called_in_turn(answer, row),
+        "restore_row" => flags::restored(answer, row),
+        "export_row" => flags::exported(answer, row),
+        call => answer.wrong("no such call:", call),
     }
 }
 
-// The answer of a row, without the end of its last line.
 fn answer(rt: &HostRuntime, row: &Row) -> Result<String, RowFault> {
-    let alloc = rt.alloc();
-    match answer_in(alloc, row) {
-        Ok(words) => Ok(String::from_str(alloc, words.strip_suffix("\n").unwrap_or(&words))?),
-        Err(fault) => Err(row_fault(fault)),
-    }
+    let mut answer = Answer::new(rt.alloc());
+    put_answer(&mut answer, row);
+    answer.end_of_line()
 }
 
 fn main(rt: HostRuntime) -> Result<ExitCode, RowFault> {

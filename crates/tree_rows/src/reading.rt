@@ -1,10 +1,6 @@
-// What rows write: numbers, bytes, paths and items.
-ghost use Rattle.std.specs.Prelude.{◌≤◌, IfOk, length};
-
-use crate::fault::Fault;
-use cnb_world::{Bytes, Item, List, Path, Placed, Text};
-use row_files::Row;
-use std::alloc::Global;
+// What rows write: bytes and items.
+use cnb_world::{Bytes, Item, List, Placed};
+use row_files::{Answer, Row};
 
 /// What is given under a name, and no text where nothing is.
 pub(crate) fn text_or_none<'a>(row: &'a Row, name: &str) -> &'a str {
@@ -14,128 +10,113 @@ pub(crate) fn text_or_none<'a>(row: &'a Row, name: &str) -> &'a str {
     }
 }
 
-/// The number that a word is.
-pub(crate) fn number_of(alloc: Global, word: &str) -> Result<u64, Fault> {
-    match word.parse() {
-        Ok(number) => Ok(number),
-        Err(_) => Err(Fault::wrong(alloc, "no number:", word)),
-    }
-}
-
-/// The numbers of the calls that fail.
-pub(crate) fn numbers_of(alloc: Global, text: &str) -> Result<List<u64>, Fault> {
-    let mut numbers = List::new(alloc);
-    for word in text.split_whitespace() {
-        numbers.push(number_of(alloc, word)?)?;
-    }
-    Ok(numbers)
+/// The bytes under a name.
+pub(crate) fn bytes_given(answer: &mut Answer, row: &Row, name: &str) -> Bytes {
+    let words = answer.given(row, name);
+    bytes_of(answer, words)
 }
 
 /// The bytes that words spell: one that begins with `'` is its text, `5*00` is `00` five times, and others are
 /// hexadecimal digits.
-pub(crate) fn bytes_of(alloc: Global, text: &str) -> Result<Bytes, Fault> {
-    let mut bytes = Bytes::from_vec(Vec::new(alloc));
-    for word in text.split_whitespace() {
-        match word.split_once('*') {
-            Some((times, word)) => append_often(alloc, &mut bytes, times, word)?,
-            None => bytes.append(word_bytes(alloc, word)?.as_slice())?,
+pub(crate) fn bytes_of(answer: &mut Answer, words: &str) -> Bytes {
+    let mut bytes = answer.bytes(b"");
+    for word in words.split_whitespace() {
+        add_word(answer, &mut bytes, word);
+    }
+    bytes
+}
+
+fn add_word(answer: &mut Answer, bytes: &mut Bytes, word: &str) {
+    let (times, word) = word.split_once('*').unwrap_or(("1", word));
+    let more = word_bytes(answer, word);
+    add_often(answer, bytes, times, more.as_slice());
+}
+
+fn add_often(answer: &mut Answer, bytes: &mut Bytes, times: &str, more: &[u8]) {
+    for _ in 0..answer.number(times) {
+        answer.done(bytes.append(more));
+    }
+}
+
+fn word_bytes(answer: &mut Answer, word: &str) -> Bytes {
+    if let Some(text) = word.strip_prefix("'") {
+        return answer.bytes(text.as_bytes());
+    }
+    match hex::decode(answer.alloc, word) {
+        Ok(bytes) => Bytes::from_vec(bytes),
+        Err(_) => {
+            answer.wrong("no bytes:", word);
+            answer.bytes(b"")
         }
     }
-    Ok(bytes)
 }
 
-fn append_often(alloc: Global, bytes: &mut Bytes, times: &str, word: &str) -> Result<(), Fault> {
-    let more = word_bytes(alloc, word)?;
-    for _ in 0..number_of(alloc, times)? {
-        bytes.append(more.as_slice())?;
-    }
-    Ok(())
-}
-
-fn word_bytes(alloc: Global, word: &str) -> Result<Bytes, Fault> {
-    if let Some(text) = word.strip_prefix("'") {
-        return Ok(Bytes::of(alloc, text.as_bytes())?);
-    }
-    match hex::decode(alloc, word) {
-        Ok(bytes) => Ok(Bytes::from_vec(bytes)),
-        Err(_) => Err(Fault::wrong(alloc, "no bytes:", word)),
-    }
-}
-
-/// The path that a text is. Those of rows are short.
-pub(crate) fn path_of(alloc: Global, text: &str) -> Result<Path, Fault>
-    ensures { IfOk result (λ path. length path ≤ 4096) }
-{
-    match Path::parse_short(alloc, text) {
-        Ok(path) => Ok(path),
-        Err(_) => Err(Fault::wrong(alloc, "no path:", text)),
-    }
+/// What stands before the first space, and what behind it.
+pub(crate) fn cut(line: &str) -> (&str, &str) {
+    line.split_once(' ').unwrap_or((line, ""))
 }
 
 /// What a line says: `folder a`, `file a [exec] [times N] TEXT`, `link a -> TARGET` or `odd a`; first its path.
-pub(crate) fn item_of<'a>(alloc: Global, line: &'a str) -> Result<(&'a str, Item), Fault> {
-    let (kind, rest) = line.split_once(' ').unwrap_or((line, ""));
-    let (path, rest) = rest.split_once(' ').unwrap_or((rest, ""));
-    match kind {
-        "folder" => Ok((path, Item::Folder)),
-        "odd" => Ok((path, Item::Odd)),
-        "file" => Ok((path, file(alloc, rest)?)),
-        "link" => Ok((path, link(alloc, rest)?)),
-        _ => Err(Fault::wrong(alloc, "no item:", line)),
-    }
+pub(crate) fn item_of<'a>(answer: &mut Answer, line: &'a str) -> (&'a str, Item) {
+    let (kind, rest) = cut(line);
+    let (path, rest) = cut(rest);
+    let item = match kind {
+        "folder" => Item::Folder,
+        "odd" => Item::Odd,
+        "file" => file(answer, rest),
+        "link" => link(answer, rest),
+        _ => {
+            answer.wrong("no item:", line);
+            Item::Odd
+        }
+    };
+    (path, item)
 }
 
-fn file(alloc: Global, rest: &str) -> Result<Item, Fault> {
+fn file(answer: &mut Answer, rest: &str) -> Item {
     let (exec, text) = match rest.strip_prefix("[exec]") {
         Some(text) => (true, text.strip_prefix(" ").unwrap_or(text)),
         None => (false, rest),
     };
-    let bytes = contents(alloc, text)?;
-    Ok(Item::File { exec, bytes })
+    let bytes = contents(answer, text);
+    Item::File { exec, bytes }
 }
 
 // `[times N] TEXT` is the text so many times.
-fn contents(alloc: Global, text: &str) -> Result<Bytes, Fault> {
-    match text.strip_prefix("[times ") {
-        Some(rest) => often(alloc, rest),
-        None => Ok(Bytes::of(alloc, text.as_bytes())?),
-    }
+fn contents(answer: &mut Answer, text: &str) -> Bytes {
+    let (times, text) = match text.strip_prefix("[times ") {
+        Some(rest) => rest.split_once("] ").unwrap_or(("", rest)),
+        None => ("1", text),
+    };
+    let mut bytes = answer.bytes(b"");
+    add_often(answer, &mut bytes, times, text.as_bytes());
+    bytes
 }
 
-fn often(alloc: Global, rest: &str) -> Result<Bytes, Fault> {
-    match rest.split_once("] ") {
-        Some((times, text)) => {
-            let mut bytes = Bytes::from_vec(Vec::new(alloc));
-            for _ in 0..number_of(alloc, times)? {
-                bytes.append(text.as_bytes())?;
-            }
-            Ok(bytes)
+fn link(answer: &mut Answer, rest: &str) -> Item {
+    let target = match rest.strip_prefix("->") {
+        Some(target) => target.trim_start(),
+        None => {
+            answer.wrong("no link's target:", rest);
+            ""
         }
-        None => Err(Fault::wrong(alloc, "no contents:", rest)),
-    }
-}
-
-fn link(alloc: Global, rest: &str) -> Result<Item, Fault> {
-    match rest.strip_prefix("->") {
-        Some(target) => {
-            let target = Text::of(alloc, target.trim_start())?;
-            Ok(Item::Link { target })
-        }
-        None => Err(Fault::wrong(alloc, "no link's target:", rest)),
-    }
+    };
+    let target = answer.text(target);
+    Item::Link { target }
 }
 
 /// Adds the items of lines, with this text in front of their paths.
-pub(crate) fn push_items(
-    alloc: Global,
-    items: &mut List<Placed>,
-    front: &str,
-    lines: &str,
-) -> Result<(), Fault> {
+pub(crate) fn push_items(answer: &mut Answer, items: &mut List<Placed>, front: &str, lines: &str) {
     for line in lines.lines() {
-        let (path, item) = item_of(alloc, line)?;
-        let path = path_of(alloc, format!(in alloc; "{front}{path}")?.as_str())?;
-        items.push(Placed { path, item })?;
+        let (path, item) = item_of(answer, line);
+        push_item(answer, items, &[front, path], item);
     }
-    Ok(())
+}
+
+/// Adds an item at the path that these texts make.
+pub(crate) fn push_item(answer: &mut Answer, items: &mut List<Placed>, path: &[&str], item: Item) {
+    let path = answer.joined(path);
+    if let Some(path) = answer.path(path.as_str()) {
+        answer.done(items.push(Placed { path, item }));
+    }
 }

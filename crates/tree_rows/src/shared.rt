@@ -2,13 +2,12 @@
 ghost use Rattle.std.specs.Prelude.{◌≡◌, ◌≤◌, IfOk, Ok, length};
 ghost use Rattle.cnb_world.specs.Calls.{CountsFailed, LastFailed};
 
-use crate::fault::Fault;
-use crate::reading::{item_of, number_of, path_of, text_or_none};
+use crate::reading::{item_of, text_or_none};
 use crate::worlds::world_of;
 use cnb_world::{
     Bytes, ChildFault, ChildJob, End, FileFault, Item, Kind, List, MemWorld, Path, Text, World,
 };
-use row_files::Row;
+use row_files::{Answer, Row};
 use std::alloc::Global;
 
 /// A file that something else writes before the read of a number.
@@ -32,21 +31,18 @@ pub struct Shared {
     failed_at: Option<Path>,
 }
 
-fn change_of(alloc: Global, text: &str) -> Result<Option<Change>, Fault> {
-    let Some((number, line)) = text.split_once(' ') else {
-        return Ok(None);
+fn change_of(answer: &mut Answer, text: &str) -> Option<Change> {
+    let (number, line) = text.split_once(' ')?;
+    let (path, item) = item_of(answer, line);
+    let Item::File { exec: _, bytes } = item else {
+        answer.wrong("no file:", line);
+        return None;
     };
-    let number = number_of(alloc, number)?;
-    let (path, item) = item_of(alloc, line)?;
-    let path = path_of(alloc, path)?;
-    match item {
-        Item::File { exec: _, bytes } => Ok(Some(Change {
-            number,
-            path,
-            bytes,
-        })),
-        _ => Err(Fault::wrong(alloc, "no file:", line)),
-    }
+    Some(Change {
+        number: answer.number(number),
+        path: answer.path(path)?,
+        bytes,
+    })
 }
 
 fn write(world: &mut MemWorld, change: &Change) -> Result<(), FileFault> {
@@ -56,15 +52,16 @@ fn write(world: &mut MemWorld, change: &Change) -> Result<(), FileFault> {
 
 impl Shared {
     /// The world of a row, with what is written `meanwhile` and the `most` bytes of a call.
-    pub(crate) fn of(alloc: Global, row: &Row) -> Result<Shared, Fault> {
-        Ok(Shared {
-            alloc,
-            world: world_of(alloc, row)?,
-            change: change_of(alloc, text_or_none(row, "meanwhile"))?,
-            most: match text_or_none(row, "most") {
-                "" => u64::MAX,
-                most => number_of(alloc, most)?,
-            },
+    pub(crate) fn of(answer: &mut Answer, row: &Row) -> Option<Shared> {
+        let most = match text_or_none(row, "most") {
+            "" => u64::MAX,
+            most => answer.number(most),
+        };
+        Some(Shared {
+            alloc: answer.alloc,
+            world: world_of(answer, row)?,
+            change: change_of(answer, text_or_none(row, "meanwhile")),
+            most,
             reads: 0,
             faults: 0,
             failed_at: None,

@@ -1,18 +1,17 @@
 // Calls of shelf_set: trees that are searched in caches, rows that are gathered, and layers that are stored.
-ghost use Rattle.std.specs.Prelude.{◌≡◌, ◌≤◌, IfOk, length, map};
+ghost use Rattle.std.specs.Prelude.{◌≡◌, ◌≤◌, IfOk, IfSome, length, map};
 ghost use Rattle.shelf_set.specs.Caching.{digest_of_row, digest_of_tree};
 
-use crate::fault::Fault;
-use crate::reading::{bytes_of, number_of};
+use crate::reading::{bytes_given, cut};
 use crate::watched::{Marks, Watched};
-use crate::words::{damage_words, text_of, tree_words};
+use crate::words::{put_bytes, put_damage, put_tree};
 use cnb_toml::{BpId, LayerName, Meta};
-use cnb_world::{Bytes, Held, List, MemShelf};
+use cnb_world::{Bytes, Held, List, MemShelf, Memory};
 use image_docs::{CacheDoc, LayerRow, write_cache};
 use layer_flags::Flags;
-use row_files::Row;
+use row_files::{Answer, Row};
 use shelf_set::{Found, Shelves, find, gather, store_all};
-use std::alloc::{AllocError, Global};
+use std::alloc::Global;
 use std::cell::Cell;
 use std::rc::Rc;
 use tree_canon::{Digest, Tree, decode, encode};
@@ -33,23 +32,20 @@ struct Layers {
     ghost matched: { map digest_of_row rows ≡ map digest_of_tree trees },
 }
 
-fn bytes_under(alloc: Global, row: &Row, name: &str) -> Result<Bytes, Fault> {
-    bytes_of(alloc, row.text(alloc, name)?)
-}
-
-fn digest_under(alloc: Global, row: &Row, name: &str) -> Result<Digest, Fault> {
-    Ok(Digest::of(bytes_under(alloc, row, name)?.as_slice()))
+fn digest_given(answer: &mut Answer, row: &Row, name: &str) -> Digest {
+    let bytes = bytes_given(answer, row, name);
+    Digest::of(bytes.as_slice())
 }
 
 // The bytes of a name: under their own digest, or after a slash under that of others.
-fn held_of(alloc: Global, row: &Row, names: &str) -> Result<Held, Fault> {
+fn held_of(answer: &mut Answer, row: &Row, names: &str) -> Held {
     let (name, under) = names.split_once('/').unwrap_or((names, names));
-    let digest = digest_under(alloc, row, under)?;
-    let bytes = bytes_under(alloc, row, name)?;
-    Ok(Held {
+    let digest = digest_given(answer, row, under);
+    let bytes = bytes_given(answer, row, name);
+    Held {
         digest: *digest.bytes(),
         bytes,
-    })
+    }
 }
 
 // What a cache in memory is made of.
@@ -60,66 +56,98 @@ struct Parts {
     fails: List<u64>,
 }
 
-fn shelf_of(alloc: Global, row: &Row, line: &str) -> Result<MemShelf, Fault> {
+fn shelf_of(answer: &mut Answer, row: &Row, line: &str) -> Option<MemShelf> {
     let mut parts = Parts {
-        rows: Bytes::from_vec(Vec::new(alloc)),
-        held: List::new(alloc),
-        fails: List::new(alloc),
+        rows: answer.bytes(b""),
+        held: List::new(answer.alloc),
+        fails: List::new(answer.alloc),
     };
-    add_parts(alloc, row, line, &mut parts)?;
+    for word in line.split_whitespace() {
+        add_part(answer, row, word, &mut parts);
+    }
     let Parts { rows, held, fails } = parts;
-    Ok(MemShelf::new(alloc, rows, held, fails)?)
+    answer.made(MemShelf::new(answer.alloc, rows, held, fails))
 }
 
-fn add_parts(alloc: Global, row: &Row, line: &str, parts: &mut Parts) -> Result<(), Fault> {
-    for word in line.split_whitespace() {
-        let (kind, name) = word.split_once('=').unwrap_or((word, ""));
-        match kind {
-            "shelf" => {}
-            "rows" => parts.rows = Bytes::of(alloc, row.text(alloc, name)?.as_bytes())?,
-            "holds" => parts.held.push(held_of(alloc, row, name)?)?,
-            "fails" => parts.fails.push(number_of(alloc, name)?)?,
-            _ => return Err(Fault::wrong(alloc, "no shelf:", line)),
+fn add_part(answer: &mut Answer, row: &Row, word: &str, parts: &mut Parts) {
+    let (kind, name) = word.split_once('=').unwrap_or((word, ""));
+    match kind {
+        "shelf" => {}
+        "rows" => parts.rows = rows_of(answer, row, name),
+        "holds" => {
+            let held = held_of(answer, row, name);
+            answer.done(parts.held.push(held));
+        }
+        "fails" => {
+            let number = answer.number(name);
+            answer.done(parts.fails.push(number));
+        }
+        _ => answer.wrong("no shelf:", word),
+    }
+}
+
+fn rows_of(answer: &mut Answer, row: &Row, name: &str) -> Bytes {
+    let text = answer.given(row, name);
+    answer.bytes(text.as_bytes())
+}
+
+fn put_find(answer: &mut Answer, caches: &mut Caches, digest: &Digest) {
+    let found = find(
+        answer.alloc,
+        &mut caches.shelves,
+        &mut caches.places,
+        digest,
+    );
+    if let Some(search) = answer.made(found) {
+        put_found(answer, &search.found);
+        put_numbers(answer, "\ngone ", search.gone.as_slice());
+    }
+}
+
+fn put_found(answer: &mut Answer, found: &Found) {
+    match found {
+        Found::Tree(tree) => {
+            answer.put("a tree\n");
+            put_tree(answer, tree);
+        }
+        Found::None => answer.put("none"),
+        Found::Damaged { asked, found, bad } => put_damage(answer, asked, found, *bad),
+    }
+}
+
+fn put_numbers(answer: &mut Answer, word: &str, numbers: &[u32]) {
+    answer.put(word);
+    answer.debug(&numbers);
+}
+
+fn put_gather(answer: &mut Answer, caches: &mut Caches) {
+    let gathered = gather(answer.alloc, &mut caches.shelves, &mut caches.places);
+    if let Some(gathered) = answer.made(gathered) {
+        put_rows(answer, &gathered.rows);
+        put_numbers(answer, "unread ", gathered.unread.as_slice());
+        put_numbers(answer, "\ngone ", gathered.gone.as_slice());
+    }
+}
+
+fn put_rows(answer: &mut Answer, rows: &CacheDoc) {
+    answer.put("rows\n");
+    if let Some(bytes) = answer.made(write_cache(answer.alloc, rows)) {
+        put_bytes(answer, bytes.as_slice());
+    }
+}
+
+fn tree_given(answer: &mut Answer, row: &Row, name: &str) -> Option<Tree> {
+    let bytes = bytes_given(answer, row, name);
+    match decode(answer.alloc, bytes.as_slice()) {
+        Ok(tree) => Some(tree),
+        Err(_) => {
+            answer.wrong("no tree:", name);
+            None
         }
     }
-    Ok(())
 }
 
-fn no_marks(alloc: Global) -> Result<Rc<Marks>, Fault> {
-    let (calls, ends) = (Cell::new(0), Cell::new(0));
-    Ok(Rc::new(alloc, Marks { calls, ends })?)
-}
-
-fn found_words(alloc: Global, found: &Found) -> Result<String, Fault> {
-    match found {
-        Found::Tree(tree) => Ok(format!(in alloc; "a tree\n{}", tree_words(alloc, tree)?)?),
-        Found::None => Ok(String::from_str(alloc, "none")?),
-        Found::Damaged { asked, found, bad } => damage_words(alloc, asked, found, *bad),
-    }
-}
-
-fn find_words(alloc: Global, caches: &mut Caches, digest: &Digest) -> Result<String, Fault> {
-    let search = find(alloc, &mut caches.shelves, &mut caches.places, digest)?;
-    let found = found_words(alloc, &search.found)?;
-    Ok(format!(in alloc; "{found}\ngone {:?}", search.gone.as_slice())?)
-}
-
-fn gather_words(alloc: Global, caches: &mut Caches) -> Result<String, Fault> {
-    let gathered = gather(alloc, &mut caches.shelves, &mut caches.places)?;
-    let rows = text_of(alloc, write_cache(alloc, &gathered.rows)?.as_slice())?;
-    let (unread, gone) = (gathered.unread.as_slice(), gathered.gone.as_slice());
-    Ok(format!(in alloc; "rows\n{rows}unread {unread:?}\ngone {gone:?}")?)
-}
-
-fn tree_under(alloc: Global, row: &Row, name: &str) -> Result<Tree, Fault> {
-    let bytes = bytes_under(alloc, row, name)?;
-    match decode(alloc, bytes.as_slice()) {
-        Ok(tree) => Ok(tree),
-        Err(_) => Err(Fault::wrong(alloc, "no tree:", name)),
-    }
-}
-
-fn digest_of(alloc: Global, tree: &Tree) -> Result<Digest, Fault>
+fn digest_of(alloc: Global, tree: &Tree) -> Result<Digest, Memory>
     ensures { IfOk result (λ digest. digest ≡ digest_of_tree tree.now) }
 {
     let bytes = encode(alloc, tree)?;
@@ -127,17 +155,21 @@ fn digest_of(alloc: Global, tree: &Tree) -> Result<Digest, Fault>
 }
 
 // A layer that is cached.
-fn layer_of(alloc: Global, layer: &str, digest: Digest) -> Result<LayerRow, Fault>
-    ensures { IfOk result (λ row. row.digest ≡ digest) }
+fn layer_of(answer: &mut Answer, layer: &str, digest: Digest) -> Option<LayerRow>
+    ensures { IfSome result (λ row. row.digest ≡ digest) }
 {
     let (id, name) = layer.split_once(':').unwrap_or((layer, ""));
-    let (Ok(id), Ok(layer)) = (BpId::parse(alloc, id), LayerName::parse(alloc, name)) else {
-        return Err(Fault::wrong(alloc, "no layer:", layer));
+    let (Ok(id), Ok(layer)) = (
+        BpId::parse(answer.alloc, id),
+        LayerName::parse(answer.alloc, name),
+    ) else {
+        answer.wrong("no layer:", layer);
+        return None;
     };
     let mut flags = Flags::default();
     flags.cache = true;
-    let meta = Meta::Table(List::new(alloc));
-    Ok(LayerRow {
+    let meta = Meta::Table(List::new(answer.alloc));
+    Some(LayerRow {
         id,
         layer,
         flags,
@@ -146,10 +178,20 @@ fn layer_of(alloc: Global, layer: &str, digest: Digest) -> Result<LayerRow, Faul
     })
 }
 
-fn with_layer(alloc: Global, row: &Row, layers: Layers, word: &str) -> Result<Layers, Fault> {
+fn with_layer(answer: &mut Answer, row: &Row, layers: Layers, word: &str) -> Option<Layers> {
     let (layer, name) = word.split_once('=').unwrap_or((word, ""));
-    let tree = tree_under(alloc, row, name)?;
-    let layer = layer_of(alloc, layer, digest_of(alloc, &tree)?)?;
+    let tree = tree_given(answer, row, name)?;
+    let Ok(digest) = digest_of(answer.alloc, &tree) else {
+        answer.run_out();
+        return None;
+    };
+    let layer = layer_of(answer, layer, digest)?;
+    answer.made(joined(layers, layer, tree))
+}
+
+fn joined(layers: Layers, layer: LayerRow, tree: Tree) -> Result<Layers, Memory>
+    requires { layer.digest ≡ digest_of_tree tree }
+{
     let Layers {
         mut rows,
         mut trees,
@@ -166,101 +208,132 @@ fn no_layers(alloc: Global) -> Layers {
     }
 }
 
-fn layers_of(alloc: Global, row: &Row, words: &str) -> Result<Layers, Fault> {
-    let mut layers = no_layers(alloc);
+fn layers_of(answer: &mut Answer, row: &Row, words: &str) -> Option<Layers> {
+    let mut layers = no_layers(answer.alloc);
     for word in words.split_whitespace() {
-        layers = with_layer(alloc, row, layers, word)?;
+        layers = with_layer(answer, row, layers, word)?;
     }
-    Ok(layers)
+    Some(layers)
 }
 
-fn store_words(alloc: Global, caches: &mut Caches, layers: &Layers) -> Result<String, Fault> {
+fn put_store(answer: &mut Answer, row: &Row, caches: &mut Caches, words: &str) {
+    let Some(layers) = layers_of(answer, row, words) else {
+        return;
+    };
     let (rows, trees) = (&layers.rows, &layers.trees);
-    let gone = store_all(alloc, &mut caches.shelves, &mut caches.places, rows, trees)?;
-    Ok(format!(in alloc; "gone {:?}", gone.as_slice())?)
+    let gone = store_all(
+        answer.alloc,
+        &mut caches.shelves,
+        &mut caches.places,
+        rows,
+        trees,
+    );
+    if let Some(gone) = answer.made(gone) {
+        put_numbers(answer, "gone ", gone.as_slice());
+    }
 }
 
 // Shortens the list to the caches that stand.
-fn shorten(alloc: Global, caches: &mut Caches) -> Result<String, Fault> {
+fn shorten(caches: &mut Caches) {
     caches.shelves.truncate(caches.places.as_slice().len());
-    Ok(String::from_str(alloc, "done")?)
 }
 
-fn called(alloc: Global, row: &Row, caches: &mut Caches, line: &str) -> Result<String, Fault> {
-    let (call, words) = line.split_once(' ').unwrap_or((line, ""));
+fn call_once(answer: &mut Answer, row: &Row, caches: &mut Caches, line: &str) {
+    let (call, words) = cut(line);
     match call {
-        "find" => find_words(alloc, caches, &digest_under(alloc, row, words)?),
-        "gather" => gather_words(alloc, caches),
-        "store_all" => store_words(alloc, caches, &layers_of(alloc, row, words)?),
-        "shorten" => shorten(alloc, caches),
-        _ => Err(Fault::wrong(alloc, "no such call:", line)),
+        "find" => {
+            let digest = digest_given(answer, row, words);
+            put_find(answer, caches, &digest);
+        }
+        "gather" => put_gather(answer, caches),
+        "store_all" => put_store(answer, row, caches, words),
+        "shorten" => {
+            shorten(caches);
+            answer.put("done");
+        }
+        _ => answer.wrong("no such call:", line),
     }
 }
 
-fn push_marks(words: &mut String, all: &[Rc<Marks>]) -> Result<(), AllocError> {
-    for marks in all {
-        let (calls, ends) = (marks.calls.get(), marks.ends.get());
-        writeln!(words, "called {calls}, ended {ends}")?;
+// Adds what each call answers, which caches stand then, and how often each cache was called and ended then.
+fn call_each(answer: &mut Answer, row: &Row, caches: &mut Caches, marks: &[Rc<Marks>]) {
+    let lines = answer.given(row, "calls");
+    for line in lines.lines() {
+        answer.put_all(&[line, ": "]);
+        call_once(answer, row, caches, line);
+        put_numbers(answer, "\nstand ", caches.places.as_slice());
+        answer.put("\n");
     }
-    Ok(())
+    put_marks(answer, marks);
+}
+
+fn put_marks(answer: &mut Answer, all: &[Rc<Marks>]) {
+    for marks in all {
+        answer.put("called ");
+        answer.show(&marks.calls.get());
+        answer.put(", ended ");
+        answer.show(&marks.ends.get());
+        answer.put("\n");
+    }
+}
+
+// A cache whose marks are added to all.
+fn watch(alloc: Global, shelf: MemShelf, all: &mut Vec<Rc<Marks>>) -> Result<Watched, Memory> {
+    let (calls, ends) = (Cell::new(0), Cell::new(0));
+    let marks = Rc::new(alloc, Marks { calls, ends })?;
+    all.push(marks.clone()?)?;
+    Ok(Watched { shelf, marks })
+}
+
+fn push_watched(
+    answer: &mut Answer,
+    shelf: MemShelf,
+    all: &mut Vec<Rc<Marks>>,
+    watched: &mut List<Watched>,
+) {
+    if let Some(shelf) = answer.made(watch(answer.alloc, shelf, all)) {
+        answer.done(watched.push(shelf));
+    }
 }
 
 // The caches of a row, in order, whose marks are added.
-fn watched_of(alloc: Global, row: &Row, all: &mut Vec<Rc<Marks>>) -> Result<Vec<Watched>, Fault> {
-    let mut watched = Vec::new(alloc);
-    for line in row.text(alloc, "shelves")?.lines() {
-        let marks = no_marks(alloc)?;
-        all.push(marks.clone()?)?;
-        let shelf = shelf_of(alloc, row, line)?;
-        watched.push(Watched { shelf, marks })?;
+fn watched_of(answer: &mut Answer, row: &Row, all: &mut Vec<Rc<Marks>>) -> List<Watched> {
+    let mut watched = List::new(answer.alloc);
+    let lines = answer.given(row, "shelves");
+    for line in lines.lines() {
+        if let Some(shelf) = shelf_of(answer, row, line) {
+            push_watched(answer, shelf, all, &mut watched);
+        }
     }
-    Ok(watched)
+    watched
 }
 
-// What a call answers, and which caches stand then.
-fn call_words(alloc: Global, row: &Row, caches: &mut Caches, line: &str) -> Result<String, Fault> {
-    let answer = called(alloc, row, caches, line)?;
-    let places = caches.places.as_slice();
-    Ok(format!(in alloc; "{line}: {answer}\nstand {places:?}\n")?)
-}
-
-// Adds what each call answers, and how often each cache was called and ended then.
-fn all_words(
-    alloc: Global,
+// Calls over these caches.
+fn call_over(
+    answer: &mut Answer,
     row: &Row,
-    caches: &mut Caches,
+    watched: List<Watched>,
     marks: &[Rc<Marks>],
-) -> Result<String, Fault> {
-    let mut words = String::new(alloc);
-    for line in row.text(alloc, "calls")?.lines() {
-        words.push_str(call_words(alloc, row, caches, line)?.as_str())?;
-    }
-    push_marks(&mut words, marks)?;
-    Ok(words)
-}
-
-fn words_over(
-    alloc: Global,
-    row: &Row,
-    watched: Vec<Watched>,
-    marks: &[Rc<Marks>],
-) -> Result<String, Fault> {
-    let mut shelves: Shelves = Vec::new(alloc);
-    let mut places = List::new(alloc);
-    for (number, shelf) in (0..u32::MAX).zip(watched) {
-        shelves.push(Box::new(alloc, shelf)?)?;
+) -> Result<(), Memory> {
+    let mut shelves: Shelves = Vec::new(answer.alloc);
+    let mut places = List::new(answer.alloc);
+    for (number, shelf) in (0..u32::MAX).zip(watched.into_vec()) {
+        shelves.push(Box::new(answer.alloc, shelf)?)?;
         places.push(number)?;
     }
     if places.as_slice().len() > shelves.len() {
-        return Err(Fault::wrong(alloc, "more numbers than", "shelves"));
+        answer.wrong("more numbers than", "shelves");
+        return Ok(());
     }
-    all_words(alloc, row, &mut Caches { shelves, places }, marks)
+    call_each(answer, row, &mut Caches { shelves, places }, marks);
+    Ok(())
 }
 
 /// What calls answer, one after another over the caches of a row, which of these stand then, and how often each was
 /// called and ended.
-pub(crate) fn called_in_turn(alloc: Global, row: &Row) -> Result<String, Fault> {
-    let mut marks = Vec::new(alloc);
-    let watched = watched_of(alloc, row, &mut marks)?;
-    words_over(alloc, row, watched, &marks)
+pub(crate) fn called_in_turn(answer: &mut Answer, row: &Row) {
+    let mut marks = Vec::new(answer.alloc);
+    let watched = watched_of(answer, row, &mut marks);
+    let done = call_over(answer, row, watched, &marks);
+    answer.done(done);
 }

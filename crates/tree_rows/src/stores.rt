@@ -1,175 +1,274 @@
 // Calls of tree_store: folders that are read, trees that are laid, and the store at `/s`.
-use crate::fault::Fault;
-use crate::reading::{path_of, text_or_none};
+ghost use Rattle.std.specs.Prelude.{◌≤◌, length};
+
+use crate::reading::text_or_none;
 use crate::shared::Shared;
-use crate::words::{damage_words, digest_words, path_words, tree_words, yes_or_no};
+use crate::words::{put_damage, put_digest, put_tree, yes_or_no};
 use crate::worlds::tree_of;
 use cnb_world::{FileFault, Path, World};
-use row_files::Row;
-use std::alloc::Global;
+use row_files::{Answer, Row};
 use tree_canon::{Digest, Tree, encode};
 use tree_store::{
     StoreFault, check_tree, get, has, lay_stored, put, put_folder, read_tree, write_tree,
 };
 
-fn fault_words(alloc: Global, fault: &StoreFault) -> Result<String, Fault> {
+fn put_fault(answer: &mut Answer, fault: &StoreFault) {
     match fault {
-        StoreFault::OddFile(path) => path_words(alloc, "OddFile", path),
-        StoreFault::Limit(kind) => Ok(format!(in alloc; "Limit {kind:?}")?),
-        StoreFault::File(path) => path_words(alloc, "File", path),
-        StoreFault::NoTree(digest) => digest_words(alloc, "NoTree", digest),
-        StoreFault::Damaged { asked, found, bad } => damage_words(alloc, asked, found, *bad),
-        StoreFault::Clash { digest } => digest_words(alloc, "Clash", digest),
-        StoreFault::Memory => Err(Fault::Memory),
+        StoreFault::OddFile(path) => answer.put_all(&["OddFile ", path.as_str()]),
+        StoreFault::Limit(kind) => {
+            answer.put("Limit ");
+            answer.debug(kind);
+        }
+        StoreFault::File(path) => answer.put_all(&["File ", path.as_str()]),
+        StoreFault::NoTree(digest) => put_digest(answer, "NoTree ", digest),
+        StoreFault::Damaged { asked, found, bad } => put_damage(answer, asked, found, *bad),
+        StoreFault::Clash { digest } => put_digest(answer, "Clash ", digest),
+        StoreFault::Memory => answer.run_out(),
     }
 }
 
-fn told_done(alloc: Global, answer: Result<(), StoreFault>) -> Result<String, Fault> {
-    match answer {
-        Ok(()) => Ok(String::from_str(alloc, "done")?),
-        Err(fault) => fault_words(alloc, &fault),
+fn put_done(answer: &mut Answer, done: &Result<(), StoreFault>) {
+    match done {
+        Ok(()) => answer.put("done"),
+        Err(fault) => put_fault(answer, fault),
     }
 }
 
-fn told_truth(alloc: Global, answer: Result<bool, StoreFault>) -> Result<String, Fault> {
-    match answer {
-        Ok(truth) => Ok(String::from_str(alloc, yes_or_no(truth))?),
-        Err(fault) => fault_words(alloc, &fault),
+fn put_truth(answer: &mut Answer, truth: &Result<bool, StoreFault>) {
+    match truth {
+        Ok(truth) => answer.put(yes_or_no(*truth)),
+        Err(fault) => put_fault(answer, fault),
     }
 }
 
-fn told_digest(alloc: Global, answer: Result<Digest, StoreFault>) -> Result<String, Fault> {
-    match answer {
-        Ok(digest) => digest_words(alloc, "digest", &digest),
-        Err(fault) => fault_words(alloc, &fault),
+fn put_stored(answer: &mut Answer, digest: &Result<Digest, StoreFault>) {
+    match digest {
+        Ok(digest) => put_digest(answer, "digest ", digest),
+        Err(fault) => put_fault(answer, fault),
     }
 }
 
-fn told_tree(alloc: Global, answer: Result<Tree, StoreFault>) -> Result<String, Fault> {
-    match answer {
-        Ok(tree) => Ok(format!(in alloc; "a tree\n{}", tree_words(alloc, &tree)?)?),
-        Err(fault) => fault_words(alloc, &fault),
+fn put_read(answer: &mut Answer, tree: &Result<Tree, StoreFault>) {
+    match tree {
+        Ok(tree) => {
+            answer.put("a tree\n");
+            put_tree(answer, tree);
+        }
+        Err(fault) => put_fault(answer, fault),
     }
 }
 
 // A tree that is too long to be read, by its digest.
-fn told_spelling(alloc: Global, answer: Result<Tree, StoreFault>) -> Result<String, Fault> {
-    match answer {
-        Ok(tree) => digest_words(
-            alloc,
-            "digest",
-            &Digest::of(encode(alloc, &tree)?.as_slice()),
-        ),
-        Err(fault) => fault_words(alloc, &fault),
+fn put_spelling(answer: &mut Answer, tree: &Result<Tree, StoreFault>) {
+    match tree {
+        Ok(tree) => {
+            if let Some(digest) = digest_of(answer, tree) {
+                put_digest(answer, "digest ", &digest);
+            }
+        }
+        Err(fault) => put_fault(answer, fault),
     }
+}
+
+fn digest_of(answer: &mut Answer, tree: &Tree) -> Option<Digest> {
+    let bytes = answer.made(encode(answer.alloc, tree))?;
+    Some(Digest::of(bytes.as_slice()))
 }
 
 // A call on the tree of a row in the store.
-fn stored(alloc: Global, world: &mut Shared, tree: &Tree, call: &str) -> Result<String, Fault> {
-    let store = path_of(alloc, "/s")?;
-    let digest = Digest::of(encode(alloc, tree)?.as_slice());
-    match call {
-        "has" => told_truth(alloc, has(alloc, world, &store, &digest)),
-        "get" => told_tree(alloc, get(alloc, world, &store, &digest)),
-        "get_digest" => told_spelling(alloc, get(alloc, world, &store, &digest)),
-        "put" => told_digest(alloc, put(alloc, world, &store, tree)),
-        "check_tree" => told_done(alloc, check_tree(alloc, world, &store, &digest)),
-        _ => Err(Fault::wrong(alloc, "no such call:", call)),
-    }
-}
-
-// A call on a path: trees are laid at it under `/`.
-fn at_path(
-    alloc: Global,
+fn in_store(
+    answer: &mut Answer,
     world: &mut Shared,
+    store: &Path,
     tree: &Tree,
+    digest: &Digest,
     call: &str,
-    path: &str,
-) -> Result<String, Fault> {
-    let (root, store, path) = (
-        path_of(alloc, "/")?,
-        path_of(alloc, "/s")?,
-        path_of(alloc, path)?,
-    );
-    let digest = Digest::of(encode(alloc, tree)?.as_slice());
+)
+    requires { length store.now ≤ 4096 }
+{
+    let alloc = answer.alloc;
     match call {
-        "read_tree" => told_tree(alloc, read_tree(alloc, world, &path)),
-        "put_folder" => told_digest(alloc, put_folder(alloc, world, &store, &path)),
-        "write_tree" => told_done(alloc, write_tree(alloc, world, &root, &path, tree)),
-        "lay_stored" => told_done(
-            alloc,
-            lay_stored(alloc, world, &store, &digest, &root, &path),
-        ),
-        _ => Err(Fault::wrong(alloc, "no such call:", call)),
+        "has" => put_truth(answer, &has(alloc, world, store, digest)),
+        "get" => put_read(answer, &get(alloc, world, store, digest)),
+        "get_digest" => put_spelling(answer, &get(alloc, world, store, digest)),
+        "put" => put_stored(answer, &put(alloc, world, store, tree)),
+        "check_tree" => put_done(answer, &check_tree(alloc, world, store, digest)),
+        _ => answer.wrong("no such call:", call),
     }
 }
 
-// Lays the tree of a row from the store, at `/` or at another place under a root.
-fn laid_below(
-    alloc: Global,
-    world: &mut Shared,
-    tree: &Tree,
-    words: &str,
-) -> Result<String, Fault> {
-    let (root, place) = words.split_once(' ').unwrap_or((words, "/"));
-    let (store, root, place) = (
-        path_of(alloc, "/s")?,
-        path_of(alloc, root)?,
-        path_of(alloc, place)?,
-    );
-    let digest = Digest::of(encode(alloc, tree)?.as_slice());
-    let answer = lay_stored(alloc, world, &store, &digest, &root, &place);
-    told_done(alloc, answer)
+// A call on a folder.
+fn at_path(answer: &mut Answer, world: &mut Shared, store: &Path, call: &str, path: &str)
+    requires { length store.now ≤ 4096 }
+{
+    let Some(path) = answer.path(path) else {
+        return;
+    };
+    match call {
+        "read_tree" => put_read(answer, &read_tree(answer.alloc, world, &path)),
+        "put_folder" => put_stored(answer, &put_folder(answer.alloc, world, store, &path)),
+        _ => answer.wrong("no such call:", call),
+    }
 }
 
+// Lays the tree of a row at a place under a root, from the store unless it is only written.
+fn lay(
+    answer: &mut Answer,
+    world: &mut Shared,
+    store: &Path,
+    tree: Option<&Tree>,
+    digest: &Digest,
+    places: (&str, &str),
+)
+    requires { length store.now ≤ 4096 }
+{
+    let (Some(root), Some(place)) = (answer.path(places.0), answer.path(places.1)) else {
+        return;
+    };
+    let done = match tree {
+        Some(tree) => write_tree(answer.alloc, world, &root, &place, tree),
+        None => lay_stored(answer.alloc, world, store, digest, &root, &place),
+    };
+    put_done(answer, &done);
+}
+
+// Writes a file anew.
 fn rewrite(world: &mut Shared, path: &Path, bytes: &[u8]) -> Result<(), FileFault> {
     world.create(path, false)?;
     world.append(path, bytes)
 }
 
+// What a call on the tree of a row comes to, in a text of its own.
+fn comes_to(
+    answer: &mut Answer,
+    world: &mut Shared,
+    store: &Path,
+    tree: &Tree,
+    digest: &Digest,
+    call: &str,
+) -> String
+    requires { length store.now ≤ 4096 }
+{
+    let mut found = Answer::new(answer.alloc);
+    in_store(&mut found, world, store, tree, digest, call);
+    answer.taken(found)
+}
+
+// What is said of these bytes where they are kept under a digest.
+fn damage_of(answer: &mut Answer, asked: &Digest, bytes: &[u8]) -> String {
+    let mut wanted = Answer::new(answer.alloc);
+    put_damage(&mut wanted, asked, &Digest::of(bytes), None);
+    answer.taken(wanted)
+}
+
+fn tree_file(answer: &mut Answer, digest: &Digest) -> Option<Path> {
+    let mut path = Answer::new(answer.alloc);
+    put_digest(&mut path, "/s/trees/", digest);
+    let path = answer.taken(path);
+    answer.path(path.as_str())
+}
+
+// Whether a call over the first bytes of the tree's file says that they are damaged, or else what it comes to.
+fn is_damaged(
+    answer: &mut Answer,
+    world: &mut Shared,
+    store: &Path,
+    tree: &Tree,
+    digest: &Digest,
+    given: (&str, &[u8]),
+) -> bool
+    requires { length store.now ≤ 4096 }
+{
+    let (call, part) = given;
+    let found = comes_to(answer, world, store, tree, digest, call);
+    let wanted = damage_of(answer, digest, part);
+    let is_damage = found.as_str() == wanted.as_str();
+    if !is_damage {
+        answer.put("of ");
+        answer.show(&part.len());
+        answer.put_all(&[" bytes ", found.as_str()]);
+    }
+    is_damage
+}
+
 // A call over each proper prefix of the tree's file: how many are damaged, or what the first comes to that isn't.
 fn over_prefixes(
-    alloc: Global,
+    answer: &mut Answer,
     world: &mut Shared,
+    store: &Path,
     tree: &Tree,
+    digest: &Digest,
     call: &str,
-) -> Result<String, Fault> {
-    let whole = encode(alloc, tree)?;
+)
+    requires { length store.now ≤ 4096 }
+{
+    let (whole, path) = (
+        answer.made(encode(answer.alloc, tree)),
+        tree_file(answer, digest),
+    );
+    let (Some(whole), Some(path)) = (whole, path) else {
+        return;
+    };
     let whole = whole.as_slice();
-    let asked = Digest::of(whole);
-    let path = format!(in alloc; "/s/trees/{}", asked.text(alloc)?.as_str())?;
-    let path = path_of(alloc, path.as_str())?;
     for length in 0..whole.len() {
         let part = &whole[..length];
         if rewrite(world, &path, part).is_err() {
-            return Err(Fault::wrong(alloc, "no such file:", path.as_str()));
+            answer.wrong("no such file:", path.as_str());
+            return;
         }
-        let answer = stored(alloc, world, tree, call)?;
-        let wanted = damage_words(alloc, &asked, &Digest::of(part), None)?;
-        if answer.as_str() != wanted.as_str() {
-            return Ok(format!(in alloc; "of {length} bytes {answer}")?);
+        if !is_damaged(answer, world, store, tree, digest, (call, part)) {
+            return;
         }
     }
-    Ok(format!(in alloc; "damaged, {} of them", whole.len())?)
+    answer.put("damaged, ");
+    answer.show(&whole.len());
+    answer.put(" of them");
 }
 
-fn called(alloc: Global, world: &mut Shared, tree: &Tree, line: &str) -> Result<String, Fault> {
+fn call_once(
+    answer: &mut Answer,
+    world: &mut Shared,
+    store: &Path,
+    tree: &Tree,
+    digest: &Digest,
+    line: &str,
+)
+    requires { length store.now ≤ 4096 }
+{
     match line.split_once(' ') {
-        Some(("lay_below", words)) => laid_below(alloc, world, tree, words),
-        Some(("prefixes", call)) => over_prefixes(alloc, world, tree, call),
-        Some((call, path)) => at_path(alloc, world, tree, call, path),
-        None => stored(alloc, world, tree, line),
+        None => in_store(answer, world, store, tree, digest, line),
+        Some(("write_tree", place)) => lay(answer, world, store, Some(tree), digest, ("/", place)),
+        Some(("lay_stored", place)) => lay(answer, world, store, None, digest, ("/", place)),
+        Some(("lay_below", words)) => {
+            let places = words.split_once(' ').unwrap_or((words, "/"));
+            lay(answer, world, store, None, digest, places);
+        }
+        Some(("prefixes", call)) => over_prefixes(answer, world, store, tree, digest, call),
+        Some((call, path)) => at_path(answer, world, store, call, path),
+    }
+}
+
+fn call_each(answer: &mut Answer, world: &mut Shared, store: &Path, tree: &Tree, lines: &str)
+    requires { length store.now ≤ 4096 }
+{
+    let Some(digest) = digest_of(answer, tree) else {
+        return;
+    };
+    for line in lines.lines() {
+        answer.put_all(&[line, ": "]);
+        call_once(answer, world, store, tree, &digest, line);
+        answer.put("\n");
     }
 }
 
 /// What calls answer, one after another in one world.
-pub(crate) fn called_in_turn(alloc: Global, row: &Row) -> Result<String, Fault> {
-    let tree = tree_of(alloc, text_or_none(row, "tree"))?;
-    let mut world = Shared::of(alloc, row)?;
-    let mut words = String::new(alloc);
-    for line in row.text(alloc, "calls")?.lines() {
-        let answer = called(alloc, &mut world, &tree, line)?;
-        words.push_str(format!(in alloc; "{line}: {answer}\n")?.as_str())?;
+pub(crate) fn called_in_turn(answer: &mut Answer, row: &Row) {
+    let (tree, lines) = (
+        tree_of(answer, text_or_none(row, "tree")),
+        answer.given(row, "calls"),
+    );
+    let (world, store) = (Shared::of(answer, row), answer.path("/s"));
+    if let (Some(tree), Some(mut world), Some(store)) = (tree, world, store) {
+        call_each(answer, &mut world, &store, &tree, lines);
     }
-    Ok(words)
 }

@@ -1,49 +1,69 @@
 // Calls of tree_canon: spellings, trees, digests, and bytes kept under digests.
 ghost use Rattle.std.specs.Prelude.{◌<◌};
 
-use crate::fault::Fault;
-use crate::reading::{bytes_of, item_of, number_of, text_or_none};
-use crate::words::{damage_words, digest_words, tree_words, yes_or_no};
-use cnb_world::{Item, List, Memory, Text};
-use row_files::Row;
+use crate::reading::{bytes_given, bytes_of, item_of, text_or_none};
+use crate::words::{put_damage, put_digest, put_tree, yes_or_no};
+use cnb_world::{Bytes, Item, List, Memory};
+use row_files::{Answer, Row};
 use std::alloc::Global;
 use tree_canon::{
     DecodeFault, Decoder, Digest, Event, Judged, Named, Node, Scan, Tree, TreeFault, decode,
     encode, is_target, judge,
 };
 
-fn fault_words(alloc: Global, fault: DecodeFault) -> Result<String, Fault> {
+fn put_fault(answer: &mut Answer, fault: &DecodeFault) {
     match fault {
-        DecodeFault::Bad { at, reason } => Ok(format!(in alloc; "Bad at {at}: {reason:?}")?),
-        DecodeFault::Memory => Err(Fault::Memory),
+        DecodeFault::Bad { at, reason } => {
+            answer.put("Bad at ");
+            answer.show(at);
+            answer.put(": ");
+            answer.debug(reason);
+        }
+        DecodeFault::Memory => answer.run_out(),
     }
 }
 
-fn spells(alloc: Global, tree: &Tree, bytes: &[u8]) -> Result<bool, Memory> {
-    let copy = tree.copy(alloc)?;
-    Ok(encode(alloc, &copy)?.as_slice() == bytes)
+fn put_end(answer: &mut Answer, word: &str, end: &Result<(), DecodeFault>) {
+    match end {
+        Ok(()) => answer.put(word),
+        Err(fault) => put_fault(answer, fault),
+    }
 }
 
-// A tree that was read from bytes, or its digest, and whether they spell its copy.
-fn read_words(alloc: Global, shown: &str, tree: &Tree, bytes: &[u8]) -> Result<String, Fault> {
-    let words = match shown {
-        "digest" => digest_words(alloc, "tree", &Digest::of(encode(alloc, tree)?.as_slice()))?,
-        _ => tree_words(alloc, tree)?,
+// The spelling of a tree's copy.
+fn spelled(alloc: Global, tree: &Tree) -> Result<Bytes, Memory> {
+    encode(alloc, &tree.copy(alloc)?)
+}
+
+// Adds a tree that was read from bytes, or its digest, and whether they spell its copy.
+fn put_read(answer: &mut Answer, shown: &str, tree: &Tree, bytes: &[u8]) {
+    let Some(again) = answer.made(spelled(answer.alloc, tree)) else {
+        return;
     };
-    let again = yes_or_no(spells(alloc, tree, bytes)?);
-    Ok(format!(in alloc; "{words}\nspelled so again: {again}")?)
+    match shown {
+        "digest" => put_digest(answer, "tree ", &Digest::of(again.as_slice())),
+        _ => put_tree(answer, tree),
+    }
+    answer.put("\nspelled so again: ");
+    answer.put(yes_or_no(again.as_slice() == bytes));
 }
 
-fn answer_words(
-    alloc: Global,
+fn put_decoded(answer: &mut Answer, shown: &str, bytes: &[u8], read: &Result<Tree, DecodeFault>) {
+    match read {
+        Ok(tree) => put_read(answer, shown, tree, bytes),
+        Err(fault) => put_fault(answer, fault),
+    }
+}
+
+fn words_of(
+    answer: &mut Answer,
     shown: &str,
     bytes: &[u8],
-    answer: Result<Tree, DecodeFault>,
-) -> Result<String, Fault> {
-    match answer {
-        Ok(tree) => read_words(alloc, shown, &tree, bytes),
-        Err(fault) => fault_words(alloc, fault),
-    }
+    read: &Result<Tree, DecodeFault>,
+) -> String {
+    let mut words = Answer::new(answer.alloc);
+    put_decoded(&mut words, shown, bytes, read);
+    answer.taken(words)
 }
 
 fn fed_by(alloc: Global, bytes: &[u8], size: usize) -> Result<Tree, DecodeFault>
@@ -57,203 +77,230 @@ fn fed_by(alloc: Global, bytes: &[u8], size: usize) -> Result<Tree, DecodeFault>
 }
 
 /// What bytes spell: decoded at once, fed whole, and fed in pieces of one byte.
-pub(crate) fn decoded(alloc: Global, row: &Row) -> Result<String, Fault> {
-    let bytes = bytes_of(alloc, row.text(alloc, "bytes")?)?;
-    let (bytes, shown) = (bytes.as_slice(), text_or_none(row, "shown"));
-    let once = answer_words(alloc, shown, bytes, decode(alloc, bytes))?;
-    let whole = answer_words(alloc, shown, bytes, fed_by(alloc, bytes, 4096))?;
-    let pieces = answer_words(alloc, shown, bytes, fed_by(alloc, bytes, 1))?;
-    if once.as_str() != whole.as_str() || once.as_str() != pieces.as_str() {
-        let words = format!(in alloc; "at once {once}\nwhole {whole}\nin pieces {pieces}")?;
-        return Ok(words);
+pub(crate) fn decoded(answer: &mut Answer, row: &Row) {
+    let (alloc, shown) = (answer.alloc, text_or_none(row, "shown"));
+    let bytes = bytes_given(answer, row, "bytes");
+    let bytes = bytes.as_slice();
+    let once = words_of(answer, shown, bytes, &decode(alloc, bytes));
+    let whole = words_of(answer, shown, bytes, &fed_by(alloc, bytes, 4096));
+    let pieces = words_of(answer, shown, bytes, &fed_by(alloc, bytes, 1));
+    answer.put(once.as_str());
+    put_other(answer, "\nwhole ", once.as_str(), whole.as_str());
+    put_other(answer, "\nin pieces ", once.as_str(), pieces.as_str());
+}
+
+// Adds what differs from what came at once.
+fn put_other(answer: &mut Answer, word: &str, once: &str, other: &str) {
+    if once != other {
+        answer.put_all(&[word, other]);
     }
-    Ok(once)
 }
 
 /// What feeding each piece answers, and then the end.
-pub(crate) fn fed(alloc: Global, row: &Row) -> Result<String, Fault> {
-    let mut decoder = Decoder::new(alloc)?;
-    let mut all = bytes_of(alloc, "")?;
-    let mut words = String::new(alloc);
-    for line in row.text(alloc, "pieces")?.lines() {
-        let piece = bytes_of(alloc, line)?;
-        all.append(piece.as_slice())?;
-        match decoder.feed(piece.as_slice()) {
-            Ok(()) => words.push_str("taken\n")?,
-            Err(fault) => {
-                words.push_str(fault_words(alloc, fault)?.as_str())?;
-                words.push_str("\n")?;
-            }
-        }
+pub(crate) fn fed(answer: &mut Answer, row: &Row) {
+    if let Some(decoder) = answer.made(Decoder::new(answer.alloc)) {
+        let pieces = answer.given(row, "pieces");
+        feed_all(answer, decoder, pieces);
     }
-    let end = answer_words(alloc, "", all.as_slice(), decoder.finish())?;
-    words.push_str(end.as_str())?;
-    Ok(words)
+}
+
+fn feed_all(answer: &mut Answer, decoder: Decoder, pieces: &str) {
+    let mut decoder = decoder;
+    let mut all = answer.bytes(b"");
+    for line in pieces.lines() {
+        let piece = bytes_of(answer, line);
+        answer.done(all.append(piece.as_slice()));
+        put_end(answer, "taken", &decoder.feed(piece.as_slice()));
+        answer.put("\n");
+    }
+    put_decoded(answer, "", all.as_slice(), &decoder.finish());
 }
 
 /// How many bytes a scan holds at most and at the end, and what it answers, of a node in so many folders that is fed in
 /// pieces of one byte. Each folder has one entry, with a name of 255 bytes.
-pub(crate) fn scanned(alloc: Global, row: &Row) -> Result<String, Fault> {
-    let mut bytes = bytes_of(alloc, "'CNBT 01")?;
-    let folder = bytes_of(alloc, "'D 00000001 00FF 255*'a")?;
-    for _ in 0..row.number(alloc, "folders")? {
-        bytes.append(folder.as_slice())?;
+pub(crate) fn scanned(answer: &mut Answer, row: &Row) {
+    let mut bytes = bytes_of(answer, "'CNBT 01");
+    let folder = bytes_of(answer, "'D 00000001 00FF 255*'a");
+    let folders = answer.given(row, "folders");
+    for _ in 0..answer.number(folders) {
+        answer.done(bytes.append(folder.as_slice()));
     }
-    bytes.append(bytes_of(alloc, row.text(alloc, "node")?)?.as_slice())?;
-    let mut scan = Scan::new(alloc)?;
-    let mut most = 0;
-    for piece in bytes.as_slice().chunks(1) {
+    let node = bytes_given(answer, row, "node");
+    answer.done(bytes.append(node.as_slice()));
+    if let Some(scan) = answer.made(Scan::new(answer.alloc)) {
+        put_scan(answer, scan, bytes.as_slice());
+    }
+}
+
+fn put_scan(answer: &mut Answer, scan: Scan, bytes: &[u8]) {
+    let (mut scan, mut most) = (scan, 0);
+    for piece in bytes.chunks(1) {
         let _ = scan.feed(piece);
         most = most.max(scan.held());
     }
-    let held = scan.held();
-    let end = scan_end(alloc, scan)?;
-    Ok(format!(in alloc; "holds {most} at most, {held} at the end\n{}", end.as_str())?)
-}
-
-fn scan_end(alloc: Global, scan: Scan) -> Result<String, Fault> {
-    match scan.finish() {
-        Ok(()) => Ok(String::from_str(alloc, "whole")?),
-        Err(fault) => fault_words(alloc, fault),
-    }
+    answer.put("holds ");
+    answer.show(&most);
+    answer.put(" at most, ");
+    answer.show(&scan.held());
+    answer.put(" at the end\n");
+    put_end(answer, "whole", &scan.finish());
 }
 
 /// The events of pieces, and then the end. Each piece is given in as few calls as `size` allows, and told apart by a
 /// line `more`.
-pub(crate) fn events(alloc: Global, row: &Row) -> Result<String, Fault> {
-    let size = row.number(alloc, "size")? as usize;
-    let mut scan = Scan::new(alloc)?;
-    let mut words = String::new(alloc);
-    for line in row.text(alloc, "pieces")?.lines() {
-        let piece = bytes_of(alloc, line)?;
-        for part in piece.as_slice().chunks(size.max(1)) {
-            add_events(alloc, &mut scan, part, &mut words)?;
-        }
-        words.push_str("more\n")?;
+pub(crate) fn events(answer: &mut Answer, row: &Row) {
+    let (size, pieces) = (answer.given(row, "size"), answer.given(row, "pieces"));
+    let size = answer.number(size) as usize;
+    if let Some(scan) = answer.made(Scan::new(answer.alloc)) {
+        put_events(answer, scan, pieces, size.max(1));
     }
-    let end = scan_end(alloc, scan)?;
-    words.push_str(end.as_str())?;
-    Ok(words)
 }
 
-// The events of bytes, or the fault that they end in.
-fn add_events(
-    alloc: Global,
-    scan: &mut Scan,
-    bytes: &[u8],
-    words: &mut String,
-) -> Result<(), Fault> {
+fn put_events(answer: &mut Answer, scan: Scan, pieces: &str, size: usize)
+    requires { 0 < size }
+{
+    let mut scan = scan;
+    for line in pieces.lines() {
+        let piece = bytes_of(answer, line);
+        for part in piece.as_slice().chunks(size) {
+            put_steps(answer, &mut scan, part);
+        }
+        answer.put("more\n");
+    }
+    put_end(answer, "whole", &scan.finish());
+}
+
+// Adds the events of bytes, or the fault that they end in.
+fn put_steps(answer: &mut Answer, scan: &mut Scan, bytes: &[u8]) {
     let mut rest = bytes;
     for _ in 0..4096 {
         if rest.len() > 65536 {
-            return Err(Fault::wrong(alloc, "too long:", "a piece"));
+            answer.wrong("too long:", "a piece");
+            return;
         }
-        let step = match scan.next(rest) {
-            Ok(step) => step,
-            Err(fault) => {
-                words.push_str(fault_words(alloc, fault)?.as_str())?;
-                words.push_str("\n")?;
-                return Ok(());
+        match scan.next(rest) {
+            Ok(step) => {
+                if let Event::More = &step.event {
+                    return;
+                }
+                put_event(answer, &step.event);
+                rest = &rest[step.used as usize..];
             }
-        };
-        if let Event::More = &step.event {
-            return Ok(());
+            Err(fault) => {
+                put_fault(answer, &fault);
+                answer.put("\n");
+                return;
+            }
         }
-        words.push_str(event_words(alloc, &step.event)?.as_str())?;
-        words.push_str("\n")?;
-        rest = &rest[step.used as usize..];
     }
-    Ok(())
 }
 
-fn event_words(alloc: Global, event: &Event) -> Result<String, Fault> {
-    let words = match event {
-        Event::Open { count } => format!(in alloc; "open {count}")?,
-        Event::Name(name) => format!(in alloc; "name {}", name.as_str())?,
-        Event::File { exec, len } if *exec => format!(in alloc; "file {len} [exec]")?,
-        Event::File { exec: _, len } => format!(in alloc; "file {len}")?,
-        Event::Part(count) => format!(in alloc; "part {count}")?,
-        Event::Link(target) => format!(in alloc; "link {}", target.as_str())?,
-        Event::Close => String::from_str(alloc, "close")?,
-        Event::More => String::from_str(alloc, "more")?,
-    };
-    Ok(words)
+fn put_event(answer: &mut Answer, event: &Event) {
+    match event {
+        Event::Open { count } => put_number(answer, "open ", *count as u64),
+        Event::Name(name) => answer.put_all(&["name ", name.as_str()]),
+        Event::File { exec, len } => {
+            put_number(answer, "file ", *len);
+            answer.put(if *exec { " [exec]" } else { "" });
+        }
+        Event::Part(count) => put_number(answer, "part ", *count as u64),
+        Event::Link(target) => answer.put_all(&["link ", target.as_str()]),
+        Event::Close => answer.put("close"),
+        Event::More => answer.put("more"),
+    }
+    answer.put("\n");
 }
 
-fn node_of(alloc: Global, item: Item) -> Result<Node, Fault> {
+fn put_number(answer: &mut Answer, word: &str, number: u64) {
+    answer.put(word);
+    answer.show(&number);
+}
+
+fn node_of(answer: &mut Answer, item: Item) -> Node {
     match item {
-        Item::Folder => Ok(Node::Folder(List::new(alloc))),
-        Item::File { exec, bytes } => Ok(Node::File { exec, bytes }),
-        Item::Link { target } => Ok(Node::Link { target }),
-        Item::Odd => Err(Fault::wrong(alloc, "no node:", "odd")),
+        Item::Folder => Node::Folder(List::new(answer.alloc)),
+        Item::File { exec, bytes } => Node::File { exec, bytes },
+        Item::Link { target } => Node::Link { target },
+        Item::Odd => {
+            answer.wrong("no node:", "odd");
+            Node::Folder(List::new(answer.alloc))
+        }
     }
 }
 
-fn folder_of(alloc: Global, lines: &str) -> Result<Node, Fault> {
-    let mut entries = List::new(alloc);
+fn folder_of(answer: &mut Answer, lines: &str) -> Node {
+    let mut entries = List::new(answer.alloc);
     for line in lines.lines() {
-        let (name, item) = item_of(alloc, line)?;
-        entries.push(named(alloc, name, node_of(alloc, item)?)?)?;
+        let (name, item) = item_of(answer, line);
+        let node = node_of(answer, item);
+        push_node(answer, &mut entries, name, node);
     }
-    Ok(Node::Folder(entries))
+    Node::Folder(entries)
 }
 
-fn named(alloc: Global, name: &str, node: Node) -> Result<Named, Memory> {
-    let name = Text::of(alloc, name)?;
-    Ok(Named { name, node })
+fn push_node(answer: &mut Answer, entries: &mut List<Named>, name: &str, node: Node) {
+    let name = answer.text(name);
+    answer.done(entries.push(Named { name, node }));
 }
 
-fn folder_around(alloc: Global, node: Node) -> Result<Node, Memory> {
-    let mut entries = List::new(alloc);
-    entries.push(named(alloc, "a", node)?)?;
-    Ok(Node::Folder(entries))
+fn folder_around(answer: &mut Answer, node: Node) -> Node {
+    let mut entries = List::new(answer.alloc);
+    push_node(answer, &mut entries, "a", node);
+    Node::Folder(entries)
 }
 
 /// The tree of a folder with these entries, in so many folders.
-pub(crate) fn made(alloc: Global, row: &Row) -> Result<String, Fault> {
-    let mut node = folder_of(alloc, row.text(alloc, "entries")?)?;
-    for _ in 0..row.number(alloc, "folders")? {
-        node = folder_around(alloc, node)?;
+pub(crate) fn made(answer: &mut Answer, row: &Row) {
+    let (entries, folders) = (answer.given(row, "entries"), answer.given(row, "folders"));
+    let mut node = folder_of(answer, entries);
+    for _ in 0..answer.number(folders) {
+        node = folder_around(answer, node);
     }
     match Tree::new(node) {
-        Ok(tree) => Ok(format!(in alloc; "{} bytes", encode(alloc, &tree)?.as_slice().len())?),
-        Err(TreeFault::Unfit) => Ok(String::from_str(alloc, "Unfit")?),
-        Err(TreeFault::Memory) => Err(Fault::Memory),
+        Ok(tree) => put_length(answer, &tree),
+        Err(TreeFault::Unfit) => answer.put("Unfit"),
+        Err(TreeFault::Memory) => answer.run_out(),
+    }
+}
+
+fn put_length(answer: &mut Answer, tree: &Tree) {
+    if let Some(bytes) = answer.made(encode(answer.alloc, tree)) {
+        answer.show(&bytes.as_slice().len());
+        answer.put(" bytes");
     }
 }
 
 /// Whether bytes are fit to be a link's target.
-pub(crate) fn target(alloc: Global, row: &Row) -> Result<String, Fault> {
-    let bytes = bytes_of(alloc, row.text(alloc, "bytes")?)?;
-    Ok(String::from_str(alloc, yes_or_no(is_target(bytes.as_slice())))?)
+pub(crate) fn target(answer: &mut Answer, row: &Row) {
+    let bytes = bytes_given(answer, row, "bytes");
+    answer.put(yes_or_no(is_target(bytes.as_slice())));
 }
 
 /// What bytes are that were kept under the digest of others.
-pub(crate) fn judged(alloc: Global, row: &Row) -> Result<String, Fault> {
-    let bytes = bytes_of(alloc, row.text(alloc, "bytes")?)?;
-    let kept = bytes_of(alloc, row.text(alloc, "kept")?)?;
-    let judged = judge(alloc, &Digest::of(kept.as_slice()), bytes.as_slice())?;
-    match &judged {
-        Judged::Tree(tree) => tree_words(alloc, tree),
-        Judged::Damaged { asked, found, bad } => damage_words(alloc, asked, found, *bad),
+pub(crate) fn judged(answer: &mut Answer, row: &Row) {
+    let bytes = bytes_given(answer, row, "bytes");
+    let kept = bytes_given(answer, row, "kept");
+    match &judge(answer.alloc, &Digest::of(kept.as_slice()), bytes.as_slice()) {
+        Ok(Judged::Tree(tree)) => put_tree(answer, tree),
+        Ok(Judged::Damaged { asked, found, bad }) => put_damage(answer, asked, found, *bad),
+        Err(Memory) => answer.run_out(),
     }
 }
 
 /// The digest of bytes, and whether it is that of others.
-pub(crate) fn digest(alloc: Global, row: &Row) -> Result<String, Fault> {
-    let bytes = bytes_of(alloc, row.text(alloc, "bytes")?)?;
-    let other = bytes_of(alloc, text_or_none(row, "other"))?;
-    let (digest, other) = (Digest::of(bytes.as_slice()), Digest::of(other.as_slice()));
-    let text = digest.text(alloc)?;
-    let same = yes_or_no(digest.same(&other));
-    Ok(format!(in alloc; "{}\nsame as the other: {same}", text.as_str())?)
+pub(crate) fn digest(answer: &mut Answer, row: &Row) {
+    let bytes = bytes_given(answer, row, "bytes");
+    let other = bytes_of(answer, text_or_none(row, "other"));
+    let digest = Digest::of(bytes.as_slice());
+    put_digest(answer, "", &digest);
+    answer.put("\nsame as the other: ");
+    answer.put(yes_or_no(digest.same(&Digest::of(other.as_slice()))));
 }
 
 /// The digest that a text is.
-pub(crate) fn digest_read(alloc: Global, row: &Row) -> Result<String, Fault> {
-    let Some(digest) = Digest::parse(row.text(alloc, "text")?) else {
-        return Ok(String::from_str(alloc, "no digest")?);
-    };
-    let text = Digest::from_bytes(*digest.bytes()).text(alloc)?;
-    Ok(String::from_str(alloc, text.as_str())?)
+pub(crate) fn digest_read(answer: &mut Answer, row: &Row) {
+    match Digest::parse(answer.given(row, "text")) {
+        Some(digest) => put_digest(answer, "", &Digest::from_bytes(*digest.bytes())),
+        None => answer.put("no digest"),
+    }
 }

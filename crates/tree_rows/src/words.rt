@@ -1,7 +1,5 @@
 // What answers are in words.
-use crate::fault::Fault;
-use cnb_world::Path;
-use std::alloc::Global;
+use row_files::Answer;
 use std::str;
 use tree_canon::{Digest, Named, Node, Reason, Tree};
 
@@ -10,109 +8,79 @@ pub(crate) fn yes_or_no(truth: bool) -> &'static str {
     if truth { "yes" } else { "no" }
 }
 
-/// The text that bytes are, and else their hexadecimal digits.
-pub(crate) fn text_of(alloc: Global, bytes: &[u8]) -> Result<String, Fault> {
+/// Adds the text that bytes are, and else their hexadecimal digits.
+pub(crate) fn put_bytes(answer: &mut Answer, bytes: &[u8]) {
     match str::from_utf8(bytes) {
-        Ok(text) => Ok(String::from_str(alloc, text)?),
-        Err(_) => Ok(format!(in alloc; "bytes {}", hex::encode(alloc, bytes)?)?),
+        Ok(text) => answer.put(text),
+        Err(_) => {
+            answer.put("bytes ");
+            put_digits(answer, bytes);
+        }
     }
 }
 
-/// A refusal that speaks of a path.
-pub(crate) fn path_words(alloc: Global, refusal: &str, path: &Path) -> Result<String, Fault> {
-    Ok(format!(in alloc; "{refusal} {}", path.as_str())?)
+fn put_digits(answer: &mut Answer, bytes: &[u8]) {
+    match hex::encode(answer.alloc, bytes) {
+        Ok(digits) => answer.put(digits.as_str()),
+        Err(_) => answer.run_out(),
+    }
 }
 
-/// A refusal that speaks of a digest.
-pub(crate) fn digest_words(alloc: Global, refusal: &str, digest: &Digest) -> Result<String, Fault> {
-    Ok(format!(in alloc; "{refusal} {}", digest.text(alloc)?.as_str())?)
+/// Adds a word and a digest.
+pub(crate) fn put_digest(answer: &mut Answer, word: &str, digest: &Digest) {
+    answer.put(word);
+    answer.put_made(digest.text(answer.alloc));
 }
 
-/// Bytes that are damaged: the digest that they were kept under, their own, and why they spell no tree.
-pub(crate) fn damage_words(
-    alloc: Global,
-    asked: &Digest,
-    found: &Digest,
-    bad: Option<Reason>,
-) -> Result<String, Fault> {
-    let (asked, found) = (asked.text(alloc)?, found.text(alloc)?);
-    let (asked, found) = (asked.as_str(), found.as_str());
-    Ok(match bad {
-        Some(reason) => format!(in alloc; "Damaged asked {asked}\nfound {found}\n{reason:?}")?,
-        None => format!(in alloc; "Damaged asked {asked}\nfound {found}")?,
-    })
+/// Adds what is told of damaged bytes: the digest that they were kept under, their own, and why they spell no tree.
+pub(crate) fn put_damage(answer: &mut Answer, asked: &Digest, found: &Digest, bad: Option<Reason>) {
+    put_digest(answer, "Damaged asked ", asked);
+    put_digest(answer, "\nfound ", found);
+    if let Some(reason) = bad {
+        answer.put("\n");
+        answer.debug(&reason);
+    }
 }
 
-/// A tree, an entry a line. Its root is `.`.
-pub(crate) fn tree_words(alloc: Global, tree: &Tree) -> Result<String, Fault> {
-    let mut words = String::new(alloc);
-    put_node(alloc, &mut words, ".", tree.node())?;
-    Ok(words)
+/// Adds a tree, an entry a line. Its root is `.`.
+pub(crate) fn put_tree(answer: &mut Answer, tree: &Tree) {
+    put_node(answer, ".", tree.node());
 }
 
-fn put_text(alloc: Global, words: &mut String, bytes: &[u8]) -> Result<(), Fault> {
+fn put_contents(answer: &mut Answer, bytes: &[u8]) {
     if !bytes.is_empty() {
-        words.push_str(" ")?;
-        words.push_str(text_of(alloc, bytes)?.as_str())?;
+        answer.put(" ");
+        put_bytes(answer, bytes);
     }
-    Ok(())
 }
 
 #[cycle(words)]
-fn put_node(alloc: Global, words: &mut String, path: &str, node: &Node) -> Result<(), Fault> {
+fn put_node(answer: &mut Answer, path: &str, node: &Node) {
     match node {
         Node::Folder(entries) => {
-            put(alloc, words, "folder", path, "")?;
-            put_entries(alloc, words, path, entries.as_slice())
+            answer.put_all(&["folder ", path]);
+            put_entries(answer, path, entries.as_slice());
         }
         Node::File { exec, bytes } => {
-            put(
-                alloc,
-                words,
-                "file",
-                path,
-                if *exec { " [exec]" } else { "" },
-            )?;
-            put_text(alloc, words, bytes.as_slice())
+            answer.put_all(&["file ", path, if *exec { " [exec]" } else { "" }]);
+            put_contents(answer, bytes.as_slice());
         }
-        Node::Link { target } => {
-            put(alloc, words, "link", path, " -> ")?;
-            Ok(words.push_str(target.as_str())?)
-        }
+        Node::Link { target } => answer.put_all(&["link ", path, " -> ", target.as_str()]),
     }
 }
 
 #[cycle(words)]
-fn put_entries(
-    alloc: Global,
-    words: &mut String,
-    folder: &str,
-    entries: &[Named],
-) -> Result<(), Fault> {
+fn put_entries(answer: &mut Answer, folder: &str, entries: &[Named]) {
     for entry in entries {
-        put_entry(alloc, words, folder, entry)?;
+        answer.put("\n");
+        let path = path_in(answer, folder, entry.name.as_str());
+        put_node(answer, path.as_str(), &entry.node);
     }
-    Ok(())
 }
 
-#[cycle(words)]
-fn put_entry(alloc: Global, words: &mut String, folder: &str, entry: &Named) -> Result<(), Fault> {
-    let name = entry.name.as_str();
-    let path = match folder {
-        "." => String::from_str(alloc, name)?,
-        _ => format!(in alloc; "{folder}/{name}")?,
-    };
-    words.push_str("\n")?;
-    put_node(alloc, words, path.as_str(), &entry.node)
-}
-
-fn put(
-    alloc: Global,
-    words: &mut String,
-    kind: &str,
-    path: &str,
-    after: &str,
-) -> Result<(), Fault> {
-    let line = format!(in alloc; "{kind} {path}{after}")?;
-    Ok(words.push_str(line.as_str())?)
+fn path_in(answer: &mut Answer, folder: &str, name: &str) -> String {
+    match folder {
+        "." => answer.joined(&[name]),
+        _ => answer.joined(&[folder, "/", name]),
+    }
 }
