@@ -1,5 +1,5 @@
 -- The end of the command that was asked for.
-use Rattle.std.proofs.Common.{◌≡◌, ◌∙◌, refl, sym, ap, subst, ℕ, List, Bool, true, false, Option, Some, None, Result, Ok, Err}
+use Rattle.std.proofs.Common.{◌≡◌, ◌∙◌, refl, sym, ap, subst, ℕ, List, true, false, Option, Some, None, Result, Ok, Err}
 use Rattle.std.specs.Prelude.{IfErr, IfOk}
 use Rattle.cnb_world.specs.declared.env.Variable.{Variable}
 use Rattle.cnb_words.specs.declared.words.Asked.{Asked}
@@ -14,7 +14,7 @@ use Rattle.cnb_lifecycle.specs.declared.answer.Answer.{Answer}
 use Rattle.cnb_lifecycle.specs.declared.refusal.Refusal.{Refusal}
 use Rattle.cnb_lifecycle.specs.declared.refusal.Refusal.TheVariants.{Memory}
 use Rattle.cnb_lifecycle.specs.declared.status.Status.{Status}
-use Rattle.cnb_lifecycle.specs.Commands.{On, after_words, asked_of, does, options_in, refusal_of, uses_caches}
+use Rattle.cnb_lifecycle.specs.Commands.{On, after_words, asked_of, does, refusal_of, uses_caches}
 use Rattle.cnb_lifecycle.specs.Ends.{CountsChild, Ends}
 use Rattle.cnb_lifecycle.specs.Faults.{cause_of}
 use Rattle.cnb_lifecycle.specs.Printing.{Finishes}
@@ -74,18 +74,6 @@ pub early_does : (asked : Result Asked Refusal) (env : List Variable) (refusal :
 early_does (Ok command) env refusal outside shelves all answer cause = (all, unread command (does command env) refusal _ answer cause)
 early_does (Err want) env refusal outside shelves all answer cause = tt
 
--- where there is a command
-on_command : {O : Type 0} (o : Option O) (P : O → Type 0) → ((options : O) → P options) → On o P
-on_command None P h = tt
-on_command (Some options) P h = h options
-
-pub early_choice : {O : Type 0} (options_of : Asked → Option O) (asked : Result Asked Refusal) (step : O → Step) (refusal : Refusal) (outside : Outside) (shelves : List ShelfState) (all : List ℕ)
-    → IsAnswer {A = Asked} cause_of (Err refusal) asked → IsGivenCause (cause_of refusal)
-    → On (options_in options_of asked) (λ options. Did (after_words (step options)) (surroundings outside (caches_of shelves all)) (Err refusal) outside shelves)
-early_choice options_of (Ok command) step refusal outside shelves all answer cause =
-    on_command (options_of command) (λ options. Did (after_words (step options)) (surroundings outside (caches_of shelves all)) (Err refusal) outside shelves) (λ options. (all, unread command (step options) refusal _ answer cause))
-early_choice options_of (Err want) step refusal outside shelves all answer cause = tt
-
 pub early_idle : (asked : Result Asked Refusal) (P Q R : Type 0) → P → Q → R → On (refusal_of asked) (λ refusal. P × Q × R)
 early_idle (Ok asked) P Q R p q r = tt
 early_idle (Err refusal) P Q R p q r = (p, q, r)
@@ -111,15 +99,6 @@ module _ (places all : List ℕ) (stand : places ≡ all) (outside after : Outsi
       → asked ≡ Ok command → does command env (before places) result (surroundings after (caches_of left standing)) → On (asked_of asked) (λ a. Did (after_words (does a env)) (before all) result after left)
   begun asked command env is did =
       subst (λ a. On (asked_of a) (λ c. Did (after_words (does c env)) (before all) result after left)) (sym is) (begun_so (does command env) did)
-
-  choice_then : {O : Type 0} (o : Option O) (step : O → Step) → On o (λ options. step options (before places) result (surroundings after (caches_of left standing))) → On o (λ options. Did (after_words (step options)) (before all) result after left)
-  choice_then None step did = tt
-  choice_then (Some options) step did = begun_so (step options) did
-
-  pub choice_begun : {O : Type 0} (options_of : Asked → Option O) (asked : Result Asked Refusal) (command : Asked) (step : O → Step)
-      → asked ≡ Ok command → On (options_of command) (λ options. step options (before places) result (surroundings after (caches_of left standing))) → On (options_in options_of asked) (λ options. Did (after_words (step options)) (before all) result after left)
-  choice_begun options_of asked command step is did =
-      subst (λ a. On (options_in options_of a) (λ options. Did (after_words (step options)) (before all) result after left)) (sym is) (choice_then (options_of command) step did)
 
 -- steps over the world and the spawners leave the caches
 pub lifted_outside : (step : Outside → Result Answer Refusal → Outside → Type 0) (old new : Outside) (caches : Caches) (result : Result Answer Refusal) → step old result new
@@ -152,10 +131,6 @@ known want (Err refusal) old ok err = no_memory cause_of (Ok want) old refusal (
 -- a command that uses caches may change them
 pub busy : (asked command : Asked) (X : Type 0) → asked ≡ command → uses_caches command ≡ true → (uses_caches asked ≡ false) → X
 busy asked command X is uses quiet = let never : true ≡ false = sym uses ∙ (ap uses_caches (sym is) ∙ quiet) in absurd (cc)
-
-pub choice_arm : {O : Type 0} (options_of : Asked → Option O) (asked command : Asked) (options : O) (step : O → Step) (old new : Surroundings) (result : Result Answer Refusal)
-    → asked ≡ command → options_of command ≡ Some options → step options old result new → On (options_of asked) (λ o. step o old result new)
-choice_arm options_of asked command options step old new result is has h = subst (λ o. On o (λ x. step x old result new)) (sym (ap options_of is ∙ has)) h
 
 -- what holds of every command
 pub early_shelves : (asked : Result Asked Refusal) (X : Type 0) → X → On (asked_of asked) (λ command. (uses_caches command ≡ false) → X)

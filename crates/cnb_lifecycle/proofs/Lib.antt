@@ -3,11 +3,13 @@ pub mod CommandLemmas
 pub mod CountLaws
 pub mod DetectingLemmas
 pub mod EndLemmas
-pub mod KeepLemmas
+pub mod KeepLaws
 pub mod SinkLemmas
+pub mod OutcomeLaws
 pub mod PhaseLemmas
 pub mod NumberLemmas
 pub mod TellingLemmas
 pub mod LeaveLemmas
 pub mod VerifiedLaws
+pub mod WordLaws
 mod LineLemmas

@@ -1,5 +1,5 @@
 // What the commands do that use caches, with their refusals as the lifecycle's.
-ghost use Rattle.std.specs.Prelude.{◌<◌, ◌^◌, List as Seq, ℕ, OnErr, length, map};
+ghost use Rattle.std.specs.Prelude.{◌<◌, ◌^◌, List as Seq, ℕ, length, map};
 ghost use Rattle.cnb_words.specs.Create as create_words;
 ghost use Rattle.cnb_words.specs.Export as export_words;
 ghost use Rattle.cnb_words.specs.Restore as restore_words;
@@ -8,13 +8,11 @@ ghost use Rattle.shelf_set.specs.Dropping.{AreStanding};
 ghost use Rattle.shelf_set.specs.ShelfState.{state_of};
 ghost use Rattle.steps.specs.Outside.{faults_of, outside, seen, spawners_seen};
 ghost use Rattle.cnb_create.specs.Creates.{creates};
-ghost use Rattle.cnb_create.specs.Headline.{ComesToImage};
 ghost use Rattle.cnb_create.specs.Surroundings.{shelf_seen, surroundings};
 ghost use Rattle.cnb_export.specs.Command.{exports_command};
 ghost use Rattle.cnb_restore.specs.Commands.{restores_command};
 ghost use Rattle.cnb_lifecycle.specs.Ends.{CountsChild};
 ghost use Rattle.cnb_lifecycle.specs.Faults.{cause_of};
-ghost use Rattle.cnb_lifecycle.specs.Keeping.{KeepsCreated};
 ghost use Rattle.cnb_lifecycle.specs.PhaseFaults.{of_create, of_export, of_restore_refusal};
 ghost use Rattle.cnb_lifecycle.specs.Telling.{tells};
 
@@ -92,13 +90,6 @@ pub(crate) fn run_create<W: World, S: Spawner + Send, R: Threads + Sync>(
         result
         (surroundings (outside W.World S.Spawner world.new spawners.new.items)
         (caches_of (map (λ s. shelf_seen (⟦<dyn Shelf as Shelf>⟧ s.vtable) s.value) shelves.new.items) places.new)) }
-    ensures headline { tells Answer.Printed of_create (ComesToImage options.now env.now)
-        (surroundings (outside W.World S.Spawner world.old spawners.old.items)
-        (caches_of (map (λ s. shelf_seen (⟦<dyn Shelf as Shelf>⟧ s.vtable) s.value) shelves.old.items) places.old))
-        result
-        (surroundings (outside W.World S.Spawner world.new spawners.new.items)
-        (caches_of (map (λ s. shelf_seen (⟦<dyn Shelf as Shelf>⟧ s.vtable) s.value) shelves.new.items) places.new)) }
-    ensures image { OnErr result (KeepsCreated options.now (seen W.World world.old) (seen W.World world.new)) }
 {
     let text = create_command(rt, alloc, options, env, world, spawners, shelves, places)?;
     Ok(Answer::Printed(text))

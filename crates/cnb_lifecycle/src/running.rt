@@ -20,7 +20,7 @@ ghost use Rattle.cnb_record.specs.Checks.{checks};
 ghost use Rattle.cnb_restore.specs.Commands.{analyzes_command};
 ghost use Rattle.store_prune.specs.Prunes.{prunes_command};
 ghost use Rattle.store_prune.specs.Verifies.{verifies_command};
-ghost use Rattle.cnb_lifecycle.specs.Detecting.{comes_into, detects_into, detects_words, ComesToWords};
+ghost use Rattle.cnb_lifecycle.specs.Detecting.{detects_into, detects_words};
 ghost use Rattle.cnb_lifecycle.specs.Ends.{CountsChild};
 ghost use Rattle.cnb_lifecycle.specs.Faults.{cause_of, of_detect};
 ghost use Rattle.cnb_lifecycle.specs.PhaseFaults.{of_base, of_build, of_check, of_image, of_prune, of_rebase, of_restore, of_verify};
@@ -57,10 +57,6 @@ fn run_choice<W: World, S: Spawner + Send, R: Threads + Sync>(
         (outside W.World S.Spawner world.old spawners.old.items)
         result
         (outside W.World S.Spawner world.new spawners.new.items) }
-    ensures outcome { tells Answer.Printed of_detect (comes_into None options.now env.now)
-        (outside W.World S.Spawner world.old spawners.old.items)
-        result
-        (outside W.World S.Spawner world.new spawners.new.items) }
 {
     let text = detect(rt, alloc, options, env, world, spawners)?;
     Ok(Answer::Printed(text))
@@ -83,10 +79,6 @@ fn run_recorded<W: World, S: Spawner + Send, R: Threads + Sync>(
         (outside W.World S.Spawner world.old spawners.old.items)
         result
         (outside W.World S.Spawner world.new spawners.new.items) }
-    ensures outcome { tells Answer.Printed of_detect (comes_into (Some path.now) options.now env.now)
-        (outside W.World S.Spawner world.old spawners.old.items)
-        result
-        (outside W.World S.Spawner world.new spawners.new.items) }
 {
     let text = detect_recorded(rt, alloc, options, path, env, world, spawners)?;
     Ok(Answer::Printed(text))
@@ -104,10 +96,6 @@ pub(crate) fn run_detect<W: World, S: Spawner + Send, R: Threads + Sync>(
     requires limits { KeepsLimits options.now }
     requires spawners { 0 < length spawners.old.items }
     ensures steps { tells Answer.Printed of_detect (detects_words options.now env.now)
-        (outside W.World S.Spawner world.old spawners.old.items)
-        result
-        (outside W.World S.Spawner world.new spawners.new.items) }
-    ensures outcome { tells Answer.Printed of_detect (ComesToWords options.now env.now)
         (outside W.World S.Spawner world.old spawners.old.items)
         result
         (outside W.World S.Spawner world.new spawners.new.items) }

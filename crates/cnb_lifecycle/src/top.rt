@@ -1,5 +1,5 @@
 // The top call.
-ghost use Rattle.std.specs.Prelude.{◌≡◌, ◌<◌, ◌^◌, false, Err, List as Seq, ℕ, OnErr, length, map, string_bytes};
+ghost use Rattle.std.specs.Prelude.{◌≡◌, ◌<◌, ◌^◌, false, Err, List as Seq, ℕ, length, map, string_bytes};
 ghost use Rattle.std.specs.List.{range_with_len};
 ghost use Rattle.cnb_words.specs.Words.{AsksWithinLimits};
 ghost use Rattle.steps.specs.Outside.{faults_of, outside, seen, spawners_seen};
@@ -10,7 +10,7 @@ ghost use Rattle.cnb_lifecycle.specs.Commands.{after_words, asked_of, command_in
 ghost use Rattle.cnb_lifecycle.specs.Detecting.{ComesToWords};
 ghost use Rattle.cnb_lifecycle.specs.Ends.{CauseOfChild, CauseOfFile, Ends};
 ghost use Rattle.cnb_lifecycle.specs.Faults.{cause_of, of_detect};
-ghost use Rattle.cnb_lifecycle.specs.Keeping.{KeepsCreated, OnRefusal};
+ghost use Rattle.cnb_lifecycle.specs.Keeping.{KeepsImage, OnRefusal};
 ghost use Rattle.cnb_lifecycle.specs.Leaving.{LeavesImage, OnDone};
 ghost use Rattle.cnb_lifecycle.specs.Printing.{CountsOutput};
 ghost use Rattle.cnb_create.specs.Headline.{ComesToImage};
@@ -59,22 +59,6 @@ fn run_asked<W: World, S: Spawner + Send, R: Threads + Sync>(
         result
         (surroundings (outside W.World S.Spawner world.new spawners.new.items)
         (caches_of (map (λ s. shelf_seen (⟦<dyn Shelf as Shelf>⟧ s.vtable) s.value) shelves.new.items) places.new)) }
-    ensures outcome { On (options_of_detect asked.now) (λ options.
-        over_outside (tells Answer.Printed of_detect (ComesToWords options env.now))
-        (surroundings (outside W.World S.Spawner world.old spawners.old.items)
-        (caches_of (map (λ s. shelf_seen (⟦<dyn Shelf as Shelf>⟧ s.vtable) s.value) shelves.old.items) places.old))
-        result
-        (surroundings (outside W.World S.Spawner world.new spawners.new.items)
-        (caches_of (map (λ s. shelf_seen (⟦<dyn Shelf as Shelf>⟧ s.vtable) s.value) shelves.new.items) places.new))) }
-    ensures headline { On (options_of_create asked.now) (λ options.
-        tells Answer.Printed of_create (ComesToImage options env.now)
-        (surroundings (outside W.World S.Spawner world.old spawners.old.items)
-        (caches_of (map (λ s. shelf_seen (⟦<dyn Shelf as Shelf>⟧ s.vtable) s.value) shelves.old.items) places.old))
-        result
-        (surroundings (outside W.World S.Spawner world.new spawners.new.items)
-        (caches_of (map (λ s. shelf_seen (⟦<dyn Shelf as Shelf>⟧ s.vtable) s.value) shelves.new.items) places.new))) }
-    ensures image { On (options_of_create asked.now) (λ options.
-        OnErr result (KeepsCreated options (seen W.World world.old) (seen W.World world.new))) }
     ensures shelves { (uses_caches asked.now ≡ false) → (shelves.new.items ≡ shelves.old.items) }
 {
     match asked {
@@ -127,25 +111,6 @@ fn run_words<W: World, S: Spawner + Send, R: Threads + Sync>(
         result
         (surroundings (outside W.World S.Spawner world.new spawners.new.items)
         (caches_of (map (λ s. shelf_seen (⟦<dyn Shelf as Shelf>⟧ s.vtable) s.value) shelves.new.items) standing))) }
-    ensures outcome { let all = range_with_len 0 (length shelves.old.items) in
-        On (options_in options_of_detect (command_in (map string_bytes words.now) env.now)) (λ options.
-        (standing : Seq ℕ) × after_words
-        (over_outside (tells Answer.Printed of_detect (ComesToWords options env.now)))
-        (surroundings (outside W.World S.Spawner world.old spawners.old.items)
-        (caches_of (map (λ s. shelf_seen (⟦<dyn Shelf as Shelf>⟧ s.vtable) s.value) shelves.old.items) all))
-        result
-        (surroundings (outside W.World S.Spawner world.new spawners.new.items)
-        (caches_of (map (λ s. shelf_seen (⟦<dyn Shelf as Shelf>⟧ s.vtable) s.value) shelves.new.items) standing))) }
-    ensures headline { let all = range_with_len 0 (length shelves.old.items) in
-        On (options_in options_of_create (command_in (map string_bytes words.now) env.now)) (λ options.
-        (standing : Seq ℕ) × after_words (tells Answer.Printed of_create (ComesToImage options env.now))
-        (surroundings (outside W.World S.Spawner world.old spawners.old.items)
-        (caches_of (map (λ s. shelf_seen (⟦<dyn Shelf as Shelf>⟧ s.vtable) s.value) shelves.old.items) all))
-        result
-        (surroundings (outside W.World S.Spawner world.new spawners.new.items)
-        (caches_of (map (λ s. shelf_seen (⟦<dyn Shelf as Shelf>⟧ s.vtable) s.value) shelves.new.items) standing))) }
-    ensures image { On (options_in options_of_create (command_in (map string_bytes words.now) env.now)) (λ options.
-        OnErr result (KeepsCreated options (seen W.World world.old) (seen W.World world.new))) }
     ensures shelves { On (asked_of (command_in (map string_bytes words.now) env.now)) (λ asked.
         (uses_caches asked ≡ false) → (shelves.new.items ≡ shelves.old.items)) }
 {
@@ -219,10 +184,10 @@ pub fn lifecycle<W: World, S: Spawner + Send, O: Sink, R: Threads + Sync>(
         (outside W.World S.Spawner world.new spawners.new.items)
         (map (λ s. shelf_seen (⟦<dyn Shelf as Shelf>⟧ s.vtable) s.value) shelves.new.items)
         result (O.taken out.old) (O.taken out.new)) }
-    // Where `create` is refused, the image's document is as it was, if its path is apart from all else that is written
-    // and the build children left it.
-    ensures image { On (options_in options_of_create (command_in (map string_bytes words.now) env.now)) (λ options.
-        OnRefusal result (KeepsCreated options (seen W.World world.old) (seen W.World world.new))) }
+    // Where `export`, `create`, `rebase` or `base` is refused, the document that it writes is as it was: of `create` if
+    // its path is apart from all else that is written and the build children left it.
+    ensures image { On (asked_of (command_in (map string_bytes words.now) env.now)) (λ asked.
+        OnRefusal result (KeepsImage asked (seen W.World world.old) (seen W.World world.new))) }
     // Where `export`, `create`, `rebase` or `base` is done, the document that it wrote stands and can be read.
     ensures stands { On (asked_of (command_in (map string_bytes words.now) env.now)) (λ asked.
         OnDone result (LeavesImage asked (W.tree world.new))) }

@@ -1,22 +1,6 @@
 use Rattle.std.proofs.Common.{refl}
-use Rattle.std.specs.Prelude.{OnErr}
-use Rattle.cnb_create.specs.Headline.{ComesToImage}
-use Rattle.cnb_lifecycle.specs.Commands.{options_of_create, options_of_detect}
-use Rattle.cnb_lifecycle.specs.Detecting.{ComesToWords}
-use Rattle.cnb_lifecycle.specs.Faults.{of_detect}
-use Rattle.cnb_lifecycle.specs.Keeping.{KeepsCreated}
-use Rattle.cnb_lifecycle.specs.PhaseFaults.{of_create}
-use Rattle.cnb_create.specs.Surroundings.{over_outside}
-use Rattle.cnb_lifecycle.specs.Telling.{tells}
-use Rattle.steps.specs.Outside.{seen}
-use Rattle.cnb_lifecycle.specs.declared.answer.Answer.TheVariants.{Printed}
-use Rattle.cnb_lifecycle.proofs.EndLemmas.{arm, busy, choice_arm, known, lifted_caches, lifted_outside, lifted_world}
-use Rattle.cnb_lifecycle.proofs.KeepLemmas.{asked_for}
+use Rattle.cnb_lifecycle.proofs.EndLemmas.{arm, busy, known, lifted_caches, lifted_outside, lifted_world}
 use Rattle.cnb_lifecycle.proofs.top.run_asked.Goals as goal
-
-pub returns-in-Detect-clause-outcome : goal.returns-in-Detect-clause-outcome
-returns-in-Detect-clause-outcome g c =
-    choice_arm options_of_detect _ _ _ (λ options. over_outside (tells Printed of_detect (ComesToWords options c.args.env.now))) _ _ _ c.in-Detect.is refl (lifted_outside _ _ _ _ _ c.run_detect.ensures.outcome)
 
 pub returns-in-Detect-clause-does : goal.returns-in-Detect-clause-does
 returns-in-Detect-clause-does g c = arm _ _ _ _ _ _ c.in-Detect.is (lifted_outside _ _ _ _ _ c.run_detect.ensures.steps)
@@ -71,11 +55,3 @@ returns-in-Create-clause-does g c = arm _ _ _ _ _ _ c.in-Create.is c.run_create.
 
 pub returns-in-Create-clause-shelves : goal.returns-in-Create-clause-shelves
 returns-in-Create-clause-shelves g c = busy _ _ _ c.in-Create.is refl
-
-pub returns-in-Create-clause-headline : goal.returns-in-Create-clause-headline
-returns-in-Create-clause-headline g c =
-    choice_arm options_of_create _ _ _ (λ options. tells Printed of_create (ComesToImage options c.args.env.now)) _ _ _ c.in-Create.is refl c.run_create.ensures.headline
-
-pub returns-in-Create-clause-image : goal.returns-in-Create-clause-image
-returns-in-Create-clause-image g c =
-    asked_for options_of_create _ _ _ (λ options. OnErr c.run_create.result (KeepsCreated options (seen g.W.World c.args.world.now) (seen g.W.World c.run_create.new.world))) c.in-Create.is refl c.run_create.ensures.image

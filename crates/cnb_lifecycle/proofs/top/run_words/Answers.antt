@@ -1,20 +1,7 @@
 use Rattle.std.proofs.Common.{◌∙◌, ap, refl}
 use Rattle.std.specs.List.{range_with_len}
-use Rattle.std.specs.Prelude.{OnErr}
 use Rattle.std.proofs.lemmas.Result.{err_from_is_err_and}
-use Rattle.steps.specs.Causes.{OutOfMemory}
-use Rattle.cnb_create.specs.Headline.{ComesToImage}
-use Rattle.cnb_lifecycle.specs.Commands.{options_of_create, options_of_detect}
-use Rattle.cnb_lifecycle.specs.Detecting.{ComesToWords}
-use Rattle.cnb_lifecycle.specs.Faults.{of_detect}
-use Rattle.cnb_lifecycle.specs.Keeping.{KeepsCreated}
-use Rattle.cnb_lifecycle.specs.PhaseFaults.{of_create}
-use Rattle.cnb_create.specs.Surroundings.{over_outside}
-use Rattle.cnb_lifecycle.specs.Telling.{tells}
-use Rattle.steps.specs.Outside.{seen}
-use Rattle.cnb_lifecycle.specs.declared.answer.Answer.TheVariants.{Printed}
-use Rattle.cnb_lifecycle.proofs.EndLemmas.{begun, choice_begun, early_choice, early_does, early_idle, early_refused, early_shelves, kept_shelves, not_refused}
-use Rattle.cnb_lifecycle.proofs.KeepLemmas.{nothing_done, words_ask}
+use Rattle.cnb_lifecycle.proofs.EndLemmas.{begun, early_does, early_idle, early_refused, early_shelves, kept_shelves, not_refused}
 use Rattle.cnb_lifecycle.proofs.NumberLemmas.{all_stand}
 use Rattle.cnb_lifecycle.proofs.top.run_words.Goals as goal
 
@@ -34,16 +21,6 @@ returns-in_err-places-clause-does g c =
     let exit = err_from_is_err_and c.from_residual.result c.from_residual.ensures.1 in
     rw (exit.1, exit.2) (early_does _ _ _ _ _ _ tt tt)
 
-pub returns-in_err-places-clause-outcome : goal.returns-in_err-places-clause-outcome
-returns-in_err-places-clause-outcome g c =
-    let exit = err_from_is_err_and c.from_residual.result c.from_residual.ensures.1 in
-    rw (exit.1, exit.2) (early_choice options_of_detect _ (λ options. over_outside (tells Printed of_detect (ComesToWords options c.args.env.now))) _ _ _ _ tt tt)
-
-pub returns-in_err-places-clause-headline : goal.returns-in_err-places-clause-headline
-returns-in_err-places-clause-headline g c =
-    let exit = err_from_is_err_and c.from_residual.result c.from_residual.ensures.1 in
-    rw (exit.1, exit.2) (early_choice options_of_create _ (λ options. tells Printed of_create (ComesToImage options c.args.env.now)) _ _ _ _ tt tt)
-
 pub returns-in_err-places-clause-shelves : goal.returns-in_err-places-clause-shelves
 returns-in_err-places-clause-shelves g c = early_shelves _ _ refl
 
@@ -60,16 +37,6 @@ returns-in_err-asked-clause-does g c =
     let exit = err_from_is_err_and c.from_residual-in_err-asked.result c.from_residual-in_err-asked.ensures.1 in
     rw (exit.1, exit.2) (early_does _ _ _ _ _ _ c.in_err-asked.ensures.command c.in_err-asked.ensures.cause)
 
-pub returns-in_err-asked-clause-outcome : goal.returns-in_err-asked-clause-outcome
-returns-in_err-asked-clause-outcome g c =
-    let exit = err_from_is_err_and c.from_residual-in_err-asked.result c.from_residual-in_err-asked.ensures.1 in
-    rw (exit.1, exit.2) (early_choice options_of_detect _ (λ options. over_outside (tells Printed of_detect (ComesToWords options c.args.env.now))) _ _ _ _ c.in_err-asked.ensures.command c.in_err-asked.ensures.cause)
-
-pub returns-in_err-asked-clause-headline : goal.returns-in_err-asked-clause-headline
-returns-in_err-asked-clause-headline g c =
-    let exit = err_from_is_err_and c.from_residual-in_err-asked.result c.from_residual-in_err-asked.ensures.1 in
-    rw (exit.1, exit.2) (early_choice options_of_create _ (λ options. tells Printed of_create (ComesToImage options c.args.env.now)) _ _ _ _ c.in_err-asked.ensures.command c.in_err-asked.ensures.cause)
-
 pub returns-in_err-asked-clause-shelves : goal.returns-in_err-asked-clause-shelves
 returns-in_err-asked-clause-shelves g c = early_shelves _ _ refl
 
@@ -82,23 +49,5 @@ returns-clause-idle g c = not_refused _ _ _ c.in_ok-asked.ensures.command
 pub returns-clause-does : goal.returns-clause-does
 returns-clause-does g c = begun _ _ (c.in_ok-places.ensures ∙ ap (range_with_len 0) (c.len.ensures ∙ c.args.shelves.now.ok.0)) _ _ _ _ _ _ _ _ _ c.in_ok-asked.ensures.command c.run_asked.ensures.does
 
-pub returns-clause-outcome : goal.returns-clause-outcome
-returns-clause-outcome g c =
-    choice_begun _ _ (c.in_ok-places.ensures ∙ ap (range_with_len 0) (c.len.ensures ∙ c.args.shelves.now.ok.0)) _ _ _ _ _ _ options_of_detect _ _ (λ options. over_outside (tells Printed of_detect (ComesToWords options c.args.env.now))) c.in_ok-asked.ensures.command c.run_asked.ensures.outcome
-
-pub returns-clause-headline : goal.returns-clause-headline
-returns-clause-headline g c =
-    choice_begun _ _ (c.in_ok-places.ensures ∙ ap (range_with_len 0) (c.len.ensures ∙ c.args.shelves.now.ok.0)) _ _ _ _ _ _ options_of_create _ _ (λ options. tells Printed of_create (ComesToImage options c.args.env.now)) c.in_ok-asked.ensures.command c.run_asked.ensures.headline
-
 pub returns-clause-shelves : goal.returns-clause-shelves
 returns-clause-shelves g c = kept_shelves _ _ _ c.in_ok-asked.ensures.command c.run_asked.ensures.shelves
-
-pub returns-in_err-places-clause-image : goal.returns-in_err-places-clause-image
-returns-in_err-places-clause-image g c = nothing_done _ _ _
-
-pub returns-in_err-asked-clause-image : goal.returns-in_err-asked-clause-image
-returns-in_err-asked-clause-image g c = nothing_done _ _ _
-
-pub returns-clause-image : goal.returns-clause-image
-returns-clause-image g c =
-    words_ask options_of_create _ _ (λ options. OnErr c.run_asked.result (KeepsCreated options (seen g.W.World c.args.world.now) (seen g.W.World c.run_asked.new.world))) c.in_ok-asked.ensures.command c.run_asked.ensures.image
