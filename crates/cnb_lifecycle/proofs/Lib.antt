@@ -5,6 +5,7 @@ pub mod DetectingLemmas
 pub mod EndLemmas
 pub mod KeepLaws
 pub mod SinkLemmas
+pub mod SlicedLaws
 pub mod OutcomeLaws
 pub mod PhaseLemmas
 pub mod NumberLemmas

@@ -95,7 +95,7 @@ file_not bytes fault h = by (is_tree (file_of bytes)) h
 not_told : (o : Option Tree) (files : Tree) → o ≡ Some files → o ≡ None → ⊥
 not_told o files is none = let no : Some files ≡ None = sym is ∙ none in cc
 
-on_told : (o : Option Tree) (files : Tree) (P : Tree → Type 0) → o ≡ Some files → IfSome o P → P files
+pub on_told : (o : Option Tree) (files : Tree) (P : Tree → Type 0) → o ≡ Some files → IfSome o P → P files
 on_told o files P is h = let at : IfSome (Some files) P = subst (λ (p : Option Tree). IfSome p P) is h in at
 
 -- ---- the document of the launch
@@ -109,7 +109,7 @@ launch_so root launch old new fault (inr (bytes, mid, made, inr (tree, next, giv
 
 -- ---- rows
 
-filled : (root : List ℕ) → IsTrue (is_path root) → 0 < length root
+pub filled : (root : List ℕ) → IsTrue (is_path root) → 0 < length root
 filled [] h = absurd (cc)
 filled (c ∷ root) h = omega arith
 
@@ -130,7 +130,7 @@ module _ (store root : List ℕ) (path : IsTrue (is_path root)) (apart : AreApar
   trees_kept a b [] kept all = tt
   trees_kept a b (row ∷ rows) kept all = (tree_kept a b row.digest kept all.0, trees_kept a b rows kept all.1)
 
-  around : (a b : Tree) (o o1 : Option Tree) → o ≡ Some a → o1 ≡ Some b → KeptAround root o o1 → KeepsAround root a b
+  pub around : (a b : Tree) (o o1 : Option Tree) → o ≡ Some a → o1 ≡ Some b → KeptAround root o o1 → KeepsAround root a b
   unfolding KeptAround
   around a b o o1 e f h = let at : KeptAround root (Some a) (Some b) = subst (λ (p : Option Tree). KeptAround root (Some a) p) f (subst (λ (p : Option Tree). KeptAround root p o1) e h) in at
 
@@ -174,7 +174,7 @@ module _ (store root : List ℕ) (path : IsTrue (is_path root)) (apart : AreApar
   image_so doc old new fault (inr (absent, mid, looked, inr (free, next, given, inl rows))) ready = rows_so doc.rows tt next new fault rows (ready_at doc.rows old next (ap (λ s. s.files) given.0 ∙ looked.same.files) ready)
   image_so doc old new fault (inr (absent, mid, looked, inr (free, next, given, inr (laid, last, rows, launched)))) ready = launch_so root doc.launch last new fault launched
 
-  same_image : (one other : ImageDoc) (found : Result ImageDoc ImageFault) → found ≡ Ok one → found ≡ Ok other → one ≡ other
+  pub same_image : (one other : ImageDoc) (found : Result ImageDoc ImageFault) → found ≡ Ok one → found ≡ Ok other → one ≡ other
   same_image one other found e f = cc
 
   module _ (name : List ℕ) (files : Tree) (count : ℕ) (whole : IsWhole store name files count) where

@@ -7,6 +7,7 @@ pub mod Leaving
 pub mod Printing
 pub mod Refusal
 pub mod Report
+pub mod Sliced
 pub mod Telling
 pub mod PhaseFaults
 pub mod Verified
