@@ -1,5 +1,6 @@
 # What the benches of commands share: the program, a place to work in, and how two things are measured beside each
-# other. All of it is exported, so that `usage` can run a function in a shell of its own.
+# other. All of it is exported, so that `usage` can run a function in a shell of its own. Where SHORT is set, what is
+# measured is small and each measure one round, to see that a bench runs: its times then say nothing.
 
 set -a
 top=$(cd "$(dirname "${BASH_SOURCE[0]}")/.." && pwd)
@@ -11,6 +12,14 @@ lifecycle=${LIFECYCLE:-$top/bin/lifecycle}
 room=$(df --output=avail -k /dev/shm 2> /dev/null | tail -n 1)
 if [ "${room:-0}" -gt 8388608 ]; then work=$(mktemp -d -p /dev/shm); else work=$(mktemp -d); fi
 trap 'rm -rf "$work"' EXIT
+
+# rounds COUNT, sized COUNT: how many rounds a measure has, and how many of something it is over: one, and a fiftieth, where
+# SHORT is set.
+rounds() { if [ -n "${SHORT-}" ]; then echo 1; else echo "$1"; fi; }
+sized() { if [ -n "${SHORT-}" ]; then echo $((($1 + 49) / 50)); else echo "$1"; fi; }
+
+# number COUNT: it in groups of three digits.
+number() { sed ':a; s/\([0-9]\)\([0-9]\{3\}\)\(,\|$\)/\1,\2\3/; ta' <<< "$1"; }
 
 # took FUNCTION: what one run of it took, as `usage` tells it. What it prints goes to `said`.
 took() {
@@ -25,7 +34,7 @@ best() { sort -n "$1" | head -n 1; }
 # them runs unmeasured.
 beside() {
     rm -f "$work/ours" "$work/theirs"
-    for _ in $(seq "$2"); do
+    for _ in $(seq "$(rounds "$2")"); do
         ${6-:}
         took "$3" >> "$work/ours"
         ${6-:}
