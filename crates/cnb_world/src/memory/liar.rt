@@ -16,12 +16,12 @@ const LETTERS: [u8; 32] = *b"abcdefghijklmnopqrstuvwxyz.019-_";
 
 /// Beginnings of documents and of trees, so that a caller gets behind the first that it reads.
 const TEXTS: [&str; 12] = [
-    "[[order]]\n[[order.group]]\nid = \"a\"\nversion = \"1\"\n",
-    "api = \"0.10\"\n[buildpack]\nid = \"a\"\nversion = \"1\"\n",
-    "[[group]]\nid = \"a\"\nversion = \"1\"\napi = \"0.10\"\n",
-    "[[group]]\nid = \"b\"\nversion = \"2\"\napi = \"0.10\"\n",
+    "[[order]]\n[[order.group]]\nid = \"a\"\nversion = \"1.0.0\"\n",
+    "api = \"0.10\"\n[buildpack]\nid = \"a\"\nversion = \"1.0.0\"\n",
+    "[[group]]\nid = \"a\"\nversion = \"1.0.0\"\napi = \"0.10\"\n",
+    "[[group]]\nid = \"b\"\nversion = \"2.0.0\"\napi = \"0.10\"\n",
     "run = \"r\"\nos = \"linux\"\narch = \"amd64\"\n",
-    "[[entries]]\n[[entries.providers]]\nid = \"a\"\nversion = \"1\"\n",
+    "[[entries]]\n[[entries.providers]]\nid = \"a\"\nversion = \"1.0.0\"\n",
     "[types]\nlaunch = true\nbuild = true\ncache = true\n",
     "[[processes]]\ntype = \"web\"\ncommand = [\"/bin/sh\"]\n",
     "version = 1\nos = \"linux\"\narch = \"amd64\"\nrows = []\n",
