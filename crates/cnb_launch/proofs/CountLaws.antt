@@ -60,7 +60,7 @@ lay_launch_counts : (root : List ℕ) (launch : LaunchDoc) → Obeys FileCounts 
 unfolding lays_launch
 lay_launch_counts root launch =
     obeys_bind FileCounts cause_of _ _ files_link (made_counts (ReadsAs launch))
-    (λ bytes. obeys_bind FileCounts cause_of _ _ files_link (obeys_gives FileCounts cause_of _ files_rest) (λ tree. obeys_told FileCounts _ cause_of _ _ store_same (lay_tree_counts root _ tree)))
+    (λ bytes. obeys_told FileCounts _ cause_of _ _ store_same (lay_tree_counts root _ _))
 
 lay_image_counts : (store root : List ℕ) (doc : ImageDoc) → Obeys FileCounts cause_of (lays_image store root doc)
 unfolding lays_image

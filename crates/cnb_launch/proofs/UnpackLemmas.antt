@@ -35,9 +35,12 @@ pub not_made : {S : Type 0} (Says : List ℕ → Type 0) (old : S) → makes {S 
 unfolding makes
 not_made Says old = (refl, refl)
 
--- the same place, and the same rows
-pub laid_as : (root place other : List ℕ) (tree : Node) (old new : Seen) (result : Result (Unit {0}) StoreFault) → place ≡ other → lays_tree root place tree old result new → lays_tree root other tree old result new
-laid_as root place other tree old new result same h = let P : List ℕ → Type 0 = λ p. lays_tree root p tree old result new in subst P same h
+-- the same tree at the same place, and the same rows
+pub laid_as : (root place other : List ℕ) (tree node : Node) (old new : Seen) (result : Result (Unit {0}) StoreFault) → place ≡ other → tree ≡ node → lays_tree root place tree old result new → lays_tree root other node old result new
+laid_as root place other tree node old new result same_place same_tree h =
+    let At : List ℕ → Type 0 = λ p. lays_tree root p tree old result new in
+    let Of : Node → Type 0 = λ t. lays_tree root other t old result new in
+    subst Of same_tree (subst At same_place h)
 
 pub rows_as : (store root : List ℕ) (rows other : List Row) (old new : Seen) (result : Result (Unit {0}) LaunchFault) → rows ≡ other → for_each (lays_row store root) rows tt old result new → for_each (lays_row store root) other tt old result new
 rows_as store root rows other old new result same h = let P : List Row → Type 0 = λ rs. for_each (lays_row store root) rs tt old result new in subst P same h

@@ -2,7 +2,6 @@
 -- this project's own).
 use Rattle.std.specs.Prelude.{ℕ, ◌≡◌, Bool, true, false, List, codes, if◌then◌else◌, Result, Ok, Err}
 use Rattle.cnb_world.specs.Tree.{item_at, kind_of}
-use Rattle.cnb_world.specs.declared.limits.LimitKind.TheVariants as limit
 use Rattle.cnb_env.specs.Files.{is_absent}
 use Rattle.doc_files.specs.Faults.{read_cause}
 use Rattle.image_docs.specs.LaunchDoc.{launch_doc_in}
@@ -14,14 +13,12 @@ use Rattle.steps.specs.Causes.{Cause, OutOfMemory}
 use Rattle.steps.specs.Each.{for_each}
 use Rattle.steps.specs.Outside.{Seen}
 use Rattle.steps.specs.Steps.{◌>>=◌, gives, map_err, reads}
-use Rattle.tree_canon.specs.Fits.{is_tree}
 use Rattle.tree_canon.specs.declared.node.Node.{Node}
 use Rattle.tree_canon.specs.declared.node.Node.TheVariants as node
 use Rattle.tree_store.specs.Steps.{lays_stored, lays_tree}
-use Rattle.tree_store.specs.declared.fault.StoreFault.TheVariants as store
 use Rattle.cnb_launch.specs.Faults.{cause_of, of_image_fault, of_read_fault, of_store_fault}
 use Rattle.cnb_launch.specs.declared.fault.LaunchFault.{LaunchFault}
-use Rattle.cnb_launch.specs.declared.fault.LaunchFault.TheVariants.{Exists, Store}
+use Rattle.cnb_launch.specs.declared.fault.LaunchFault.TheVariants.{Exists}
 
 -- nothing may stand at the root
 abbrev pub if_absent : List ℕ → Bool → Result (Unit {0}) LaunchFault
@@ -44,9 +41,6 @@ ReadsAs launch bytes = launch_doc_in bytes ≡ Ok launch
 abbrev pub file_of : List ℕ → Node
 file_of bytes = node.File false bytes
 
-abbrev pub file_tree : List ℕ → Result Node LaunchFault
-file_tree bytes = if is_tree (file_of bytes) then Ok (file_of bytes) else Err (Store (store.Limit limit.Tree))
-
 -- where the document of the launch stands in an image
 abbrev pub launch_doc_place : List ℕ
 launch_doc_place = codes "/layers/config/metadata.toml"
@@ -55,8 +49,7 @@ launch_doc_place = codes "/layers/config/metadata.toml"
 unfoldable pub lays_launch : List ℕ → LaunchDoc → Seen → Result (Unit {0}) LaunchFault → Seen → Type 0
 lays_launch root launch = do
   bytes ← makes cause_of (ReadsAs launch)
-  tree ← gives cause_of (file_tree bytes)
-  map_err of_store_fault (lays_tree root launch_doc_place tree)
+  map_err of_store_fault (lays_tree root launch_doc_place (file_of bytes))
 
 -- the root must be absent, the rows are laid in their order, and then the document of the launch
 unfoldable pub lays_image : List ℕ → List ℕ → ImageDoc → Seen → Result (Unit {0}) LaunchFault → Seen → Type 0

@@ -12,18 +12,18 @@ ghost use Rattle.steps.specs.Each.{for_each};
 ghost use Rattle.steps.specs.Outside.{seen};
 ghost use Rattle.steps.specs.Reading.{ReadFrame};
 ghost use Rattle.cnb_launch.specs.Faults.{cause_of};
-ghost use Rattle.cnb_launch.specs.Unpacking.{ReadsAs, file_tree, if_absent, launch_doc_place, lays_image, lays_launch};
+ghost use Rattle.cnb_launch.specs.Unpacking.{ReadsAs, file_of, if_absent, launch_doc_place, lays_image, lays_launch};
 ghost use Rattle.cnb_launch.specs.Unpacking.{lays_row, unpacks};
 
 use crate::fault::LaunchFault;
 use cnb_toml::ImageName;
-use cnb_world::{Bytes, Kind, LimitKind, Memory, Path, PathFault, World};
+use cnb_world::{Bytes, Kind, Memory, Path, PathFault, World};
 use doc_files::{ReadFault, blamed};
 use image_docs::{ImageDoc, LaunchDoc, Row, write_launch_doc};
 use image_files::read_image;
 use std::alloc::Global;
-use tree_canon::{Node, Tree, TreeFault};
-use tree_store::{StoreFault, lay_stored, write_tree};
+use tree_canon::{Node, Tree};
+use tree_store::{lay_stored, write_tree};
 
 #[tactic(auto, using(doc_files::proofs::Blame::blamed_last))]
 fn is_absent<W: World>(alloc: Global, world: &mut W, path: &Path) -> Result<bool, ReadFault>
@@ -88,14 +88,13 @@ fn lay_rows<W: World>(
     Ok(())
 }
 
-fn file_tree(bytes: Bytes) -> Result<Tree, LaunchFault>
-    ensures answer { IsAnswer cause_of result (file_tree bytes) }
-    ensures given { IfErr result (λ fault. IsGivenCause (cause_of fault)) }
+// A file of these bytes, as a tree. Bytes that are longer than a tree may be are more than memory has room for.
+fn file_of(bytes: Bytes) -> Result<Tree, Memory>
+    ensures file { IfOk result (λ tree. tree ≡ file_of bytes) }
 {
     match Tree::new(Node::File { exec: false, bytes }) {
         Ok(tree) => Ok(tree),
-        Err(TreeFault::Unfit) => Err(LaunchFault::Store(StoreFault::Limit(LimitKind::Tree))),
-        Err(TreeFault::Memory) => Err(LaunchFault::Memory),
+        Err(_) => Err(Memory),
     }
 }
 
@@ -123,7 +122,7 @@ fn lay_launch<W: World>(
 {
     let place = launch_doc_place(alloc)?;
     let bytes = write_launch_doc(alloc, launch)?;
-    let tree = file_tree(bytes)?;
+    let tree = file_of(bytes)?;
     write_tree(alloc, world, root, &place, &tree)?;
     Ok(())
 }
