@@ -1,18 +1,15 @@
 -- Images that have an application in slices, or whole, are unpacked to the same files.
 use Rattle.std.proofs.Common.{◌≡◌, ◌∙◌, refl, sym, ap, subst, ℕ, Bool, true, false, List, [], ◌∷◌, ◌++◌, map, Option, Some, None, Result, Ok, Err}
-use Rattle.std.specs.Prelude.{IfOk, IsTrue, if◌then◌else◌}
+use Rattle.std.specs.Prelude.{IfOk, IsTrue}
 use Rattle.std.specs.List.{AllByRecursion, fold, list_all}
 use Rattle.std.specs.Option.{option_map}
 use Rattle.std.proofs.lemmas.Bool.{and_parts}
 use Rattle.std.proofs.lemmas.List.Folds.{list_all-append}
 use Rattle.app_slices.proofs.CutTrees.{cut_lays}
 use Rattle.app_slices.specs.Slices.{slices_of}
-use Rattle.cnb_launch.specs.Unpacking.{file_of, file_tree, launch_doc_place, lays_image, lays_launch, lays_row, makes, unpacks}
-use Rattle.cnb_launch.specs.declared.fault.LaunchFault.{LaunchFault}
-use Rattle.cnb_launch.specs.declared.fault.LaunchFault.TheVariants.{Store}
+use Rattle.cnb_launch.specs.Unpacking.{file_of, launch_doc_place, lays_image, lays_launch, lays_row, makes, unpacks}
 use Rattle.cnb_world.specs.Path.{is_path}
 use Rattle.cnb_world.specs.Tree.{Tree, item_at}
-use Rattle.cnb_world.specs.declared.limits.LimitKind.TheVariants as limit
 use Rattle.cnb_world.specs.declared.world.Item.{Item}
 use Rattle.cnb_world.specs.declared.world.Item.TheVariants as item
 use Rattle.hex.specs.Hex.{encode_lower}
@@ -32,7 +29,6 @@ use Rattle.store_prune.specs.declared.fault.PruneFault.{PruneFault}
 use Rattle.store_prune.proofs.ImageNamed.{image_names_of}
 use Rattle.store_prune.proofs.NamedDigests.{document_sound}
 use Rattle.store_prune.proofs.ReadDigests.{image_digests, names_file, text_names}
-use Rattle.tree_canon.specs.Fits.{is_tree}
 use Rattle.tree_canon.specs.declared.node.Node.{Node}
 use Rattle.tree_canon.proofs.CutMoves.{one_tree}
 use Rattle.tree_store.specs.Around.{KeepsAround}
@@ -40,7 +36,6 @@ use Rattle.tree_store.specs.Overlay.{tree_laid}
 use Rattle.tree_store.specs.Steps.{gets_tree, lays_kept, lays_stored, lays_tree}
 use Rattle.tree_store.specs.Store.{Gets, tree_path}
 use Rattle.tree_store.specs.Writing.{AreApart, trees_of}
-use Rattle.tree_store.specs.declared.fault.StoreFault.TheVariants as store_fault
 use Rattle.tree_store.proofs.Apart.{apart_child, item_kept}
 use Rattle.tree_store.proofs.Places.{part_form}
 use Rattle.cnb_lifecycle.specs.Sliced.{DifferInSlices, HasLaunch, HasTree, HaveTrees}
@@ -70,22 +65,11 @@ rows_named store name files image h =
 
 -- ---- the document of the launch
 
-file_is : (bytes : List ℕ) (tree : Node) → file_tree bytes ≡ Ok tree → tree ≡ file_of bytes
-file_is bytes tree h = by (is_tree (file_of bytes)) h
-  where
-    by : (b : Bool) → ◌≡◌ {A = Result Node LaunchFault} (if b then Ok (file_of bytes) else Err (Store (store_fault.Limit limit.Tree))) (Ok tree) → tree ≡ file_of bytes
-    by true e = cc
-    by false e = absurd (cc)
-
 launch_laid : (root : List ℕ) (launch : LaunchDoc) (laid : Tree) (old new : Seen) (done : Unit {0}) → lays_launch root launch old (Ok done) new → old.files ≡ Some laid → HasLaunch root launch laid new.files
-unfolding lays_launch makes gives map_err lays_tree ◌>>=◌
-launch_laid root launch laid old new done (bytes, mid, made, (tree, next, given, lays)) told =
-    let at : next.files ≡ Some laid = ap (λ (s : Seen). s.files) given.0 ∙ ap (λ (s : Seen). s.files) made.0 ∙ told in
-    record {
-      bytes = bytes;
-      reads = made.1;
-      left = lays.0 ∙ ap (option_map (tree_laid root launch_doc_place tree)) at ∙ ap (λ node. Some (tree_laid root launch_doc_place node laid)) (file_is bytes tree given.1);
-    }
+unfolding lays_launch makes map_err lays_tree ◌>>=◌
+launch_laid root launch laid old new done (bytes, mid, made, lays) told =
+    let at : mid.files ≡ Some laid = ap (λ (s : Seen). s.files) made.0 ∙ told in
+    record { bytes = bytes; reads = made.1; left = lays.0 ∙ ap (option_map (tree_laid root launch_doc_place (file_of bytes))) at }
 
 module _ (store root : List ℕ) (path : IsTrue (is_path root)) (apart : AreApart root (trees_of store)) (files : Tree) where
   -- the trees' files are as they were

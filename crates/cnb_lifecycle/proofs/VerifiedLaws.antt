@@ -1,15 +1,14 @@
 -- An image that is whole is unpacked without a tree that is missing or damaged.
 use Rattle.std.proofs.Common.{◌≡◌, ◌∙◌, refl, sym, ap, subst, arith, ℕ, ◌<◌, Bool, true, false, List, [], ◌∷◌, length, Option, Some, None, Result, Ok, Err, inl, inr}
-use Rattle.std.specs.Prelude.{IfErr, IfSome, IsTrue, if◌then◌else◌}
+use Rattle.std.specs.Prelude.{IfErr, IfSome, IsTrue}
 use Rattle.std.specs.List.{AllByRecursion}
 use Rattle.std.specs.Option.{option_map}
 use Rattle.cnb_launch.specs.Faults.{cause_of, of_image_fault, of_read_fault, of_store_fault}
-use Rattle.cnb_launch.specs.Unpacking.{file_of, file_tree, if_absent, lays_image, lays_launch, lays_row, makes, unpacks}
+use Rattle.cnb_launch.specs.Unpacking.{if_absent, lays_image, lays_launch, lays_row, makes, unpacks}
 use Rattle.cnb_launch.specs.declared.fault.LaunchFault.{LaunchFault}
 use Rattle.cnb_launch.specs.declared.fault.LaunchFault.TheVariants.{Exists, Store}
 use Rattle.cnb_world.specs.Path.{is_path}
 use Rattle.cnb_world.specs.Tree.{Tree, item_at}
-use Rattle.cnb_world.specs.declared.limits.LimitKind.TheVariants as limit
 use Rattle.doc_files.specs.declared.fault.ReadFault.{ReadFault}
 use Rattle.doc_files.specs.declared.fault.ReadFault.TheVariants as read
 use Rattle.hex.specs.Hex.{encode_lower}
@@ -27,7 +26,6 @@ use Rattle.steps.specs.Steps.{◌>>=◌, gives, map_err, reads, yields}
 use Rattle.store_prune.specs.Verifying.{IsWhole}
 use Rattle.store_prune.proofs.RowsWhole.{HasTree, rows_have}
 use Rattle.store_prune.proofs.VerifyLaws.{gets_not}
-use Rattle.tree_canon.specs.Fits.{is_tree}
 use Rattle.tree_canon.specs.declared.node.Node.{Node}
 use Rattle.tree_store.specs.Answers as tree_store
 use Rattle.tree_store.specs.Around.{KeepsAround, KeptAround}
@@ -85,13 +83,6 @@ absent_not : (root : List ℕ) (absent : Bool) (fault : LaunchFault) → if_abse
 absent_not root true fault h = absurd (no_fault tt fault h)
 absent_not root false fault h = ap lacks_tree (sym (same_fault (Exists root) fault h))
 
-file_not : (bytes : List ℕ) (fault : LaunchFault) → file_tree bytes ≡ Err fault → lacks_tree fault ≡ false
-file_not bytes fault h = by (is_tree (file_of bytes)) h
-  where
-    by : (b : Bool) → ◌≡◌ {A = Result Node LaunchFault} (if b then Ok (file_of bytes) else Err (Store (store_fault.Limit limit.Tree))) (Err fault) → lacks_tree fault ≡ false
-    by true e = absurd (no_fault (file_of bytes) fault e)
-    by false e = ap lacks_tree (sym (same_fault (Store (store_fault.Limit limit.Tree)) fault e))
-
 not_told : (o : Option Tree) (files : Tree) → o ≡ Some files → o ≡ None → ⊥
 not_told o files is none = let no : Some files ≡ None = sym is ∙ none in cc
 
@@ -101,10 +92,9 @@ on_told o files P is h = let at : IfSome (Some files) P = subst (λ (p : Option 
 -- ---- the document of the launch
 
 launch_so : (root : List ℕ) (launch : LaunchDoc) (old new : Seen) (fault : LaunchFault) → lays_launch root launch old (Err fault) new → lacks_tree fault ≡ false
-unfolding lays_launch makes gives map_err lays_tree ◌>>=◌
+unfolding lays_launch makes map_err lays_tree ◌>>=◌
 launch_so root launch old new fault (inl made) = memory_not fault made.1
-launch_so root launch old new fault (inr (bytes, mid, made, inl given)) = answer_not fault (file_tree bytes) (file_not bytes) given.1
-launch_so root launch old new fault (inr (bytes, mid, made, inr (tree, next, given, (why, is, laid)))) =
+launch_so root launch old new fault (inr (bytes, mid, made, (why, is, laid))) =
     ap lacks_tree is ∙ store_not why (λ e. let no : IsCauseWithin root Decided = subst (IsCauseWithin root) e laid.0 in no)
 
 -- ---- rows

@@ -1,9 +1,10 @@
--- The folders that the words of `detect` and `create` name are paths, and a record may be written at its path.
+-- The folders that the words of `detect`, `create` and `base` name are paths, and a record may be written at its path.
 use Rattle.std.proofs.Common.{◌≡◌, refl, subst, ℕ, Bool, true, false, List, [], ◌∷◌, length, codes, Option, Some, None, Result, Ok, Err}
 use Rattle.std.specs.Prelude.{IfSome, IsTrue, if◌then◌else◌, nat_le, option_and_then}
 use Rattle.std.specs.Option.{option_map}
 use Rattle.std.specs.Str.{bytes_eq}
 use Rattle.std.proofs.lemmas.Bool.{and_parts}
+use Rattle.cnb_toml.specs.Names.{is_image_name}
 use Rattle.cnb_world.specs.Path.{is_path, is_short_path}
 use Rattle.cnb_world.specs.declared.env.Variable.{Variable}
 use Rattle.cnb_words.specs.Analyze as analyze
@@ -17,7 +18,7 @@ use Rattle.cnb_words.specs.Drill as drill
 use Rattle.cnb_words.specs.Export as export
 use Rattle.cnb_words.specs.Launch as launch
 use Rattle.cnb_words.specs.Options.{options_in, value_of}
-use Rattle.cnb_words.specs.OptionValues.{◌>>=◌, path_of, workers_of}
+use Rattle.cnb_words.specs.OptionValues.{◌>>=◌, image_of, path_of, target_of, trees_of, workers_of}
 use Rattle.cnb_words.specs.Program.{is_launcher, process_type, root_of}
 use Rattle.cnb_words.specs.Prune as prune
 use Rattle.cnb_words.specs.Rebase as rebase
@@ -25,7 +26,7 @@ use Rattle.cnb_words.specs.RecordPath.{is_record_path, record_of, where_asked, w
 use Rattle.cnb_words.specs.Restore as restore
 use Rattle.cnb_words.specs.Show as show
 use Rattle.cnb_words.specs.Unpack as unpack
-use Rattle.cnb_words.specs.Values.{path_in}
+use Rattle.cnb_words.specs.Values.{image_in, path_in}
 use Rattle.cnb_words.specs.Verify as verify
 use Rattle.cnb_words.specs.Words.{asked_by, asks, command_asked, options_asked, phase_asked, unless_process, with_options}
 use Rattle.cnb_words.specs.declared.fault.WordsFault.{WordsFault}
@@ -35,10 +36,11 @@ use Rattle.cnb_words.specs.declared.words.Asked.TheVariants.{Detect, Analyze, Re
 use Rattle.cnb_lifecycle.specs.declared.refusal.Refusal.{Refusal}
 use Rattle.cnb_lifecycle.specs.Commands.{On, asked_of, command_in, of_words, platform_api, where_served}
 
--- the work folder, and where the record of a detection may be written
+-- the work folder, and where the record of a detection may be written; the store, and the name of a run image
 abbrev pub HasPaths : Asked → Type 0
 HasPaths (Detect options) = (is_path options.choice.work ≡ true) × IfSome options.proof_path (λ path. IsTrue (is_record_path options.choice.work path))
 HasPaths (Create options) = (is_path options.detect.work ≡ true) × (is_path options.layers ≡ true)
+HasPaths (Base options) = IsTrue (is_short_path options.store) × IsTrue (is_image_name options.run)
 HasPaths asked = Unit {0}
 
 -- ---- options
@@ -56,6 +58,22 @@ path_so (Some text) = by (is_short_path text) refl
   where
     by : (short : Bool) → is_short_path text ≡ short → On (if short then Some text else None) IsPath
     by true is = (and_parts (nat_le (length text) 4096) (is_path text) is).1
+    by false is = tt
+
+short_so : (o : Option (List ℕ)) → On (option_and_then path_in o) (λ path. IsTrue (is_short_path path))
+short_so None = tt
+short_so (Some text) = by (is_short_path text) refl
+  where
+    by : (short : Bool) → is_short_path text ≡ short → On (if short then Some text else None) (λ path. IsTrue (is_short_path path))
+    by true is = is
+    by false is = tt
+
+name_so : (o : Option (List ℕ)) → On (option_and_then image_in o) (λ name. IsTrue (is_image_name name))
+name_so None = tt
+name_so (Some text) = by (is_image_name text) refl
+  where
+    by : (fits : Bool) → is_image_name text ≡ fits → On (if fits then Some text else None) (λ name. IsTrue (is_image_name name))
+    by true is = is
     by false is = tt
 
 free_so : (work : List ℕ) (o : Option (List ℕ)) → On (where_asked work o) (λ record_path. IfSome record_path (λ path. IsTrue (is_record_path work path)))
@@ -130,7 +148,15 @@ options_so command words = elim (options_in words) as (λ o. Holds (with_options
       (λ choice j. then_so (path_of (codes "--layers") options) _ _
       (λ layers is. then_so (create.image_options options) _ _ (λ image k. (of_some (choice_values options) choice (λ c. IsPath c.work) chosen j, of_some (path_of (codes "--layers") options) layers IsPath (path (codes "--layers")) is)))))))
       (either_so (bytes_eq command (codes "rebase")) _ _ (asks_any Rebase (rebase.rebase_in options) (λ words. tt))
-      (either_so (bytes_eq command (codes "base")) _ _ (asks_any Base (base.base_in options) (λ words. tt))
+      (either_so (bytes_eq command (codes "base")) _ _
+      (asks_so Base (base.base_in options)
+      (then_so _ (λ checked. base.base_values options) _
+      (λ checked i. then_so (path_of (codes "--store") options) _ _
+      (λ store is. then_so (image_of (codes "--run") options) _ _
+      (λ run named. then_so (target_of (codes "--os") options) _ _
+      (λ os j. then_so (target_of (codes "--arch") options) _ _
+      (λ arch k. then_so (trees_of options) _ _
+      (λ trees l. (of_some (path_of (codes "--store") options) store (λ path. IsTrue (is_short_path path)) (short_so (value_of (codes "--store") options)) is, of_some (image_of (codes "--run") options) run (λ name. IsTrue (is_image_name name)) (name_so (value_of (codes "--run") options)) named)))))))))
       (either_so (bytes_eq command (codes "unpack")) _ _ (asks_any Unpack (unpack.unpack_in options) (λ words. tt))
       (either_so (bytes_eq command (codes "show")) _ _ (asks_any Show (show.show_in options) (λ words. tt))
       (either_so (bytes_eq command (codes "prune")) _ _ (asks_any Prune (prune.prune_in options) (λ words. tt))

@@ -2,6 +2,7 @@ pub mod Commands
 pub mod Detecting
 pub mod Ends
 pub mod Faults
+pub mod Fitting
 pub mod Keeping
 pub mod Leaving
 pub mod Printing

@@ -9,6 +9,7 @@ use crate::refusal::Refusal;
 use cnb_words::{Asked, read_words};
 use cnb_world::{Env, Text};
 use std::alloc::Global;
+use std::mem::drop;
 
 /// The Platform API that is served.
 const PLATFORM_API: &str = "0.12";
@@ -32,6 +33,11 @@ pub(crate) fn command(alloc: Global, words: &[String], env: &Env) -> Result<Aske
     ensures limits { IfOk result AsksWithinLimits }
 {
     let asked = read_words(alloc, words)?;
-    platform_api(alloc, env)?;
-    Ok(asked)
+    match platform_api(alloc, env) {
+        Ok(()) => Ok(asked),
+        Err(refusal) => {
+            drop(asked);
+            Err(refusal)
+        }
+    }
 }

@@ -9,6 +9,7 @@ use crate::report::error_line;
 use crate::status::Status;
 use cnb_world::{Memory, Sink, SinkFault, Text};
 use std::alloc::Global;
+use std::mem::drop;
 
 fn behind(text: &[u8], done: usize) -> &[u8]
     requires { done ≤ length text.now }
@@ -48,11 +49,15 @@ fn finish_refused<O: Sink>(alloc: Global, refusal: Refusal, out: &mut O) -> Stat
     ensures output { CountsOutput result (O.faults out.old) (O.faults out.new) }
 {
     let Ok(line) = error_line(alloc, &refusal) else {
+        drop(refusal);
         return Status::Refused(Refusal::Memory);
     };
     match print(out, line.as_str().as_bytes()) {
         Ok(()) => Status::Refused(refusal),
-        Err(SinkFault::Failed) => Status::Output,
+        Err(SinkFault::Failed) => {
+            drop(refusal);
+            Status::Output
+        }
     }
 }
 

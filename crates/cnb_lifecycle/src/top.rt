@@ -10,6 +10,7 @@ ghost use Rattle.cnb_lifecycle.specs.Commands.{after_words, asked_of, command_in
 ghost use Rattle.cnb_lifecycle.specs.Detecting.{ComesToWords};
 ghost use Rattle.cnb_lifecycle.specs.Ends.{CauseOfChild, CauseOfFile, Ends};
 ghost use Rattle.cnb_lifecycle.specs.Faults.{cause_of, of_detect};
+ghost use Rattle.cnb_lifecycle.specs.Fitting.{NoMisuseBy};
 ghost use Rattle.cnb_lifecycle.specs.Keeping.{KeepsImage, OnRefusal};
 ghost use Rattle.cnb_lifecycle.specs.Leaving.{LeavesImage, OnDone};
 ghost use Rattle.cnb_lifecycle.specs.Printing.{CountsOutput};
@@ -35,6 +36,7 @@ use cnb_words::Asked;
 use cnb_world::{Env, List, Shelf, Sink, Spawner, World};
 use shelf_set::Shelves;
 use std::alloc::Global;
+use std::mem::drop;
 use std::thread::Threads;
 
 // Does what was asked for. `places` has the numbers of the caches that stand.
@@ -116,7 +118,7 @@ fn run_words<W: World, S: Spawner + Send, R: Threads + Sync>(
 {
     let mut places = numbers(alloc, shelves.len() as u32)?;
     let asked = command(alloc, words, env)?;
-    run_asked(
+    let end = run_asked(
         rt,
         alloc,
         &asked,
@@ -125,7 +127,9 @@ fn run_words<W: World, S: Spawner + Send, R: Threads + Sync>(
         spawners,
         shelves,
         &mut places,
-    )
+    );
+    drop(asked);
+    end
 }
 
 /// Does what the words ask for, writes the text of its end, and gives the status. The first word is the program's own.
@@ -199,6 +203,9 @@ pub fn lifecycle<W: World, S: Spawner + Send, O: Sink, R: Threads + Sync>(
         (faults_of (spawners_seen S.Spawner spawners.old.items))
         (faults_of (spawners_seen S.Spawner spawners.new.items)) }
     ensures output { CountsOutput result (O.faults out.old) (O.faults out.new) }
+    // Where the files fit the command, none of these is a call on a path of the wrong kind.
+    ensures misused { On (asked_of (command_in (map string_bytes words.now) env.now)) (λ asked.
+        NoMisuseBy asked (seen W.World world.old) (seen W.World world.new)) }
     // A command that needs no cache looks at none.
     ensures shelves { On (asked_of (command_in (map string_bytes words.now) env.now)) (λ asked.
         (uses_caches asked ≡ false) → (shelves.new.items ≡ shelves.old.items)) }

@@ -14,17 +14,13 @@ returns-in_err-asked-clause-cause c =
     let exit = err_from_is_err_and c.from_residual.result c.from_residual.ensures.1 in
     rw (exit.1, exit.2) (words_cause _)
 
-pub returns-in_err-platform_api-clause-command : goal.returns-in_err-platform_api-clause-command
+pub returns-in-Err-clause-command : goal.returns-in-Err-clause-command
 unfolding command_in
-returns-in_err-platform_api-clause-command c =
-    let exit = err_from_is_err_and c.from_residual-in_err-platform_api.result c.from_residual-in_err-platform_api.ensures.1 in
-    rw (exit.1, exit.2) (api_refused _ _ _ _ c.in_ok-asked.ensures.words c.in_err-platform_api.ensures.command)
+returns-in-Err-clause-command c = api_refused _ _ _ _ c.in_ok-asked.ensures.words c.in-Err.ensures.command
 
-pub returns-in_err-platform_api-clause-cause : goal.returns-in_err-platform_api-clause-cause
-returns-in_err-platform_api-clause-cause c =
-    let exit = err_from_is_err_and c.from_residual-in_err-platform_api.result c.from_residual-in_err-platform_api.ensures.1 in
-    rw (exit.1, exit.2) c.in_err-platform_api.ensures.cause
+pub returns-in-Err-clause-cause : goal.returns-in-Err-clause-cause
+returns-in-Err-clause-cause c = c.in-Err.ensures.cause
 
-pub returns-clause-command : goal.returns-clause-command
+pub returns-in-Ok-clause-command : goal.returns-in-Ok-clause-command
 unfolding command_in
-returns-clause-command c = served _ _ _ _ c.in_ok-asked.ensures.words c.in_ok-platform_api.ensures.command
+returns-in-Ok-clause-command c = served _ _ _ _ c.in_ok-asked.ensures.words c.in-Ok.ensures.command

@@ -7,6 +7,7 @@ use Rattle.cnb_create.specs.Surroundings.{surroundings}
 use Rattle.cnb_lifecycle.proofs.CauseLemmas.{cause_of_child, cause_of_file}
 use Rattle.cnb_lifecycle.proofs.CountLaws.{ends_counted, words_count}
 use Rattle.cnb_lifecycle.proofs.EndLemmas.{stood}
+use Rattle.cnb_lifecycle.proofs.FitLaws.{minds_paths}
 use Rattle.cnb_lifecycle.proofs.KeepLaws.{keeps_image}
 use Rattle.cnb_lifecycle.proofs.LeaveLemmas.{leaves_image}
 use Rattle.cnb_lifecycle.proofs.OutcomeLaws.{create_headline, detect_outcome}
@@ -38,3 +39,6 @@ returns-clause-image g c = keeps_image _ c.args.env.now _ _ _ _ _ _ (has_paths _
 
 pub returns-clause-stands : goal.returns-clause-stands
 returns-clause-stands g c = leaves_image _ c.args.env.now _ _ _ _ _ _ (returns-clause-does g c)
+
+pub returns-clause-misused : goal.returns-clause-misused
+returns-clause-misused g c = minds_paths _ c.args.env.now _ _ _ _ _ _ (has_paths _ c.args.env.now) (returns-clause-does g c)
