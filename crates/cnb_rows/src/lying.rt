@@ -1,54 +1,63 @@
 // Runs over worlds that tell nothing and contradict themselves.
-use crate::run::call;
-use cnb_world::{Liar, Shelf};
-use scenarios::{Chain, Fault, Outage};
-use std::alloc::Global;
+use crate::run::status_over;
+use cnb_world::{Liar, List};
+use scenarios::{Answer, Chain, Outage, compare};
 use std::thread::Threads;
 
 /// The seeds of the worlds.
 const SEEDS: u64 = 100;
 
-/// What differs in the statuses that come over a hundred such worlds.
+/// Adds what differs in the statuses that come over a hundred such worlds.
 pub(crate) fn judge_lies<R: Threads + Sync>(
     rt: &R,
+    answer: &mut Answer,
     chain: &Chain,
     wanted: &str,
-) -> Result<String, Fault> {
+) {
     let mut is_status = [false; 256];
     for seed in 0..SEEDS {
-        let status = status_over_liar(rt, chain, seed)?;
+        let status = status_over_liar(rt, answer, chain, seed);
         is_status[status as usize] = true;
     }
-    let came = statuses_text(chain.alloc, &is_status)?;
-    if came.as_str() == wanted {
-        return Ok(String::new(chain.alloc));
-    }
-    Ok(format!(in chain.alloc; " statuses: wanted {wanted:?}, came {came:?};")?)
+    let mut came = Answer::new(answer.alloc);
+    put_statuses(&mut came, &is_status);
+    let came = answer.taken(came);
+    compare(answer, "statuses", wanted, &came);
 }
 
 // The exit status over one of them.
-fn status_over_liar<R: Threads + Sync>(rt: &R, chain: &Chain, seed: u64) -> Result<u8, Fault> {
-    let mut world = Liar::new(chain.alloc, seed);
-    let mut spawners = chain.spawners(Outage::Nothing)?;
-    let mut out = chain.sink(Outage::Nothing)?;
-    let mut shelves: Vec<Box<dyn Shelf>> = Vec::new(chain.alloc);
-    for shelf in chain.mem_shelves(Outage::Nothing)? {
-        shelves.push(Box::new(chain.alloc, shelf)?)?;
-    }
-    call(rt, chain, &mut world, &mut spawners, &mut shelves, &mut out)
+fn status_over_liar<R: Threads + Sync>(
+    rt: &R,
+    answer: &mut Answer,
+    chain: &Chain,
+    seed: u64,
+) -> u8 {
+    let mut world = Liar::new(answer.alloc, seed);
+    let mut spawners = chain.spawners(answer, Outage::Nothing);
+    let Some(mut out) = chain.sink(answer, Outage::Nothing) else {
+        return 0;
+    };
+    let mut caches = List::new(answer.alloc);
+    status_over(
+        rt,
+        answer,
+        chain,
+        Outage::Nothing,
+        &mut world,
+        &mut spawners,
+        &mut out,
+        &mut caches,
+    )
 }
 
-// The statuses that came, ascending.
-fn statuses_text(alloc: Global, is_status: &[bool]) -> Result<String, Fault> {
-    let mut text = String::new(alloc);
+// Adds the statuses that came, ascending.
+fn put_statuses(text: &mut Answer, is_status: &[bool]) {
+    let mut front = "";
     for (status, came) in is_status.iter().enumerate() {
-        if !*came {
-            continue;
+        if *came {
+            text.put(front);
+            text.show(&status);
+            front = " ";
         }
-        if !text.is_empty() {
-            text.push(' ')?;
-        }
-        write!(text, "{status}")?;
     }
-    Ok(text)
 }

@@ -9,40 +9,28 @@ mod lying;
 mod run;
 
 use cnb_host::{HostWorld, words};
-use cnb_world::Path;
 use judging::judge;
 use lying::judge_lies;
-use scenarios::{Fault, Fields, Scenarios, path_of};
+use scenarios::{Answer, Fields, RowFault, Scenarios};
 use std::alloc::Global;
-use std::env;
 use std::process::ExitCode;
 use std::thread::Threads;
+use std::{env, io};
 
-fn rows_folder(rt: &HostRuntime) -> Result<Path, Fault> {
-    let Ok(words) = words(rt) else {
-        return Err(Fault::wrong(rt.alloc(), "the words are no", "text"));
-    };
-    if let Some(folder) = words.get(1) {
-        return path_of(rt.alloc(), folder);
-    }
-    let folder = env::current_dir(rt)?;
-    path_of(rt.alloc(), folder.as_str())
-}
-
-// What differs in a row and, where it says so, with each call failing in turn, or over worlds that tell nothing.
-fn differences<R: Threads + Sync>(
+// Adds what differs in a row and, where it says so, with each call failing in turn, or over worlds that tell nothing.
+fn put_differences<R: Threads + Sync>(
     rt: &R,
-    alloc: Global,
+    answer: &mut Answer,
     scenarios: &Scenarios,
     row: Fields,
-) -> Result<String, Fault> {
-    let chain = scenarios.chain(alloc, row)?;
+) {
+    let chain = scenarios.chain(answer, row);
     if let Some(statuses) = row.text("over-liars") {
-        return judge_lies(rt, &chain, statuses);
+        return judge_lies(rt, answer, &chain, statuses);
     }
     match row.fields("want") {
-        Some(want) => judge(rt, &chain, want, row.is_set("every-call")),
-        None => Err(Fault::wrong(alloc, "nothing is wanted of", row.text_or_empty("name"))),
+        Some(want) => judge(rt, answer, &chain, want, row.is_set("every-call")),
+        None => answer.wrong("nothing is wanted of", row.text_or_empty("name")),
     }
 }
 
@@ -52,9 +40,11 @@ fn tell<R: Threads + Sync + Print>(
     alloc: Global,
     scenarios: &Scenarios,
     row: Fields,
-) -> Result<bool, Fault> {
+) -> io::Result<bool> {
+    let mut answer = Answer::new(alloc);
+    put_differences(rt, &mut answer, scenarios, row);
     let name = row.text_or_empty("name");
-    match differences(rt, alloc, scenarios, row) {
+    match answer.end() {
         Ok(found) if found.is_empty() => {
             println!(rt; "ok {name}")?;
             Ok(true)
@@ -70,12 +60,26 @@ fn tell<R: Threads + Sync + Print>(
     }
 }
 
-fn main(rt: HostRuntime) -> Result<ExitCode, Fault> {
+fn rows_folder(rt: &HostRuntime) -> Result<String, RowFault> {
+    let Ok(words) = words(rt) else {
+        return Err(RowFault::wrong(rt.alloc(), "the words are no", "text"));
+    };
+    if let Some(folder) = words.get(1) {
+        return Ok(String::from_str(rt.alloc(), folder)?);
+    }
+    let folder = env::current_dir(rt)?;
+    Ok(String::from_str(rt.alloc(), folder.as_str())?)
+}
+
+fn main(rt: HostRuntime) -> Result<ExitCode, RowFault> {
     let folder = rows_folder(&rt)?;
     let mut world = HostWorld::new(rt.clone()?);
-    let scenarios = Scenarios::read(rt.alloc(), &mut world, &folder)?;
+    let mut answer = Answer::new(rt.alloc());
+    let scenarios = Scenarios::read(&mut answer, &mut world, &folder);
+    let rows = scenarios.rows(&mut answer);
+    answer.end()?;
     let mut differ = 0u8;
-    for row in &scenarios.rows(rt.alloc())? {
+    for row in rows.as_slice() {
         if !tell(&rt, rt.alloc(), &scenarios, *row)? {
             differ = 1;
         }

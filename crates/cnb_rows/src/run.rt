@@ -1,52 +1,72 @@
 // One run of the top call in memory.
 use cnb_lifecycle::lifecycle;
-use cnb_world::{MemSpawner, Shelf, World};
-use scenarios::{Came, Chain, Fault, Outage, PieceSink, holdings};
+use cnb_world::{List, MemSpawner, Shelf, World};
+use scenarios::{Answer, Came, Chain, Holding, Outage, PieceSink, push_holdings};
 use std::thread::Threads;
 
 /// Runs the row, with one more call failing.
-pub(crate) fn run<R: Threads + Sync>(rt: &R, chain: &Chain, outage: Outage) -> Result<Came, Fault> {
-    let mut came = not_yet_run(chain, outage)?;
-    let mut shelves: Vec<Box<dyn Shelf>> = Vec::new(chain.alloc);
-    for shelf in chain.mem_shelves(outage)? {
-        shelves.push(Box::new(chain.alloc, shelf)?)?;
-    }
+pub(crate) fn run<R: Threads + Sync>(
+    rt: &R,
+    answer: &mut Answer,
+    chain: &Chain,
+    outage: Outage,
+) -> Option<Came> {
+    let mut came = chain.not_yet_run(answer, outage)?;
     let Came {
         out,
         spawners,
         world,
+        caches,
         ..
     } = &mut came;
-    let status = call(rt, chain, world, spawners, &mut shelves, out)?;
-    came.status = status;
-    came.caches = holdings(chain.alloc, chain.trees, &mut shelves)?;
-    Ok(came)
+    let status = status_over(rt, answer, chain, outage, world, spawners, out, caches);
+    came.end(answer, status);
+    Some(came)
 }
 
-// The files, the children and the output before the run.
-fn not_yet_run(chain: &Chain, outage: Outage) -> Result<Came, Fault> {
-    Ok(Came {
-        status: 0,
-        out: chain.sink(outage)?,
-        spawners: chain.spawners(outage)?,
-        caches: Vec::new(chain.alloc),
-        world: chain.failing_world(outage)?,
-    })
-}
-
-/// The exit status of the row's words over a world.
-pub(crate) fn call<W: World, R: Threads + Sync>(
+/// The exit status of the row's words over a world. Adds what each cache holds then.
+pub(crate) fn status_over<W: World, R: Threads + Sync>(
     rt: &R,
+    answer: &mut Answer,
+    chain: &Chain,
+    outage: Outage,
+    world: &mut W,
+    spawners: &mut Vec<MemSpawner>,
+    out: &mut PieceSink,
+    caches: &mut List<Holding>,
+) -> u8 {
+    let mut shelves: Vec<Box<dyn Shelf>> = Vec::new(answer.alloc);
+    for shelf in chain.mem_shelves(answer, outage) {
+        match Box::new(answer.alloc, shelf) {
+            Ok(shelf) => push_shelf(answer, &mut shelves, shelf),
+            Err(_) => answer.run_out(),
+        }
+    }
+    let status = call(rt, answer, chain, world, spawners, &mut shelves, out);
+    push_holdings(answer, caches, chain.trees, &mut shelves);
+    status
+}
+
+fn push_shelf(answer: &mut Answer, shelves: &mut Vec<Box<dyn Shelf>>, shelf: Box<dyn Shelf>) {
+    if shelves.push(shelf).is_err() {
+        answer.run_out();
+    }
+}
+
+fn call<W: World, R: Threads + Sync>(
+    rt: &R,
+    answer: &mut Answer,
     chain: &Chain,
     world: &mut W,
     spawners: &mut Vec<MemSpawner>,
     shelves: &mut Vec<Box<dyn Shelf>>,
     out: &mut PieceSink,
-) -> Result<u8, Fault> {
-    let (words, env) = (chain.words()?, chain.environment()?);
+) -> u8 {
+    let (words, env) = (chain.words(answer), chain.environment(answer));
     if spawners.is_empty() || shelves.len() > 255 {
-        return Err(Fault::wrong(chain.alloc, "no run has", "such numbers"));
+        answer.wrong("no run has", "such numbers");
+        return 0;
     }
-    let status = lifecycle(rt, chain.alloc, &words, &env, world, spawners, shelves, out);
-    Ok(status.code())
+    let alloc = answer.alloc;
+    lifecycle(rt, alloc, &words, &env, world, spawners, shelves, out).code()
 }

@@ -1,10 +1,9 @@
 // What came of a run.
-use crate::fault::Fault;
+use crate::documents::id_and_version;
 use crate::shelves::Holding;
-use crate::short::id_and_version;
 use crate::sink::PieceSink;
-use cnb_world::{Env, MemSpawner, MemWorld};
-use std::alloc::Global;
+use cnb_world::{Env, List, MemSpawner, MemWorld};
+use row_files::Answer;
 
 /// What came of a run: its status, the text that was taken, the children that ran, the files, and the standing caches.
 #[derive(Drop)]
@@ -12,27 +11,34 @@ pub struct Came {
     pub status: u8,
     pub out: PieceSink,
     pub spawners: Vec<MemSpawner>,
-    pub caches: Vec<Option<Holding>>,
     pub world: MemWorld,
+    pub printed: String,
+    pub caches: List<Holding>,
 }
 
 impl Came {
-    /// The text that was taken.
-    pub(crate) fn printed(&self, alloc: Global) -> Result<String, Fault> {
-        Ok(String::from_utf8_lossy(alloc, self.out.as_slice())?)
+    /// Keeps the status with which the run ended, and what it printed.
+    pub fn end(&mut self, answer: &mut Answer, status: u8) {
+        self.status = status;
+        let mut printed = Answer::new(answer.alloc);
+        printed.put_lossy(self.out.as_slice());
+        self.printed = answer.taken(printed);
     }
 
-    /// The buildpacks whose children were asked, as `a@1.0.0`.
-    pub fn asked(&self, alloc: Global) -> Result<Vec<String>, Fault> {
-        let mut asked = Vec::new(alloc);
-        for spawner in &self.spawners {
-            for ran in spawner.runs() {
-                let id = ran.job.id.as_str();
-                let version = ran.job.version.as_str();
-                asked.push(format!(in alloc; "{id}@{version}")?)?;
-            }
+    /// How many children of the first spawner were asked.
+    pub fn asked_count(&self) -> usize {
+        match self.spawners.first() {
+            Some(spawner) => spawner.runs().len(),
+            None => 0,
         }
-        Ok(asked)
+    }
+
+    /// Whether the cache of this number could not be looked into.
+    pub fn is_unknown(&self, place: usize) -> bool {
+        match self.caches.as_slice().get(place) {
+            Some(holding) => !holding.is_known,
+            None => false,
+        }
     }
 
     /// The environment of a buildpack's child, where it was asked.
@@ -48,17 +54,13 @@ impl Came {
         None
     }
 
-    /// The command lines of the children that ran over the files.
-    pub(crate) fn ran(&self, alloc: Global) -> Result<Vec<String>, Fault> {
-        let mut lines = Vec::new(alloc);
-        for run in self.world.runs()? {
-            let mut line = String::from_str(alloc, run.job.program.as_str())?;
-            for word in run.job.args.as_slice() {
-                let word = word.as_str();
-                write!(line, " {word}")?;
+    /// The environment of the first child of a program that ran over the files.
+    pub(crate) fn run_environment_of(&self, answer: &mut Answer, program: &str) -> Option<&Env> {
+        for run in answer.made(self.world.runs())? {
+            if run.job.program.as_str() == program {
+                return Some(&run.job.env);
             }
-            lines.push(line)?;
         }
-        Ok(lines)
+        None
     }
 }

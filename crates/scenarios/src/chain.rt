@@ -1,173 +1,122 @@
 // What a row is given, with all that it stands on.
-use crate::fault::Fault;
-use crate::items::{play, push_files, push_stored, push_text, push_trees};
-use crate::short::{
-    composite_text, descriptor_path, descriptor_text, order_text, reply, reply_with, targeted_text,
-};
+use crate::documents::push_documents;
+use crate::items::{play, push_files, push_stored, push_trees};
+use crate::outage::Outage;
+use crate::replies::push_replies;
+use crate::taking::{numbers, table};
 use crate::trees::Trees;
-use cnb_world::{Env, List, Placed, Play, Reply, Text};
-use row_files::{Fields, text_of};
-use std::alloc::Global;
+use cnb_world::{Env, List, Placed, Play, Reply};
+use row_files::{Answer, Fields, text_of};
 use toml::Value;
 
 /// A row, its base, the base of that, and so on. What stands nearer to the row replaces or comes before what is
 /// farther.
 #[derive(Drop)]
 pub struct Chain<'a> {
-    pub alloc: Global,
     pub trees: &'a Trees,
-    pub scenarios: Vec<Fields<'a>>,
+    pub scenarios: List<Fields<'a>>,
 }
 
 impl<'a> Chain<'a> {
-    // The nearest that has a key.
-    fn nearest(&self, key: &str) -> Option<Fields<'a>> {
-        for scenario in &self.scenarios {
+    // What the nearest that has a key has under it.
+    fn nearest(&self, key: &str) -> Option<&'a Value> {
+        for scenario in self.scenarios.as_slice() {
             if scenario.has(key) {
-                return Some(*scenario);
+                return scenario.value.get(key);
             }
         }
         None
     }
 
     /// The words of the nearest that has some.
-    pub fn words(&self) -> Result<Vec<String>, Fault> {
-        let mut words = Vec::new(self.alloc);
-        if let Some(scenario) = self.nearest("words") {
-            for word in scenario.text_or_empty("words").split_whitespace() {
-                words.push(String::from_str(self.alloc, word)?)?;
+    pub fn words(&self, answer: &mut Answer) -> Vec<String> {
+        let mut words = List::new(answer.alloc);
+        if let Some(text) = self.nearest("words") {
+            for word in text_of(text).split_whitespace() {
+                let word = answer.joined(&[word]);
+                answer.done(words.push(word));
             }
         }
-        Ok(words)
+        words.into_vec()
     }
 
-    /// The calls of one kind that fail, of the nearest that says of any which fail.
-    pub(crate) fn failing(&self, kind: &str) -> Result<Vec<u64>, Fault> {
+    /// The calls of one kind that fail, of the nearest that says of any which fail, and that of an outage.
+    pub(crate) fn failing(&self, answer: &mut Answer, kind: &str, outage: Outage) -> List<u64> {
         let failing = match self.nearest("failing") {
-            Some(scenario) => scenario.fields("failing"),
-            None => None,
+            Some(value) => (Fields { value }).list(kind),
+            None => &[],
         };
-        match failing {
-            Some(failing) => Ok(failing.numbers(self.alloc, kind)?),
-            None => Ok(Vec::new(self.alloc)),
-        }
+        numbers(answer, failing, outage.of(kind))
     }
 
     /// The caches of the nearest that has some.
     pub fn shelves(&self) -> &'a [Value] {
         match self.nearest("shelves") {
-            Some(scenario) => scenario.list("shelves"),
-            None => &[],
+            Some(Value::Array(shelves)) => shelves,
+            _ => &[],
         }
     }
 
     /// The number of spawners of the nearest that has one, else 1.
     pub fn spawner_count(&self) -> i64 {
         match self.nearest("spawners") {
-            Some(scenario) => scenario.number("spawners").unwrap_or(1),
+            Some(count) => count.as_integer().unwrap_or(1),
             None => 1,
         }
     }
 
     /// The variables of all, the nearest last.
-    pub fn environment(&self) -> Result<Env, Fault> {
-        let mut env = Env::new(self.alloc);
-        for scenario in self.scenarios.iter().rev() {
-            for (name, value) in &scenario.members(self.alloc, "env")? {
-                env.set(
-                    Text::of(self.alloc, name)?,
-                    Text::of(self.alloc, text_of(value))?,
-                )?;
-            }
+    pub fn environment(&self, answer: &mut Answer) -> Env {
+        let mut env = Env::new(answer.alloc);
+        for scenario in self.scenarios.as_slice().iter().rev() {
+            set_variables(answer, &mut env, *scenario);
         }
-        Ok(env)
+        env
     }
 
     /// What stands before the run, of all, the nearest last.
-    pub(crate) fn items(&self) -> Result<List<Placed>, Fault> {
-        let mut items = List::new(self.alloc);
-        for scenario in self.scenarios.iter().rev() {
-            self.push_items(&mut items, *scenario)?;
+    pub(crate) fn items(&self, answer: &mut Answer) -> List<Placed> {
+        let mut items = List::new(answer.alloc);
+        for scenario in self.scenarios.as_slice().iter().rev() {
+            self.push_items(answer, &mut items, *scenario);
         }
-        Ok(items)
+        items
     }
 
-    fn push_items(&self, items: &mut List<Placed>, scenario: Fields) -> Result<(), Fault> {
-        push_documents(self.alloc, items, scenario)?;
-        push_stored(
-            self.alloc,
-            items,
-            self.trees,
-            scenario.text_or_empty("stored"),
-        )?;
-        push_trees(self.alloc, items, self.trees, scenario)?;
-        push_files(self.alloc, items, scenario.list("files"))
+    fn push_items(&self, answer: &mut Answer, items: &mut List<Placed>, scenario: Fields) {
+        push_documents(answer, items, scenario);
+        push_stored(answer, items, self.trees, scenario.text_or_empty("stored"));
+        push_trees(answer, items, self.trees, scenario);
+        push_files(answer, items, "", scenario.list("files"));
     }
 
     /// What the children of programs do, the nearest first.
-    pub(crate) fn plays(&self) -> Result<List<Play>, Fault> {
-        let mut plays = List::new(self.alloc);
-        for scenario in &self.scenarios {
+    pub(crate) fn plays(&self, answer: &mut Answer) -> List<Play> {
+        let mut plays = List::new(answer.alloc);
+        for scenario in self.scenarios.as_slice() {
             for value in scenario.list("plays") {
-                plays.push(play(self.alloc, self.trees, Fields { value })?)?;
+                let play = play(answer, self.trees, Fields { value });
+                answer.done(plays.push(play));
             }
         }
-        Ok(plays)
+        plays
     }
 
     /// What the detect children say, the nearest first.
-    pub(crate) fn replies(&self) -> Result<List<Reply>, Fault> {
-        let mut replies = List::new(self.alloc);
-        for scenario in &self.scenarios {
-            push_replies(self.alloc, &mut replies, *scenario)?;
+    pub(crate) fn replies(&self, answer: &mut Answer) -> List<Reply> {
+        let mut replies = List::new(answer.alloc);
+        for scenario in self.scenarios.as_slice() {
+            push_replies(answer, &mut replies, *scenario);
         }
-        Ok(replies)
+        replies
     }
 }
 
-fn push_replies(alloc: Global, replies: &mut List<Reply>, row: Fields) -> Result<(), Fault> {
-    for (name, plan) in &row.members(alloc, "plans")? {
-        replies.push(reply_with(alloc, name, "0", text_of(plan))?)?;
+fn set_variables(answer: &mut Answer, env: &mut Env, row: Fields) {
+    if let Some(variables) = table(row, "env") {
+        for (name, value) in variables {
+            let (name, value) = (answer.text(name), answer.text(text_of(value)));
+            answer.done(env.set(name, value));
+        }
     }
-    for (name, text) in &row.members(alloc, "replies")? {
-        replies.push(reply(alloc, name, text_of(text))?)?;
-    }
-    Ok(())
-}
-
-// The order and the descriptors that a scenario writes short.
-fn push_documents(alloc: Global, items: &mut List<Placed>, row: Fields) -> Result<(), Fault> {
-    if let Some(order) = row.text("order") {
-        push_text(alloc, items, "/order.toml", order_text(alloc, order)?)?;
-    }
-    for name in row.text_or_empty("buildpacks").split_whitespace() {
-        push_descriptor(alloc, items, name, descriptor_text(alloc, name)?)?;
-    }
-    for (name, targets) in &row.members(alloc, "targets")? {
-        push_descriptor(
-            alloc,
-            items,
-            name,
-            targeted_text(alloc, name, text_of(targets))?,
-        )?;
-    }
-    for (name, order) in &row.members(alloc, "composites")? {
-        push_descriptor(
-            alloc,
-            items,
-            name,
-            composite_text(alloc, name, text_of(order))?,
-        )?;
-    }
-    Ok(())
-}
-
-fn push_descriptor(
-    alloc: Global,
-    items: &mut List<Placed>,
-    name: &str,
-    text: String,
-) -> Result<(), Fault> {
-    let path = descriptor_path(alloc, name)?;
-    push_text(alloc, items, &path, text)
 }

@@ -1,122 +1,162 @@
 // What stands after a run beside what is wanted.
 use crate::comparison::Comparison;
-use crate::fault::Fault;
-use crate::standing::{Standing, is_in, reads_as};
+use crate::items::push_folder;
+use crate::sides::{Sides, compare, tell};
+use crate::standing::{Standing, is_in};
+use crate::taking::table;
 use crate::trees::Tree;
-use cnb_world::{List, MemWorld};
-use row_files::{Fields, text_of};
+use cnb_world::List;
+use row_files::{Answer, text_of};
 use std::alloc::Global;
+use toml::Value;
 
 impl Comparison<'_> {
     /// Compares all that stands.
-    pub(crate) fn compare_standing(&mut self, after: &Standing) -> Result<(), Fault> {
-        self.compare_documents(after)?;
-        self.compare_files(after)?;
-        self.compare_laid(after)?;
-        self.compare_stored(after)?;
-        for path in &self.before.changed(self.alloc, after)? {
-            if !self.is_named(path)? {
-                self.tell(path, "as before", after.kind(path))?;
+    pub(crate) fn compare_standing(&self, answer: &mut Answer, after: &Standing) {
+        self.compare_documents(answer, after);
+        self.compare_files(answer, after);
+        self.compare_laid(answer, after);
+        self.compare_stored(answer, after);
+        let changed = self.before.changed(answer, after);
+        for path in changed.as_slice() {
+            if !self.is_named(path) {
+                tell(answer, path, "as before", after.kind(path));
             }
         }
-        Ok(())
     }
 
-    fn compare_documents(&mut self, after: &Standing) -> Result<(), Fault> {
-        let want = self.want;
-        for (path, table) in &want.members(self.alloc, "documents")? {
-            let text = after.text(self.alloc, path)?;
-            if !reads_as(self.alloc, &text, Some(*table)) {
-                self.tell(path, "another document", &text)?;
+    fn compare_documents(&self, answer: &mut Answer, after: &Standing) {
+        if let Some(documents) = table(self.want, "documents") {
+            for (path, wanted) in documents {
+                let mut text = Answer::new(answer.alloc);
+                after.put_text(&mut text, path);
+                let text = answer.taken(text);
+                compare_document(answer, path, Some(wanted), &text);
             }
         }
-        Ok(())
     }
 
-    fn compare_files(&mut self, after: &Standing) -> Result<(), Fault> {
-        let want = self.want;
-        for (path, wanted) in &want.members(self.alloc, "files")? {
-            let text = after.text(self.alloc, path)?;
-            self.compare(path, text_of(wanted), &text)?;
+    fn compare_files(&self, answer: &mut Answer, after: &Standing) {
+        if let Some(files) = table(self.want, "files") {
+            for (path, wanted) in files {
+                let mut sides = Sides::new(answer.alloc);
+                sides.wanted.put(text_of(wanted));
+                after.put_text(&mut sides.came, path);
+                sides.compare(answer, path);
+            }
         }
-        for (path, wanted) in &want.members(self.alloc, "kinds")? {
-            self.compare(path, text_of(wanted), after.kind(path))?;
+        if let Some(kinds) = table(self.want, "kinds") {
+            for (path, wanted) in kinds {
+                compare(answer, path, text_of(wanted), after.kind(path));
+            }
         }
-        Ok(())
     }
 
     // The trees that are to stand at paths, whole and with nothing besides.
-    fn compare_laid(&mut self, after: &Standing) -> Result<(), Fault> {
-        let (want, trees) = (self.want, self.chain.trees);
-        for (place, name) in &want.members(self.alloc, "laid")? {
-            let name = text_of(name);
-            let tree = trees.named(self.alloc, name)?;
-            if !is_laid(self.alloc, tree, place, after)? {
-                self.tell(place, name, "another tree")?;
+    fn compare_laid(&self, answer: &mut Answer, after: &Standing) {
+        if let Some(laid) = table(self.want, "laid") {
+            for (place, name) in laid {
+                self.compare_tree(answer, after, place, text_of(name));
             }
         }
-        Ok(())
     }
 
-    fn compare_stored(&mut self, after: &Standing) -> Result<(), Fault> {
-        let (want, trees) = (self.want, self.chain.trees);
-        for name in want.text_or_empty("stored").split_whitespace() {
-            let tree = trees.named(self.alloc, name)?;
-            let path = tree.stored_path(self.alloc)?;
-            if after.file(&path) != Some(tree.spelling.as_slice()) {
-                self.tell(&path, name, after.kind(&path))?;
+    fn compare_tree(&self, answer: &mut Answer, after: &Standing, place: &str, name: &str) {
+        if let Some(tree) = self.chain.trees.named(answer, name) {
+            if !is_laid(answer, tree, place, after) {
+                tell(answer, place, name, "another tree");
             }
         }
-        Ok(())
+    }
+
+    fn compare_stored(&self, answer: &mut Answer, after: &Standing) {
+        for name in self.want.text_or_empty("stored").split_whitespace() {
+            if let Some(tree) = self.chain.trees.named(answer, name) {
+                let path = tree.stored_path(answer);
+                if after.file(&path) != Some(tree.spelling.as_slice()) {
+                    tell(answer, &path, name, after.kind(&path));
+                }
+            }
+        }
     }
 
     // Whether the row says what stands at a path.
-    fn is_named(&self, path: &str) -> Result<bool, Fault> {
-        let want = self.want;
-        if is_member(want, "documents", path)
-            || is_member(want, "files", path)
-            || is_member(want, "kinds", path)
-        {
-            return Ok(true);
-        }
-        for (place, _) in &self.want.members(self.alloc, "laid")? {
-            if is_in(place, path) {
-                return Ok(true);
-            }
-        }
-        self.is_stored(path)
+    fn is_named(&self, path: &str) -> bool {
+        self.is_key(path) || self.is_laid_at(path) || self.is_stored_at(path)
     }
 
-    // Whether the row says that a tree is stored at a path.
-    fn is_stored(&self, path: &str) -> Result<bool, Fault> {
-        for name in self.want.text_or_empty("stored").split_whitespace() {
-            let tree = self.chain.trees.named(self.alloc, name)?;
-            if tree.stored_path(self.alloc)?.as_str() == path {
-                return Ok(true);
+    fn is_key(&self, path: &str) -> bool {
+        for key in ["documents", "files", "kinds"] {
+            if let Some(paths) = table(self.want, key) {
+                if paths.contains_key(path) {
+                    return true;
+                }
             }
         }
-        Ok(false)
+        false
+    }
+
+    fn is_laid_at(&self, path: &str) -> bool {
+        if let Some(laid) = table(self.want, "laid") {
+            for (place, _) in laid {
+                if is_in(place, path) {
+                    return true;
+                }
+            }
+        }
+        false
+    }
+
+    fn is_stored_at(&self, path: &str) -> bool {
+        for name in self.want.text_or_empty("stored").split_whitespace() {
+            if let Some(tree) = self.chain.trees.find(name) {
+                if tree.is_stored_at(path) {
+                    return true;
+                }
+            }
+        }
+        false
     }
 }
 
-fn is_member(want: Fields, key: &str, path: &str) -> bool {
-    match want.fields(key) {
-        Some(members) => members.has(path),
-        None => false,
+/// Compares a document with a table; where none is given, with an empty one.
+pub(crate) fn compare_document(
+    answer: &mut Answer,
+    what: &str,
+    wanted: Option<&Value>,
+    text: &str,
+) {
+    if !reads_as(answer.alloc, text, wanted) {
+        tell(answer, what, "another document", text);
+    }
+}
+
+fn reads_as(alloc: Global, text: &str, wanted: Option<&Value>) -> bool {
+    match toml::table_from_str(alloc, text) {
+        Ok(found) => match wanted {
+            Some(wanted) => wanted.as_table() == Some(&found),
+            None => found.is_empty(),
+        },
+        Err(_) => false,
     }
 }
 
 // Whether a tree stands at a place, whole and with nothing besides.
-fn is_laid(alloc: Global, tree: &Tree, place: &str, after: &Standing) -> Result<bool, Fault> {
-    let mut items = List::new(alloc);
-    tree.push_at(alloc, &mut items, place)?;
-    let mut world = MemWorld::new(alloc, items, List::new(alloc), List::new(alloc))?;
-    let wanted = Standing::of(alloc, &mut world)?;
-    Ok(has_all(&wanted, after, place) && has_all(after, &wanted, place))
+fn is_laid(answer: &mut Answer, tree: &Tree, place: &str, after: &Standing) -> bool {
+    let mut items = List::new(answer.alloc);
+    push_folder(answer, &mut items, place, tree.files());
+    match Standing::of_items(answer, items) {
+        Some(wanted) => has_all(&wanted, after, place) && has_all(after, &wanted, place),
+        None => false,
+    }
 }
 
 // Whether all of one that stands in a folder stands in the other.
 fn has_all(one: &Standing, other: &Standing, folder: &str) -> bool {
-    one.found.iter().all(|(path, found)| !is_in(folder, path)
-        || other.found.get(path.as_str()) == Some(found))
+    for (path, _) in &one.found {
+        if is_in(folder, path) && !one.is_equal_at(other, path) {
+            return false;
+        }
+    }
+    true
 }

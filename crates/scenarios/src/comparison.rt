@@ -1,189 +1,172 @@
 // What came of a run beside what is wanted.
 use crate::came::Came;
 use crate::chain::Chain;
-use crate::fault::Fault;
-use crate::short::id_and_version;
+use crate::documents::id_and_version;
+use crate::outage::Outage;
+use crate::sides::{Sides, compare, compare_numbers};
 use crate::standing::Standing;
-use cnb_world::{Env, List};
-use row_files::{Fields, text_of};
-use std::alloc::{AllocError, Global};
+use crate::taking::table;
+use cnb_world::{ChildJob, Env, List};
+use row_files::{Answer, Fields, text_of};
 use toml::Value;
 
-/// What differs from what a row wants, in one line; the text is empty where nothing does.
+/// What a row wants, and what stands before it is run.
 #[derive(Drop)]
 pub struct Comparison<'a> {
-    pub alloc: Global,
     pub chain: &'a Chain<'a>,
-    pub want: Fields<'a>,
-    pub before: Standing,
-    pub text: String,
+    pub(crate) want: Fields<'a>,
+    pub(crate) before: Standing,
+    pub(crate) prints: String,
 }
 
 impl<'a> Comparison<'a> {
-    pub fn new(chain: &'a Chain<'a>, want: Fields<'a>) -> Result<Comparison<'a>, Fault> {
-        let alloc = chain.alloc;
-        let before = Standing::of(alloc, &mut chain.world(List::new(alloc))?)?;
-        Ok(Comparison {
-            alloc,
+    pub fn new(
+        answer: &mut Answer,
+        chain: &'a Chain<'a>,
+        want: Fields<'a>,
+    ) -> Option<Comparison<'a>> {
+        let none_fails = List::new(answer.alloc);
+        let mut world = chain.world(answer, Outage::Nothing, none_fails)?;
+        let before = Standing::of(answer, &mut world);
+        let prints = lines_of(answer, want.list("prints"));
+        Some(Comparison {
             chain,
             want,
             before,
-            text: String::new(alloc),
+            prints,
         })
     }
 
-    /// Adds what differs.
-    pub(crate) fn tell(&mut self, what: &str, wanted: &str, came: &str) -> Result<(), AllocError> {
-        write!(self.text, " {what}: wanted {wanted:?}, came {came:?};")
-    }
-
-    /// Adds what differs, where it does.
-    pub(crate) fn compare(
-        &mut self,
-        what: &str,
-        wanted: &str,
-        came: &str,
-    ) -> Result<(), AllocError> {
-        if wanted == came {
-            return Ok(());
-        }
-        self.tell(what, wanted, came)
-    }
-
     /// Compares a run in which the calls failed that the row names; gives what stands after it.
-    pub fn judge(&mut self, came: &mut Came) -> Result<Standing, Fault> {
-        self.compare_end(came)?;
-        self.compare_children(came)?;
-        self.compare_environments(came)?;
-        self.compare_caches(came)?;
-        let after = Standing::of(self.alloc, &mut came.world)?;
-        self.compare_standing(&after)?;
-        Ok(after)
-    }
-
-    // The status and the text.
-    fn compare_end(&mut self, came: &Came) -> Result<(), Fault> {
-        let wanted = format!(in self.alloc; "{}", self.wanted_status())?;
-        let status = format!(in self.alloc; "{}", came.status)?;
-        self.compare("status", &wanted, &status)?;
-        let wanted = self.wanted_text()?;
-        self.compare("prints", &wanted, &came.printed(self.alloc)?)?;
-        Ok(())
+    pub fn judge(&self, answer: &mut Answer, came: &mut Came) -> Standing {
+        compare_numbers(answer, "status", self.status(), u64::from(came.status));
+        compare(answer, "prints", &self.prints, &came.printed);
+        self.asked(answer, came).compare(answer, "asked");
+        self.ran(answer, came).compare(answer, "ran");
+        self.compare_environments(answer, came);
+        self.compare_caches(answer, came);
+        let after = Standing::of(answer, &mut came.world);
+        self.compare_standing(answer, &after);
+        after
     }
 
     /// The status that is wanted.
-    pub(crate) fn wanted_status(&self) -> i64 {
-        self.want.number("status").unwrap_or(0)
+    pub(crate) fn status(&self) -> u64 {
+        u64::try_from(self.want.number("status").unwrap_or(0)).unwrap_or(0)
     }
 
-    /// The text that is wanted.
-    pub(crate) fn wanted_text(&self) -> Result<String, Fault> {
-        let mut text = String::new(self.alloc);
-        for line in self.want.list("prints") {
-            writeln!(text, "{}", text_of(line))?;
-        }
-        Ok(text)
-    }
-
-    fn compare_children(&mut self, came: &Came) -> Result<(), Fault> {
-        let wanted = self.wanted_asked()?;
-        let asked = self.asked_text(&came.asked(self.alloc)?)?;
-        self.compare("asked", &wanted, &asked)?;
-        let wanted = self.wanted_ran()?;
-        let ran = lines_text(self.alloc, &came.ran(self.alloc)?)?;
-        self.compare("ran", &wanted, &ran)?;
-        Ok(())
-    }
-
-    /// The command lines that are to run, with a bar behind each.
-    pub(crate) fn wanted_ran(&self) -> Result<String, Fault> {
-        let mut text = String::new(self.alloc);
-        for line in self.want.list("ran") {
-            write!(text, "{}|", text_of(line))?;
-        }
-        Ok(text)
-    }
-
-    /// The buildpacks that are to be asked.
-    pub(crate) fn wanted_asked(&self) -> Result<String, Fault> {
-        let mut names = Vec::new(self.alloc);
+    /// The buildpacks that are to be asked, and those that were.
+    pub(crate) fn asked(&self, answer: &mut Answer, came: &Came) -> Sides {
+        let mut sides = Sides::new(answer.alloc);
+        let mut names = List::new(answer.alloc);
         for name in self.want.text_or_empty("asked").split_whitespace() {
             let (id, version) = id_and_version(name);
-            names.push(format!(in self.alloc; "{id}@{version}")?)?;
+            push_asked(answer, &mut names, id, version);
         }
-        self.asked_text(&names)
+        self.put_asked(&mut sides.wanted, names);
+        let mut names = List::new(answer.alloc);
+        push_all_asked(answer, &mut names, came);
+        self.put_asked(&mut sides.came, names);
+        sides
     }
 
-    /// Names with a space before each; ascending where several spawners may be asked in any order.
-    pub(crate) fn asked_text(&self, names: &[String]) -> Result<String, Fault> {
-        let mut sorted = Vec::new(self.alloc);
-        for name in names {
-            sorted.push(name.as_str())?;
+    // Adds names with a space before each; ascending where several spawners may be asked in any order.
+    fn put_asked(&self, text: &mut Answer, names: List<String>) {
+        let mut names = names.into_vec();
+        if self.chain.spawner_count() > 1 && names.sort().is_err() {
+            text.run_out();
         }
-        if self.chain.spawner_count() > 1 {
-            sorted.sort()?;
+        for name in &names {
+            text.put_all(&[" ", name]);
         }
-        let mut text = String::new(self.alloc);
-        for name in &sorted {
-            write!(text, " {name}")?;
-        }
-        Ok(text)
     }
 
-    fn compare_environments(&mut self, came: &Came) -> Result<(), Fault> {
-        let want = self.want;
-        for (name, value) in &want.members(self.alloc, "environments")? {
-            let wanted = variables_text(self.alloc, value)?;
-            let environment = environment_text(self.alloc, came.environment_of(name))?;
-            self.compare(name, &wanted, &environment)?;
+    /// The command lines that are to run, and those that ran, with a bar behind each.
+    pub(crate) fn ran(&self, answer: &mut Answer, came: &Came) -> Sides {
+        let mut sides = Sides::new(answer.alloc);
+        for line in self.want.list("ran") {
+            sides.wanted.put_all(&[text_of(line), "|"]);
         }
-        for (program, value) in &want.members(self.alloc, "run-environments")? {
-            let wanted = variables_text(self.alloc, value)?;
-            let environment = run_environment_text(self.alloc, came, program)?;
-            self.compare(program, &wanted, &environment)?;
+        put_ran(&mut sides.came, came);
+        sides
+    }
+
+    fn compare_environments(&self, answer: &mut Answer, came: &Came) {
+        if let Some(environments) = table(self.want, "environments") {
+            for (name, wanted) in environments {
+                compare_environment(answer, name, wanted, came.environment_of(name));
+            }
         }
-        Ok(())
+        if let Some(environments) = table(self.want, "run-environments") {
+            for (program, wanted) in environments {
+                let found = came.run_environment_of(answer, program);
+                compare_environment(answer, program, wanted, found);
+            }
+        }
     }
 }
 
-/// Lines with a bar behind each.
-pub(crate) fn lines_text(alloc: Global, lines: &[String]) -> Result<String, AllocError> {
-    let mut text = String::new(alloc);
+// Lines, each with its end.
+fn lines_of(answer: &mut Answer, lines: &[Value]) -> String {
+    let mut text = Answer::new(answer.alloc);
     for line in lines {
-        write!(text, "{line}|")?;
+        text.put_all(&[text_of(line), "\n"]);
     }
-    Ok(text)
+    answer.taken(text)
 }
 
-fn variables_text(alloc: Global, variables: &Value) -> Result<String, AllocError> {
-    let mut text = String::new(alloc);
+fn push_asked(answer: &mut Answer, names: &mut List<String>, id: &str, version: &str) {
+    let name = answer.joined(&[id, "@", version]);
+    answer.done(names.push(name));
+}
+
+fn push_all_asked(answer: &mut Answer, names: &mut List<String>, came: &Came) {
+    for spawner in &came.spawners {
+        for ran in spawner.runs() {
+            push_asked(answer, names, ran.job.id.as_str(), ran.job.version.as_str());
+        }
+    }
+}
+
+fn put_ran(text: &mut Answer, came: &Came) {
+    if let Some(runs) = text.made(came.world.runs()) {
+        for run in &runs {
+            put_line(text, &run.job);
+        }
+    }
+}
+
+fn put_line(text: &mut Answer, job: &ChildJob) {
+    text.put(job.program.as_str());
+    for word in job.args.as_slice() {
+        text.put_all(&[" ", word.as_str()]);
+    }
+    text.put("|");
+}
+
+fn compare_environment(answer: &mut Answer, what: &str, wanted: &Value, found: Option<&Env>) {
+    let mut sides = Sides::new(answer.alloc);
+    put_variables(&mut sides.wanted, wanted);
+    put_environment(&mut sides.came, found);
+    sides.compare(answer, what);
+}
+
+fn put_variables(text: &mut Answer, variables: &Value) {
     if let Value::Table(variables) = variables {
         for (name, value) in variables {
-            write!(text, " {name}={}", text_of(value))?;
+            text.put_all(&[" ", name, "=", text_of(value)]);
         }
     }
-    Ok(text)
 }
 
-fn environment_text(alloc: Global, env: Option<&Env>) -> Result<String, AllocError> {
-    let Some(env) = env else {
-        return String::from_str(alloc, "not run");
-    };
-    let mut text = String::new(alloc);
-    for place in 0..env.len() {
-        let name = env.name(place).as_str();
-        let value = env.value(place).as_str();
-        write!(text, " {name}={value}")?;
-    }
-    Ok(text)
-}
-
-// The environment of the first child of a program that ran over the files.
-fn run_environment_text(alloc: Global, came: &Came, program: &str) -> Result<String, Fault> {
-    for run in came.world.runs()? {
-        if run.job.program.as_str() == program {
-            return Ok(environment_text(alloc, Some(&run.job.env))?);
+fn put_environment(text: &mut Answer, env: Option<&Env>) {
+    match env {
+        Some(env) => {
+            for variable in env.variables() {
+                let (name, value) = (variable.name.as_str(), variable.value.as_str());
+                text.put_all(&[" ", name, "=", value]);
+            }
         }
+        None => text.put("not run"),
     }
-    Ok(environment_text(alloc, None)?)
 }

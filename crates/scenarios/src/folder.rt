@@ -1,100 +1,115 @@
 // The rows of a folder.
 use crate::chain::Chain;
-use crate::fault::{Fault, path_of};
 use crate::keys::{SCENARIO_FILE, TREE_FILE};
+use crate::taking::{found, path_of};
 use crate::trees::Trees;
-use cnb_world::{LONGEST_DOCUMENT, List, Path, Text, Whole, World, read_whole};
-use row_files::{Fields, read_file};
-use std::alloc::Global;
+use cnb_world::{LONGEST_DOCUMENT, List, Path, Whole, World, read_whole};
+use row_files::{Answer, Fields, Form, read_file};
 use toml::Value;
 
 /// The file of trees.
 const TREES: &str = "trees.toml";
 
 /// How many rows and bases may stand on one another.
-const MOST_BASES: u32 = 64;
+const MOST_BASES: usize = 64;
 
 /// The files of rows of a folder, and the trees that the rows name.
 #[derive(Drop)]
 pub struct Scenarios {
-    pub trees: Trees,
-    pub files: Vec<Value>,
+    trees: Trees,
+    files: List<Value>,
 }
 
 impl Scenarios {
     /// Reads the files of a folder whose names end in `.toml`, ascending.
-    pub fn read<W: World>(alloc: Global, world: &mut W, folder: &Path) -> Result<Scenarios, Fault> {
+    pub fn read<W: World>(answer: &mut Answer, world: &mut W, folder: &str) -> Scenarios {
         let mut scenarios = Scenarios {
-            trees: read_trees(alloc, world, folder)?,
-            files: Vec::new(alloc),
+            trees: Trees::none(answer.alloc),
+            files: List::new(answer.alloc),
         };
-        match scenarios.read_files(alloc, world, folder) {
-            Ok(()) => Ok(scenarios),
-            Err(fault) => Err(fault),
+        if let Some(folder) = path_of(answer, folder) {
+            scenarios.read_trees(answer, world, &folder);
+            scenarios.read_files(answer, world, &folder);
+        }
+        scenarios
+    }
+
+    fn read_trees<W: World>(&mut self, answer: &mut Answer, world: &mut W, folder: &Path) {
+        let text = read_text(answer, world, folder, TREES);
+        if let Some(file) = parsed(answer, TREES, &text, &TREE_FILE) {
+            self.trees.add(answer, Fields { value: &file });
         }
     }
 
-    fn read_files<W: World>(
-        &mut self,
-        alloc: Global,
-        world: &mut W,
-        folder: &Path,
-    ) -> Result<(), Fault> {
-        let names: List<Text> = world.list(folder)?;
-        for name in names.as_slice() {
-            let name = name.as_str();
-            if name.ends_with(".toml") && name != TREES {
-                let file = read_rows(alloc, world, folder, name, &self.trees)?;
-                self.files.push(file)?;
+    fn read_files<W: World>(&mut self, answer: &mut Answer, world: &mut W, folder: &Path) {
+        if let Some(names) = found(answer, world.list(folder)) {
+            for name in names.as_slice() {
+                let name = name.as_str();
+                if name.ends_with(".toml") && name != TREES {
+                    self.read_rows(answer, world, folder, name);
+                }
             }
         }
-        Ok(())
+    }
+
+    fn read_rows<W: World>(
+        &mut self,
+        answer: &mut Answer,
+        world: &mut W,
+        folder: &Path,
+        name: &str,
+    ) {
+        let text = read_text(answer, world, folder, name);
+        let mut filled = Answer::new(answer.alloc);
+        self.trees.put_filled(&mut filled, &text);
+        let filled = answer.taken(filled);
+        if let Some(file) = parsed(answer, name, &filled, &SCENARIO_FILE) {
+            answer.done(self.files.push(file));
+        }
     }
 
     /// The rows.
-    pub fn rows(&self, alloc: Global) -> Result<Vec<Fields<'_>>, Fault> {
-        let mut rows = Vec::new(alloc);
-        for file in &self.files {
+    pub fn rows(&self, answer: &mut Answer) -> List<Fields<'_>> {
+        let mut rows = List::new(answer.alloc);
+        for file in self.files.as_slice() {
             for value in (Fields { value: file }).list("row") {
-                rows.push(Fields { value })?;
+                answer.done(rows.push(Fields { value }));
             }
         }
-        Ok(rows)
+        rows
     }
 
     /// A row with all that it stands on.
-    pub fn chain<'a>(&'a self, alloc: Global, row: Fields<'a>) -> Result<Chain<'a>, Fault> {
-        let mut scenarios = Vec::new(alloc);
+    pub fn chain<'a>(&'a self, answer: &mut Answer, row: Fields<'a>) -> Chain<'a> {
+        let mut scenarios = List::new(answer.alloc);
         let mut next = Some(row);
         for _ in 0..MOST_BASES {
-            let Some(scenario) = next else {
-                let trees = &self.trees;
-                return Ok(Chain {
-                    alloc,
-                    trees,
-                    scenarios,
-                });
-            };
-            scenarios.push(scenario)?;
-            next = self.base_of(alloc, scenario)?;
+            if let Some(scenario) = next {
+                answer.done(scenarios.push(scenario));
+                next = self.base_of(answer, scenario);
+            }
         }
-        let name = row.text_or_empty("name");
-        Err(Fault::wrong(alloc, "a base stands on itself:", name))
+        if scenarios.as_slice().len() >= MOST_BASES {
+            answer.wrong("a base stands on itself:", row.text_or_empty("name"));
+        }
+        Chain {
+            trees: &self.trees,
+            scenarios,
+        }
     }
 
-    fn base_of(&self, alloc: Global, scenario: Fields) -> Result<Option<Fields<'_>>, Fault> {
-        let Some(name) = scenario.text("base") else {
-            return Ok(None);
-        };
-        match self.named("base", name).or(self.named("row", name)) {
-            Some(base) => Ok(Some(base)),
-            None => Err(Fault::wrong(alloc, "no such base:", name)),
+    fn base_of(&self, answer: &mut Answer, scenario: Fields) -> Option<Fields<'_>> {
+        let name = scenario.text("base")?;
+        let base = self.named("base", name).or(self.named("row", name));
+        if base.is_none() {
+            answer.wrong("no such base:", name);
         }
+        base
     }
 
     // The first of a name among the bases or the rows of all files.
     fn named(&self, key: &str, name: &str) -> Option<Fields<'_>> {
-        for file in &self.files {
+        for file in self.files.as_slice() {
             for value in (Fields { value: file }).list(key) {
                 let found = Fields { value };
                 if found.text_or_empty("name") == name {
@@ -106,37 +121,30 @@ impl Scenarios {
     }
 }
 
-fn read_rows<W: World>(
-    alloc: Global,
-    world: &mut W,
-    folder: &Path,
-    name: &str,
-    trees: &Trees,
-) -> Result<Value, Fault> {
-    let text = read_text(alloc, world, folder, name)?;
-    let text = trees.filled(alloc, &text)?;
-    Ok(read_file(alloc, name, &text, &SCENARIO_FILE)?)
-}
-
-fn read_trees<W: World>(alloc: Global, world: &mut W, folder: &Path) -> Result<Trees, Fault> {
-    let text = read_text(alloc, world, folder, TREES)?;
-    Trees::of(alloc, read_file(alloc, TREES, &text, &TREE_FILE)?)
-}
-
-fn read_text<W: World>(
-    alloc: Global,
-    world: &mut W,
-    folder: &Path,
-    name: &str,
-) -> Result<String, Fault> {
-    let path = path_in(alloc, folder, name)?;
-    match read_whole(world, &path, LONGEST_DOCUMENT as u64)? {
-        Whole::Bytes(bytes) => Ok(String::from_utf8_lossy(alloc, bytes.as_slice())?),
-        Whole::Absent | Whole::Large(_) => Err(Fault::wrong(alloc, "no file of rows:", name)),
+fn parsed(answer: &mut Answer, name: &str, text: &str, form: &Form) -> Option<Value> {
+    match read_file(answer.alloc, name, text, form) {
+        Ok(file) => Some(file),
+        Err(fault) => {
+            answer.fail(fault);
+            None
+        }
     }
 }
 
-fn path_in(alloc: Global, folder: &Path, name: &str) -> Result<Path, Fault> {
-    let text = format!(in alloc; "{}/{name}", folder.as_str())?;
-    path_of(alloc, &text)
+fn read_text<W: World>(answer: &mut Answer, world: &mut W, folder: &Path, name: &str) -> String {
+    let mut text = Answer::new(answer.alloc);
+    put_file(&mut text, world, folder, name);
+    answer.taken(text)
+}
+
+fn put_file<W: World>(text: &mut Answer, world: &mut W, folder: &Path, name: &str) {
+    let path = text.joined(&[folder.as_str(), "/", name]);
+    let Some(path) = path_of(text, &path) else {
+        return;
+    };
+    match found(text, read_whole(world, &path, LONGEST_DOCUMENT as u64)) {
+        Some(Whole::Bytes(bytes)) => text.put_lossy(bytes.as_slice()),
+        Some(Whole::Absent) | Some(Whole::Large(_)) => text.wrong("no file of rows:", name),
+        None => {}
+    }
 }

@@ -1,150 +1,126 @@
 // What stands at paths, and what the children of programs do.
-use crate::fault::{Fault, path_of};
+use crate::taking::{path_of, table};
 use crate::trees::Trees;
-use cnb_world::{Bytes, End, Item, List, Placed, Play, Text};
-use row_files::{Fields, text_of};
-use std::alloc::{AllocError, Global};
+use cnb_world::{Bytes, End, Item, List, Path, Placed, Play};
+use row_files::{Answer, Fields, text_of};
 use toml::Value;
 
-/// Adds a file with this text.
-pub(crate) fn push_text(
-    alloc: Global,
-    items: &mut List<Placed>,
-    path: &str,
-    text: String,
-) -> Result<(), Fault> {
-    push_bytes(alloc, items, path, Bytes::from_vec(text.into_bytes()))
-}
-
 /// Adds a file with these bytes.
-pub(crate) fn push_bytes(
-    alloc: Global,
-    items: &mut List<Placed>,
-    path: &str,
-    bytes: Bytes,
-) -> Result<(), Fault> {
-    push_item(alloc, items, path, Item::File { exec: false, bytes })
+pub(crate) fn push_file(answer: &mut Answer, items: &mut List<Placed>, path: &str, bytes: &[u8]) {
+    let bytes = answer.bytes(bytes);
+    push_item(answer, items, path, Item::File { exec: false, bytes });
 }
 
-fn push_item(alloc: Global, items: &mut List<Placed>, path: &str, item: Item) -> Result<(), Fault> {
-    let path = path_of(alloc, path)?;
-    Ok(items.push(Placed { path, item })?)
-}
-
-/// Adds what stands at each path.
-pub(crate) fn push_files(
-    alloc: Global,
-    items: &mut List<Placed>,
-    rows: &[Value],
-) -> Result<(), Fault> {
-    for value in rows {
-        let row = Fields { value };
-        push_item(
-            alloc,
-            items,
-            row.text_or_empty("path"),
-            item_of(alloc, row)?,
-        )?;
+fn push_item(answer: &mut Answer, items: &mut List<Placed>, path: &str, item: Item) {
+    if let Some(path) = path_of(answer, path) {
+        answer.done(items.push(Placed { path, item }));
     }
-    Ok(())
 }
 
 /// Adds a folder at a place, and in it what stands at each path from its root.
-pub(crate) fn push_below(
-    alloc: Global,
+pub(crate) fn push_folder(
+    answer: &mut Answer,
     items: &mut List<Placed>,
     place: &str,
     rows: &[Value],
-) -> Result<(), Fault> {
-    push_item(alloc, items, place, Item::Folder)?;
-    for value in rows {
-        let row = Fields { value };
-        let path = below(alloc, place, row.text_or_empty("path"))?;
-        push_item(alloc, items, &path, item_of(alloc, row)?)?;
-    }
-    Ok(())
+) {
+    push_item(answer, items, place, Item::Folder);
+    let front = if place == "/" { "" } else { place };
+    push_files(answer, items, front, rows);
 }
 
-fn below(alloc: Global, place: &str, path: &str) -> Result<String, AllocError> {
-    let place = if place == "/" { "" } else { place };
-    format!(in alloc; "{place}{path}")
+/// Adds what stands at each path, behind this text.
+pub(crate) fn push_files(
+    answer: &mut Answer,
+    items: &mut List<Placed>,
+    front: &str,
+    rows: &[Value],
+) {
+    for value in rows {
+        let row = Fields { value };
+        let path = answer.joined(&[front, row.text_or_empty("path")]);
+        let item = item_of(answer, row);
+        push_item(answer, items, &path, item);
+    }
 }
 
 /// Adds the trees that a row lays, each at its path.
 pub(crate) fn push_trees(
-    alloc: Global,
+    answer: &mut Answer,
     items: &mut List<Placed>,
     trees: &Trees,
     row: Fields,
-) -> Result<(), Fault> {
-    for (place, name) in &row.members(alloc, "lays")? {
-        trees
-            .named(alloc, text_of(name))?
-            .push_at(alloc, items, place)?;
+) {
+    if let Some(lays) = table(row, "lays") {
+        for (place, name) in lays {
+            if let Some(tree) = trees.named(answer, text_of(name)) {
+                push_folder(answer, items, place, tree.files());
+            }
+        }
     }
-    Ok(())
 }
 
 /// Adds the files of the trees that are named, in the store.
 pub(crate) fn push_stored(
-    alloc: Global,
+    answer: &mut Answer,
     items: &mut List<Placed>,
     trees: &Trees,
     names: &str,
-) -> Result<(), Fault> {
+) {
     for name in names.split_whitespace() {
-        let tree = trees.named(alloc, name)?;
-        let path = tree.stored_path(alloc)?;
-        push_bytes(alloc, items, &path, Bytes::of(alloc, &tree.spelling)?)?;
+        if let Some(tree) = trees.named(answer, name) {
+            let path = tree.stored_path(answer);
+            push_file(answer, items, &path, tree.spelling.as_slice());
+        }
     }
-    Ok(())
 }
 
-fn item_of(alloc: Global, row: Fields) -> Result<Item, Fault> {
+fn item_of(answer: &mut Answer, row: Fields) -> Item {
     if row.is_set("folder") {
-        return Ok(Item::Folder);
+        return Item::Folder;
     }
     if row.is_set("odd") {
-        return Ok(Item::Odd);
+        return Item::Odd;
     }
     if let Some(target) = row.text("link") {
-        let target = Text::of(alloc, target)?;
-        return Ok(Item::Link { target });
+        let target = answer.text(target);
+        return Item::Link { target };
     }
     let exec = row.is_set("exec");
-    let bytes = contents(alloc, row)?;
-    Ok(Item::File { exec, bytes })
+    let bytes = contents(answer, row);
+    Item::File { exec, bytes }
 }
 
-fn contents(alloc: Global, row: Fields) -> Result<Bytes, Fault> {
-    let mut bytes = Vec::new(alloc);
-    if row.has("bytes") {
-        for number in &row.numbers(alloc, "bytes")? {
-            bytes.push(u8::try_from(*number).unwrap_or(0))?;
-        }
-    } else {
+fn contents(answer: &mut Answer, row: Fields) -> Bytes {
+    let mut bytes = answer.bytes(b"");
+    for number in row.list("bytes") {
+        let byte = u8::try_from(number.as_integer().unwrap_or(0)).unwrap_or(0);
+        answer.done(bytes.append(&[byte]));
+    }
+    if !row.has("bytes") {
+        let text = row.text_or_empty("text");
         for _ in 0..row.number("times").unwrap_or(1) {
-            bytes.extend_from_slice(row.text_or_empty("text").as_bytes())?;
+            answer.done(bytes.append(text.as_bytes()));
         }
     }
-    Ok(Bytes::from_vec(bytes))
+    bytes
 }
 
 /// What a child of a program does.
-pub(crate) fn play(alloc: Global, trees: &Trees, row: Fields) -> Result<Play, Fault> {
+pub(crate) fn play(answer: &mut Answer, trees: &Trees, row: Fields) -> Play {
     let mut play = Play {
-        program: Text::of(alloc, row.text_or_empty("program"))?,
+        program: answer.text(row.text_or_empty("program")),
         end: End {
             code: code(row),
-            side: Bytes::from_vec(Vec::new(alloc)),
+            side: answer.bytes(row.text_or_empty("side").as_bytes()),
         },
-        removes: List::new(alloc),
-        leaves: List::new(alloc),
+        removes: List::new(answer.alloc),
+        leaves: List::new(answer.alloc),
     };
-    match play_changes(alloc, trees, row, &mut play) {
-        Ok(()) => Ok(play),
-        Err(fault) => Err(fault),
-    }
+    push_paths(answer, &mut play.removes, row.list("removes"));
+    push_trees(answer, &mut play.leaves, trees, row);
+    push_files(answer, &mut play.leaves, "", row.list("leaves"));
+    play
 }
 
 fn code(row: Fields) -> Option<i32> {
@@ -154,12 +130,10 @@ fn code(row: Fields) -> Option<i32> {
     }
 }
 
-// Adds what a child writes, removes, lays and leaves.
-fn play_changes(alloc: Global, trees: &Trees, row: Fields, play: &mut Play) -> Result<(), Fault> {
-    play.end.side.append(row.text_or_empty("side").as_bytes())?;
-    for path in row.list("removes") {
-        play.removes.push(path_of(alloc, text_of(path))?)?;
+fn push_paths(answer: &mut Answer, paths: &mut List<Path>, texts: &[Value]) {
+    for text in texts {
+        if let Some(path) = path_of(answer, text_of(text)) {
+            answer.done(paths.push(path));
+        }
     }
-    push_trees(alloc, &mut play.leaves, trees, row)?;
-    push_files(alloc, &mut play.leaves, row.list("leaves"))
 }

@@ -1,10 +1,8 @@
 // A call that fails besides those that the row names.
-use crate::fault::Fault;
-use cnb_world::List;
 
 /// A call that fails besides those that the row names, by its number from 0; of a cache by the cache's number before
 /// it. Or how many of the bytes of a file are there, of the one that the row names as cut.
-#[derive(Clone, Copy, PartialEq, Eq)]
+#[derive(Clone, Copy)]
 pub enum Outage {
     Nothing,
     World(u64),
@@ -15,26 +13,12 @@ pub enum Outage {
 }
 
 impl Outage {
-    /// The call on the files.
-    pub(crate) fn of_world(self) -> Option<u64> {
+    /// The call of the kind that rows name by this word.
+    pub(crate) fn of(self, kind: &str) -> Option<u64> {
         match self {
-            Outage::World(number) => Some(number),
-            _ => None,
-        }
-    }
-
-    /// The call of each spawner.
-    pub(crate) fn of_spawner(self) -> Option<u64> {
-        match self {
-            Outage::Spawner(number) => Some(number),
-            _ => None,
-        }
-    }
-
-    /// The write of the text.
-    pub(crate) fn of_sink(self) -> Option<u64> {
-        match self {
-            Outage::Sink(number) => Some(number),
+            Outage::World(number) if kind == "world" => Some(number),
+            Outage::Spawner(number) if kind == "spawner" => Some(number),
+            Outage::Sink(number) if kind == "sink" => Some(number),
             _ => None,
         }
     }
@@ -46,13 +30,4 @@ impl Outage {
             _ => None,
         }
     }
-}
-
-/// These numbers, and one more.
-pub(crate) fn with(numbers: Vec<u64>, more: Option<u64>) -> Result<List<u64>, Fault> {
-    let mut all = List::from_vec(numbers);
-    if let Some(number) = more {
-        all.push(number)?;
-    }
-    Ok(all)
 }

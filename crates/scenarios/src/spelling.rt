@@ -1,91 +1,92 @@
 // The bytes that spell a tree, written here anew from the description of the format.
-use crate::fault::Fault;
-use cnb_world::{Kind, MemWorld, Path, World};
-use std::alloc::{AllocError, Global};
+use crate::standing::Standing;
+use cnb_world::Bytes;
+use row_files::Answer;
 
 /// How many levels of nodes a tree of a row may have.
 const MAX_LEVELS: u32 = 16;
 
-/// The spelling of what stands at a path.
-pub(crate) fn spelling(alloc: Global, world: &mut MemWorld, path: &Path) -> Result<Vec<u8>, Fault> {
-    let mut out = Vec::new(alloc);
-    out.extend_from_slice(b"CNBT\x01")?;
-    spell(alloc, world, path, MAX_LEVELS, &mut out)?;
-    Ok(out)
+/// Adds the spelling of what stands at a path.
+pub(crate) fn put_spelling(answer: &mut Answer, out: &mut Bytes, standing: &Standing, path: &str) {
+    put(answer, out, b"CNBT\x01");
+    spell(answer, out, standing, path, MAX_LEVELS);
 }
 
-fn too_large(alloc: Global, path: &Path) -> Fault {
-    Fault::wrong(alloc, "no tree is so large:", path.as_str())
+fn put(answer: &mut Answer, out: &mut Bytes, bytes: &[u8]) {
+    answer.done(out.append(bytes));
 }
 
-fn put_count(alloc: Global, out: &mut Vec<u8>, path: &Path, count: usize) -> Result<(), Fault> {
-    let Ok(count) = u32::try_from(count) else {
-        return Err(too_large(alloc, path));
-    };
-    out.push(b'D')?;
-    out.extend_from_slice(&count.to_be_bytes())?;
-    Ok(())
+fn too_large(answer: &mut Answer, path: &str) {
+    answer.wrong("no tree is so large:", path);
 }
 
 // A name or a target, behind its length.
-fn put_text(alloc: Global, out: &mut Vec<u8>, path: &Path, text: &str) -> Result<(), Fault> {
-    let Ok(length) = u16::try_from(text.len()) else {
-        return Err(too_large(alloc, path));
-    };
-    out.extend_from_slice(&length.to_be_bytes())?;
-    out.extend_from_slice(text.as_bytes())?;
-    Ok(())
+fn put_text(answer: &mut Answer, out: &mut Bytes, path: &str, text: &[u8]) {
+    match u16::try_from(text.len()) {
+        Ok(length) => {
+            put(answer, out, &length.to_be_bytes());
+            put(answer, out, text);
+        }
+        Err(_) => too_large(answer, path),
+    }
 }
 
-fn put_file(out: &mut Vec<u8>, exec: bool, bytes: &[u8]) -> Result<(), AllocError> {
-    out.push(b'F')?;
-    out.push(u8::from(exec))?;
-    out.extend_from_slice(&(bytes.len() as u64).to_be_bytes())?;
-    out.extend_from_slice(bytes)
+fn put_file(answer: &mut Answer, out: &mut Bytes, exec: u8, bytes: &[u8]) {
+    put(answer, out, &[b'F', exec]);
+    put(answer, out, &(bytes.len() as u64).to_be_bytes());
+    put(answer, out, bytes);
+}
+
+// The name that a path has in a folder, where it stands right in it.
+fn name_in<'a>(folder: &str, path: &'a str) -> Option<&'a str> {
+    match path.rsplit_once('/') {
+        Some((parent, name)) if parent == folder => Some(name),
+        _ => None,
+    }
+}
+
+fn put_count(answer: &mut Answer, out: &mut Bytes, standing: &Standing, folder: &str) {
+    let mut count = 0u32;
+    for (path, _) in &standing.found {
+        if name_in(folder, path).is_some() {
+            count = count.saturating_add(1);
+        }
+    }
+    put(answer, out, b"D");
+    put(answer, out, &count.to_be_bytes());
 }
 
 #[cycle(spell)]
 fn spell_names(
-    alloc: Global,
-    world: &mut MemWorld,
-    folder: &Path,
+    answer: &mut Answer,
+    out: &mut Bytes,
+    standing: &Standing,
+    folder: &str,
     levels: u32,
-    out: &mut Vec<u8>,
-) -> Result<(), Fault> {
-    let names = world.list(folder)?;
-    put_count(alloc, out, folder, names.as_slice().len())?;
-    for name in names.as_slice() {
-        let Ok(path) = folder.join(alloc, name.as_str()) else {
-            return Err(too_large(alloc, folder));
-        };
-        put_text(alloc, out, &path, name.as_str())?;
-        spell(alloc, world, &path, levels, out)?;
+) {
+    put_count(answer, out, standing, folder);
+    for (path, _) in &standing.found {
+        if let Some(name) = name_in(folder, path) {
+            put_text(answer, out, path, name.as_bytes());
+            spell(answer, out, standing, path, levels);
+        }
     }
-    Ok(())
 }
 
 #[cycle(spell)]
-fn spell(
-    alloc: Global,
-    world: &mut MemWorld,
-    path: &Path,
-    levels: u32,
-    out: &mut Vec<u8>,
-) -> Result<(), Fault> {
+fn spell(answer: &mut Answer, out: &mut Bytes, standing: &Standing, path: &str, levels: u32) {
     if levels == 0 {
-        return Err(too_large(alloc, path));
+        return too_large(answer, path);
     }
-    match world.kind(path)? {
-        Kind::Folder => spell_names(alloc, world, path, levels - 1, out),
-        Kind::File { exec, len } => {
-            let bytes = world.read(path, 0, len)?;
-            Ok(put_file(out, exec, bytes.as_slice())?)
+    let bytes = standing.bytes(path);
+    match standing.kind(path) {
+        "folder" => spell_names(answer, out, standing, path, levels - 1),
+        "file" => put_file(answer, out, 0, bytes),
+        "executable" => put_file(answer, out, 1, bytes),
+        "link" => {
+            put(answer, out, b"L");
+            put_text(answer, out, path, bytes);
         }
-        Kind::Link => {
-            let target = world.read_link(path)?;
-            out.push(b'L')?;
-            put_text(alloc, out, path, target.as_str())
-        }
-        Kind::Absent | Kind::Odd => Err(Fault::wrong(alloc, "no tree has", path.as_str())),
+        _ => answer.wrong("no tree has", path),
     }
 }

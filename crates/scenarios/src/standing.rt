@@ -1,15 +1,14 @@
 // What stands in a world.
-use crate::fault::{Fault, path_of};
-use cnb_world::{Kind, MemWorld, Path, World};
-use std::alloc::{AllocError, Global};
+use crate::taking::{fail_files, found, path_of};
+use cnb_world::{Bytes, Kind, List, MemWorld, Path, Placed, World};
+use row_files::Answer;
 use std::collections::BTreeMap;
-use toml::{Table, Value};
 
 /// What stands at a path: the word for its kind, and the bytes of a file or of a link's target.
-#[derive(Drop, PartialEq, Eq)]
+#[derive(Drop)]
 pub struct Found {
     pub kind: &'static str,
-    pub bytes: Vec<u8>,
+    pub bytes: Bytes,
 }
 
 /// All that stands in a world but its root, by path.
@@ -19,42 +18,72 @@ pub struct Standing {
 }
 
 impl Standing {
-    pub(crate) fn of(alloc: Global, world: &mut MemWorld) -> Result<Standing, Fault> {
+    pub(crate) fn of(answer: &mut Answer, world: &mut MemWorld) -> Standing {
         let mut standing = Standing {
-            found: BTreeMap::new(alloc),
+            found: BTreeMap::new(answer.alloc),
         };
-        let mut folders = Vec::new(alloc);
-        folders.push(path_of(alloc, "/")?)?;
+        if let Some(root) = path_of(answer, "/") {
+            standing.add_all(answer, world, root);
+        }
+        standing
+    }
+
+    /// What stands in a world where these items are placed.
+    pub(crate) fn of_items(answer: &mut Answer, items: List<Placed>) -> Option<Standing> {
+        let (plays, failing) = (List::new(answer.alloc), List::new(answer.alloc));
+        let mut world = answer.made(MemWorld::new(answer.alloc, items, plays, failing))?;
+        Some(Standing::of(answer, &mut world))
+    }
+
+    // Adds what stands in a folder, in the folders in it, and so on.
+    fn add_all(&mut self, answer: &mut Answer, world: &mut MemWorld, folder: Path) {
+        let mut folders = Vec::new(answer.alloc);
+        push_folder(answer, &mut folders, folder);
         for _ in 0..u64::MAX {
             let Some(folder) = folders.pop() else {
                 break;
             };
-            standing.visit(alloc, world, &folder, &mut folders)?;
+            self.add_folder(answer, world, &folder, &mut folders);
         }
-        Ok(standing)
     }
 
-    fn visit(
+    // Adds what stands in a folder; the folders in it are to follow.
+    fn add_folder(
         &mut self,
-        alloc: Global,
+        answer: &mut Answer,
         world: &mut MemWorld,
         folder: &Path,
         folders: &mut Vec<Path>,
-    ) -> Result<(), Fault> {
-        let names = world.list(folder)?;
-        for name in names.as_slice() {
-            let Ok(path) = folder.join(alloc, name.as_str()) else {
-                return Err(Fault::Files);
-            };
-            let found = found_at(alloc, world, &path)?;
-            let is_folder = found.kind == "folder";
-            let text = String::from_str(alloc, path.as_str())?;
-            self.found.insert(text, found)?;
-            if is_folder {
-                folders.push(path)?;
+    ) {
+        if let Some(names) = found(answer, world.list(folder)) {
+            for name in names.as_slice() {
+                match folder.join(answer.alloc, name.as_str()) {
+                    Ok(path) => self.add(answer, world, path, folders),
+                    Err(_) => fail_files(answer),
+                }
             }
         }
-        Ok(())
+    }
+
+    fn add(
+        &mut self,
+        answer: &mut Answer,
+        world: &mut MemWorld,
+        path: Path,
+        folders: &mut Vec<Path>,
+    ) {
+        if let Some(kind) = found(answer, world.kind(&path)) {
+            let mut bytes = answer.bytes(b"");
+            put_contents(answer, &mut bytes, world, &path, kind);
+            let kind = kind_word(kind);
+            let text = answer.joined(&[path.as_str()]);
+            if self.found.insert(text, Found { kind, bytes }).is_err() {
+                answer.run_out();
+            }
+            if kind == "folder" {
+                push_folder(answer, folders, path);
+            }
+        }
     }
 
     /// The word for the kind of what stands at a path.
@@ -65,48 +94,65 @@ impl Standing {
         }
     }
 
+    /// The bytes of the file, or of the link's target, at a path.
+    pub(crate) fn bytes(&self, path: &str) -> &[u8] {
+        match self.found.get(path) {
+            Some(found) => found.bytes.as_slice(),
+            None => &[],
+        }
+    }
+
     /// The bytes of the file at a path.
     pub(crate) fn file(&self, path: &str) -> Option<&[u8]> {
-        match self.found.get(path) {
-            Some(found) if is_file(found.kind) => Some(found.bytes.as_slice()),
+        match self.kind(path) {
+            "file" | "executable" => Some(self.bytes(path)),
             _ => None,
         }
     }
 
-    /// The text of the file at a path, with a mark in place of what is no UTF-8, or `no file`.
-    pub(crate) fn text(&self, alloc: Global, path: &str) -> Result<String, AllocError> {
+    /// Adds the text of the file at a path, with a mark in place of what is no UTF-8, or `no file`.
+    pub(crate) fn put_text(&self, text: &mut Answer, path: &str) {
         match self.file(path) {
-            Some(bytes) => String::from_utf8_lossy(alloc, bytes),
-            None => String::from_str(alloc, "no file"),
+            Some(bytes) => text.put_lossy(bytes),
+            None => text.put("no file"),
         }
+    }
+
+    /// Whether the very same stands at a path in both.
+    pub(crate) fn is_equal_at(&self, other: &Standing, path: &str) -> bool {
+        self.kind(path) == other.kind(path) && self.bytes(path) == other.bytes(path)
     }
 
     /// Whether the same stands at a path in both. What is absent and a folder count as the same.
     pub(crate) fn is_same_at(&self, other: &Standing, path: &str) -> bool {
-        if is_open(self.kind(path)) || is_open(other.kind(path)) {
-            return is_open(self.kind(path)) && is_open(other.kind(path));
-        }
-        self.found.get(path) == other.found.get(path)
+        self.is_equal_at(other, path) || (self.is_open_at(path) && other.is_open_at(path))
+    }
+
+    // Whether nothing but a folder, or nothing, stands at a path.
+    fn is_open_at(&self, path: &str) -> bool {
+        matches!(self.kind(path), "absent" | "folder")
     }
 
     /// The paths where something other than a folder stands in either, and not the same.
-    pub(crate) fn changed(
-        &self,
-        alloc: Global,
-        after: &Standing,
-    ) -> Result<Vec<String>, AllocError> {
-        let mut changed = Vec::new(alloc);
+    pub(crate) fn changed<'a>(&'a self, answer: &mut Answer, after: &'a Standing) -> List<&'a str> {
+        let mut changed = List::new(answer.alloc);
         for (path, _) in &self.found {
             if !self.is_same_at(after, path) {
-                changed.push(String::from_str(alloc, path)?)?;
+                answer.done(changed.push(path.as_str()));
             }
         }
         for (path, _) in &after.found {
             if !self.found.contains_key(path.as_str()) && !self.is_same_at(after, path) {
-                changed.push(String::from_str(alloc, path)?)?;
+                answer.done(changed.push(path.as_str()));
             }
         }
-        Ok(changed)
+        changed
+    }
+}
+
+fn push_folder(answer: &mut Answer, folders: &mut Vec<Path>, folder: Path) {
+    if folders.push(folder).is_err() {
+        answer.run_out();
     }
 }
 
@@ -116,14 +162,6 @@ pub(crate) fn is_in(folder: &str, path: &str) -> bool {
         Some(rest) => rest.is_empty() || rest.starts_with('/') || folder == "/",
         None => false,
     }
-}
-
-fn is_open(kind: &str) -> bool {
-    kind == "absent" || kind == "folder"
-}
-
-fn is_file(kind: &str) -> bool {
-    kind == "file" || kind == "executable"
 }
 
 fn kind_word(kind: Kind) -> &'static str {
@@ -137,40 +175,25 @@ fn kind_word(kind: Kind) -> &'static str {
     }
 }
 
-fn found_at(alloc: Global, world: &mut MemWorld, path: &Path) -> Result<Found, Fault> {
-    let kind = world.kind(path)?;
-    Ok(Found {
-        kind: kind_word(kind),
-        bytes: bytes_at(alloc, world, path, kind)?,
-    })
-}
-
-fn bytes_at(
-    alloc: Global,
+// Adds the bytes of a file, or of a link's target.
+fn put_contents(
+    answer: &mut Answer,
+    bytes: &mut Bytes,
     world: &mut MemWorld,
     path: &Path,
     kind: Kind,
-) -> Result<Vec<u8>, Fault> {
-    let mut bytes = Vec::new(alloc);
+) {
     match kind {
-        Kind::File { len, .. } => bytes.extend_from_slice(world.read(path, 0, len)?.as_slice())?,
-        Kind::Link => bytes.extend_from_slice(world.read_link(path)?.as_str().as_bytes())?,
+        Kind::File { len, .. } => {
+            if let Some(read) = found(answer, world.read(path, 0, len)) {
+                answer.done(bytes.append(read.as_slice()));
+            }
+        }
+        Kind::Link => {
+            if let Some(target) = found(answer, world.read_link(path)) {
+                answer.done(bytes.append(target.as_str().as_bytes()));
+            }
+        }
         Kind::Absent | Kind::Folder | Kind::Odd => {}
-    }
-    Ok(bytes)
-}
-
-/// Whether a document reads as a table, where none is given as an empty one.
-pub(crate) fn reads_as(alloc: Global, text: &str, wanted: Option<&Value>) -> bool {
-    match toml::table_from_str(alloc, text) {
-        Ok(found) => is_table(&found, wanted),
-        Err(_) => false,
-    }
-}
-
-fn is_table(found: &Table, wanted: Option<&Value>) -> bool {
-    match wanted {
-        Some(wanted) => wanted.as_table() == Some(found),
-        None => found.is_empty(),
     }
 }
