@@ -1,0 +1,7 @@
+use Rattle.std.proofs.Common.{◌≡◌}
+use denote.Text.{Utf8}
+use denote.Shadow.{shadow}
+use Rattle.scenarios.proofs.trees.Trees.put_filled.Given as goal
+
+abbrev pub invariant-loop-piece : goal.invariant-loop-piece
+invariant-loop-piece l = (goal.iterator-loop-piece).can_next l.piece-iterator × (goal.iterator-loop-piece).is_finite l.piece-iterator × shadow (Utf8 l.front)
