@@ -2,217 +2,219 @@
 ghost use Rattle.std.specs.Prelude.{IsOk};
 ghost use Rattle.order_expand.specs.Check.{checked};
 
-use crate::drawn_trials::key;
 use crate::draws::Draws;
-use crate::fault::Fault;
-use crate::plain_groups::{
-    PlainEntry, PlainGroup, PlainOrder, clears_env, groups_of, id_and_version, target_count,
-    told_groups,
-};
+use crate::plain_groups::{MOST, PlainEntry, PlainGroup, PlainOrder, groups_of, put_groups};
+use crate::texts::{Sums, is_wanted, key, put_number};
 use bp_docs::{Body, Descriptor, Entry, Order, TargetRule};
 use cnb_toml::Key;
 use cnb_world::{List, Text};
-use order_expand::{Catalog, Member, Walk, check};
-use std::alloc::Global;
-use std::ops::Range;
+use order_expand::{Catalog, Group, Member, Walk, check};
+use row_files::Answer;
 
-/// Walks the orders of some seeds. The answer is how many groups they stand for, or the first order whose groups are
-/// not those of the plain listing.
-pub(crate) fn compare_walks(alloc: Global, seeds: Range<u64>) -> Result<String, Fault> {
-    let (mut listed, mut members, mut refused) = (0usize, 0usize, 0usize);
-    for seed in seeds {
-        let order = drawn_order(alloc, seed)?;
-        let groups = groups_of(alloc, &order)?;
-        let want = told_groups(alloc, &groups)?;
-        let found = walked(alloc, &order)?;
-        if found != want {
-            return Ok(format!(in alloc; "order {seed}: {found}for {want}")?);
-        }
-        if found.as_str() == "too many groups" {
-            refused = refused.saturating_add(1);
-        } else {
-            listed = listed.saturating_add(groups.len());
-            members = members.saturating_add(member_count(&groups));
+/// Walks the orders of the seeds from one to before another. The answer is how many groups they stand for, or the first
+/// order whose groups are not those of the plain listing.
+pub(crate) fn compare_walks(answer: &mut Answer, first: u64, end: u64) {
+    let mut sums = Sums {
+        first: 0,
+        second: 0,
+        third: 0,
+    };
+    for seed in first..end {
+        if !is_walked(answer, &mut sums, seed) {
+            return;
         }
     }
-    Ok(format!(in alloc;
-        "{listed} groups of {members} members; {refused} orders of too many groups"
-    )?)
+    put_number(answer, sums.first, " groups of ");
+    put_number(answer, sums.second, " members; ");
+    put_number(answer, sums.third, " orders of too many groups");
 }
 
-fn member_count(groups: &Vec<PlainGroup>) -> usize {
-    let mut count = 0usize;
+fn is_walked(answer: &mut Answer, sums: &mut Sums, seed: u64) -> bool {
+    let order = drawn_order(answer, seed);
+    let groups = groups_of(answer, &order);
+    add(sums, groups.as_slice());
+    let mut want = Answer::new(answer.alloc);
+    put_groups(&mut want, groups.as_slice());
+    let want = answer.taken(want);
+    let mut found = Answer::new(answer.alloc);
+    put_walk(&mut found, &order);
+    let found = answer.taken(found);
+    is_wanted(
+        answer,
+        "order ",
+        seed,
+        found.as_str(),
+        "for ",
+        want.as_str(),
+    )
+}
+
+// Adds how many groups there are, how many members they have, and whether they are too many, of which none count.
+fn add(sums: &mut Sums, groups: &[PlainGroup]) {
+    if groups.len() == MOST {
+        sums.add(0, 0, 1);
+        return;
+    }
+    sums.add(groups.len() as u64, 0, 0);
     for group in groups {
-        count = count.saturating_add(group.len());
+        sums.add(0, group.as_slice().len() as u64, 0);
     }
-    count
 }
 
-fn walked(alloc: Global, order: &PlainOrder) -> Result<String, Fault> {
-    let catalog = catalog_of(alloc, order)?;
-    let groups = order_of(alloc, order.buildpacks, &order.groups)?;
-    match check(alloc, &groups, &catalog) {
-        Ok(number) => told_walk(alloc, &groups, &catalog, number),
-        Err(fault) => Ok(format!(in alloc; "{fault}")?),
+// Adds the groups of an order as the call walks them, or why it is refused.
+fn put_walk(answer: &mut Answer, order: &PlainOrder) {
+    let catalog = catalog_of(answer, order);
+    let groups = order_of(answer, order.buildpacks, &order.groups);
+    match check(answer.alloc, &groups, &catalog) {
+        Ok(number) => put_walked(answer, &groups, &catalog, number),
+        Err(fault) => answer.show(&fault),
     }
 }
 
 // The groups of an order that stands for so many: their number, and each on a line.
-fn told_walk(alloc: Global, order: &Order, catalog: &Catalog, number: u32) -> Result<String, Fault>
+fn put_walked(answer: &mut Answer, order: &Order, catalog: &Catalog, number: u32)
     requires { IsOk (checked catalog.now order.now) }
 {
-    let mut walk = Walk::new(alloc, order, catalog)?;
-    let mut told = format!(in alloc; "{number} groups\n")?;
-    for _ in 0..number {
-        if let Some(group) = walk.next()? {
-            push_group(&mut told, group.as_slice())?;
+    if let Some(mut walk) = answer.made(Walk::new(answer.alloc, order, catalog)) {
+        put_number(answer, u64::from(number), " groups\n");
+        for _ in 0..number {
+            if let Some(group) = next_group(answer, &mut walk) {
+                put_group(answer, group.as_slice());
+            }
+        }
+        if next_group(answer, &mut walk).is_some() {
+            answer.put("and more");
         }
     }
-    if walk.next()?.is_some() {
-        told.push_str("and more")?;
-    }
-    Ok(told)
 }
 
-fn push_group(told: &mut String, group: &[Member]) -> Result<(), Fault> {
+fn next_group(answer: &mut Answer, walk: &mut Walk<'_>) -> Option<Group> {
+    answer.made(walk.next())?
+}
+
+fn put_group(answer: &mut Answer, group: &[Member]) {
     for member in group {
-        let (id, version) = (member.key.id.as_str(), member.key.version.as_str());
-        write!(told, " {id}@{version}")?;
-        told.push_str(if member.optional { "?" } else { "" })?;
-        told.push_str(if member.clear_env { "!" } else { "" })?;
-        push_targets(told, member.targets.as_slice())?;
-    }
-    told.push_str(".\n")?;
-    Ok(())
-}
-
-fn push_targets(told: &mut String, rules: &[TargetRule]) -> Result<(), Fault> {
-    for rule in rules {
-        if let (Some(os), None) = (&rule.os, &rule.arch) {
-            write!(told, "~{}", os.as_str())?;
+        answer.put_all(&[
+            " ",
+            member.key.id.as_str(),
+            "@",
+            member.key.version.as_str(),
+        ]);
+        answer.put(if member.optional { "?" } else { "" });
+        answer.put(if member.clear_env { "!" } else { "" });
+        for rule in member.targets.as_slice() {
+            if let (Some(os), None) = (&rule.os, &rule.arch) {
+                answer.put_all(&["~", os.as_str()]);
+            }
         }
     }
-    Ok(())
+    answer.put(".\n");
 }
 
 // An order of one to three groups, over one to eight buildpacks and up to four composites.
-fn drawn_order(alloc: Global, seed: u64) -> Result<PlainOrder, Fault> {
+fn drawn_order(answer: &mut Answer, seed: u64) -> PlainOrder {
     let mut draws = Draws::new(seed);
     let buildpacks = draws.below(8).saturating_add(1);
     let mut all = buildpacks;
-    let mut composites = Vec::new(alloc);
+    let mut composites = List::new(answer.alloc);
     for _ in 0..draws.below(5) {
-        composites.push(drawn_groups(alloc, &mut draws, all, 2)?)?;
+        let groups = drawn_groups(answer, &mut draws, all, 2);
+        answer.done(composites.push(groups));
         all = all.saturating_add(1);
     }
-    let groups = drawn_groups(alloc, &mut draws, all, 3)?;
-    Ok(PlainOrder {
+    let groups = drawn_groups(answer, &mut draws, all, 3);
+    PlainOrder {
         buildpacks,
         composites,
         groups,
-    })
+    }
 }
 
 // One group to so many, of one entry to so many.
-fn drawn_groups(
-    alloc: Global,
-    draws: &mut Draws,
-    all: u64,
-    most: u64,
-) -> Result<Vec<PlainGroup>, Fault> {
-    let mut groups = Vec::new(alloc);
+fn drawn_groups(answer: &mut Answer, draws: &mut Draws, all: u64, most: u64) -> List<PlainGroup> {
+    let mut groups = List::new(answer.alloc);
     for _ in 0..draws.below(most).saturating_add(1) {
-        groups.push(drawn_group(alloc, draws, all, most)?)?;
+        let mut group = List::new(answer.alloc);
+        for _ in 0..draws.below(most).saturating_add(1) {
+            let (number, optional) = (draws.below(all), draws.is_one_in(2));
+            answer.done(group.push(PlainEntry { number, optional }));
+        }
+        answer.done(groups.push(group));
     }
-    Ok(groups)
+    groups
 }
 
-fn drawn_group(alloc: Global, draws: &mut Draws, all: u64, most: u64) -> Result<PlainGroup, Fault> {
-    let mut group = Vec::new(alloc);
-    for _ in 0..draws.below(most).saturating_add(1) {
-        let (number, optional) = (draws.below(all), draws.is_one_in(2));
-        group.push(PlainEntry { number, optional })?;
-    }
-    Ok(group)
-}
-
-fn catalog_of(alloc: Global, order: &PlainOrder) -> Result<Catalog, Fault> {
-    let mut catalog = Catalog::new(alloc);
+fn catalog_of(answer: &mut Answer, order: &PlainOrder) -> Catalog {
+    let mut catalog = Catalog::new(answer.alloc);
     for number in 0..order.buildpacks {
-        let clear_env = clears_env(number);
-        let targets = rules_of(alloc, number)?;
+        let targets = rules_of(answer, number);
+        let clear_env = number % 3 == 0;
         let body = Body::Component { clear_env, targets };
-        let key = buildpack_key(alloc, number)?;
-        add(alloc, &mut catalog, Descriptor { key, body })?;
+        add_body(answer, &mut catalog, order, number, body);
     }
-    for (number, groups) in order.composites.iter().enumerate() {
-        let body = Body::Composite(order_of(alloc, order.buildpacks, groups)?);
-        let key = composite_key(alloc, number as u64)?;
-        add(alloc, &mut catalog, Descriptor { key, body })?;
+    for (place, groups) in order.composites.as_slice().iter().enumerate() {
+        let body = Body::Composite(order_of(answer, order.buildpacks, groups));
+        let number = order.buildpacks.saturating_add(place as u64);
+        add_body(answer, &mut catalog, order, number, body);
     }
-    Ok(catalog)
+    catalog
+}
+
+// Adds the buildpack or composite of a number.
+fn add_body(
+    answer: &mut Answer,
+    catalog: &mut Catalog,
+    order: &PlainOrder,
+    number: u64,
+    body: Body,
+) {
+    if let Some(key) = key_of(answer, order.buildpacks, number) {
+        if catalog.add(Descriptor { key, body }).is_err() {
+            answer.wrong("there twice:", "descriptor");
+        }
+    }
+}
+
+fn key_of(answer: &mut Answer, buildpacks: u64, number: u64) -> Option<Key> {
+    match number.checked_sub(buildpacks) {
+        Some(composite) => key(answer, "o", composite, 1),
+        None => key(answer, "b", number / 2, (number % 2).saturating_add(1)),
+    }
 }
 
 // The targets of a buildpack, each of an operating system alone.
-fn rules_of(alloc: Global, number: u64) -> Result<List<TargetRule>, Fault> {
-    let mut rules = List::new(alloc);
-    for place in 0..target_count(number) {
-        let os = format!(in alloc; "{number}.{place}")?;
-        rules.push(TargetRule {
-            os: Some(Text::of(alloc, os.as_str())?),
-            arch: None,
-        })?;
+fn rules_of(answer: &mut Answer, number: u64) -> List<TargetRule> {
+    let mut rules = List::new(answer.alloc);
+    for place in 0..number % 4 {
+        let mut os = Answer::new(answer.alloc);
+        put_number(&mut os, number, ".");
+        put_number(&mut os, place, "");
+        let os = Some(Text::from_string(answer.taken(os)));
+        answer.done(rules.push(TargetRule { os, arch: None }));
     }
-    Ok(rules)
+    rules
 }
 
-fn add(alloc: Global, catalog: &mut Catalog, descriptor: Descriptor) -> Result<(), Fault> {
-    match catalog.add(descriptor) {
-        Ok(()) => Ok(()),
-        Err(_) => Err(Fault::wrong(alloc, "there twice:", "descriptor")),
-    }
-}
-
-fn buildpack_key(alloc: Global, number: u64) -> Result<Key, Fault> {
-    let (id, version) = id_and_version(number);
-    let (id, version) = (
-        format!(in alloc; "b{id}")?,
-        format!(in alloc; "{version}.0.0")?,
-    );
-    key(alloc, id.as_str(), version.as_str())
-}
-
-fn composite_key(alloc: Global, number: u64) -> Result<Key, Fault> {
-    key(alloc, format!(in alloc; "o{number}")?.as_str(), "1.0.0")
-}
-
-fn order_of(alloc: Global, buildpacks: u64, groups: &Vec<PlainGroup>) -> Result<Order, Fault> {
-    let mut order = List::new(alloc);
-    for group in groups {
-        let mut entries = List::new(alloc);
-        for entry in group {
-            entries.push(entry_of(alloc, buildpacks, *entry)?)?;
+fn order_of(answer: &mut Answer, buildpacks: u64, groups: &List<PlainGroup>) -> Order {
+    let mut order = List::new(answer.alloc);
+    for group in groups.as_slice() {
+        let mut entries = List::new(answer.alloc);
+        for entry in group.as_slice() {
+            push_entry(answer, buildpacks, &mut entries, *entry);
         }
-        order.push(entries)?;
+        answer.done(order.push(entries));
     }
-    Ok(order)
+    order
 }
 
 // An entry names a buildpack with its version, and a composite without.
-fn entry_of(alloc: Global, buildpacks: u64, entry: PlainEntry) -> Result<Entry, Fault> {
-    let optional = entry.optional;
-    if let Some(number) = entry.number.checked_sub(buildpacks) {
-        let Key { id, version: _ } = composite_key(alloc, number)?;
-        return Ok(Entry {
+fn push_entry(answer: &mut Answer, buildpacks: u64, entries: &mut List<Entry>, entry: PlainEntry) {
+    if let Some(Key { id, version }) = key_of(answer, buildpacks, entry.number) {
+        let is_component = entry.number < buildpacks;
+        answer.done(entries.push(Entry {
             id,
-            version: None,
-            optional,
-        });
+            version: if is_component { Some(version) } else { None },
+            optional: entry.optional,
+        }));
     }
-    let Key { id, version } = buildpack_key(alloc, entry.number)?;
-    Ok(Entry {
-        id,
-        version: Some(version),
-        optional,
-    })
 }

@@ -4,37 +4,61 @@ ghost use Rattle.std.specs.List.{list_all};
 ghost use Rattle.plan_resolve.specs.Resolution.{has_options};
 
 use crate::draws::Draws;
-use crate::fault::Fault;
-use crate::plain_trials::{NAMES, PlainOption, PlainRow, first_passing};
+use crate::plain_trials::{NAMES, PlainOption, PlainRow, first_passing, put_passing};
+use crate::texts::{Sums, is_wanted, key, put_number};
 use bp_docs::PlanOption;
-use cnb_toml::{BpId, BpVersion, Key, Meta, Need};
+use cnb_toml::{Meta, Need};
 use cnb_world::{List, Text};
-use plan_resolve::{Alive, AliveRow, Resolved, resolve};
+use plan_resolve::{Alive, AliveRow, PlanFault, Resolved, resolve};
+use row_files::Answer;
 use run_docs::PlanEntry;
-use std::alloc::Global;
-use std::ops::Range;
 
-/// Resolves the tables of some seeds. The answer is how many pass, with the sum of the numbers of their trials and of
-/// the buildpacks that they keep, or the first table that comes to something else than by the plain search.
-pub(crate) fn compare_trials(alloc: Global, seeds: Range<u64>) -> Result<String, Fault> {
-    let (mut passing, mut numbers, mut kept) = (0u64, 0u64, 0usize);
-    for seed in seeds {
-        let rows = drawn_rows(alloc, seed)?;
-        let mut want = String::from_str(alloc, "fails")?;
-        if let Some(first) = first_passing(alloc, &rows)? {
-            want = first.told(alloc)?;
-            passing = passing.saturating_add(1);
-            numbers = numbers.saturating_add(first.number);
-            kept = kept.saturating_add(first.kept_count());
-        }
-        let found = told_trial(alloc, &alive_of(alloc, &rows)?)?;
-        if found != want {
-            return Ok(format!(in alloc; "table {seed}: {found} for {want}")?);
+/// Resolves the tables of the seeds from one to before another. The answer is how many pass, with the sum of the numbers
+/// of their trials and of the buildpacks that they keep, or the first table that comes to something else than by the
+/// plain search.
+pub(crate) fn compare_trials(answer: &mut Answer, first: u64, end: u64) {
+    let mut sums = Sums {
+        first: 0,
+        second: 0,
+        third: 0,
+    };
+    for seed in first..end {
+        if !is_resolved(answer, &mut sums, seed) {
+            return;
         }
     }
-    Ok(format!(in alloc;
-        "{passing} tables pass, by trials {numbers} in all, and keep {kept} buildpacks"
-    )?)
+    put_number(answer, sums.first, " tables pass, by trials ");
+    put_number(answer, sums.second, " in all, and keep ");
+    put_number(answer, sums.third, " buildpacks");
+}
+
+fn is_resolved(answer: &mut Answer, sums: &mut Sums, seed: u64) -> bool {
+    let rows = drawn_rows(answer, seed);
+    let mut want = Answer::new(answer.alloc);
+    put_first(&mut want, sums, rows.as_slice());
+    let want = answer.taken(want);
+    let mut found = Answer::new(answer.alloc);
+    put_trial(&mut found, rows.as_slice());
+    let found = answer.taken(found);
+    is_wanted(
+        answer,
+        "table ",
+        seed,
+        found.as_str(),
+        " for ",
+        want.as_str(),
+    )
+}
+
+// Adds the first trial that passes by the plain search.
+fn put_first(answer: &mut Answer, sums: &mut Sums, rows: &[PlainRow]) {
+    match first_passing(answer, rows) {
+        Some(passing) => {
+            sums.add(1, passing.number, passing.kept.as_slice().len() as u64);
+            put_passing(answer, &passing);
+        }
+        None => answer.put("fails"),
+    }
 }
 
 fn have_options(rows: &[AliveRow]) -> bool
@@ -43,62 +67,74 @@ fn have_options(rows: &[AliveRow]) -> bool
     rows.iter().all(|row| 0 < row.options.as_slice().len())
 }
 
-fn told_trial(alloc: Global, alive: &Alive) -> Result<String, Fault> {
-    let rows = alive.as_slice();
-    if rows.len() > 6 || !have_options(rows) {
-        return Err(Fault::wrong(alloc, "no fit table of", "buildpacks"));
-    }
-    match resolve(alloc, alive) {
-        Ok(Some(resolved)) => told(alloc, &resolved),
-        Ok(None) => Ok(String::from_str(alloc, "fails")?),
-        Err(fault) => Ok(format!(in alloc; "{fault:?}")?),
+// Adds the first trial that passes by the call.
+fn put_trial(answer: &mut Answer, rows: &[PlainRow]) {
+    let alive = alive_of(answer, rows);
+    if alive.as_slice().len() > 6 || !have_options(alive.as_slice()) {
+        answer.wrong("no fit table of", "buildpacks");
+    } else {
+        put_resolution(answer, &resolve(answer.alloc, &alive));
     }
 }
 
-fn told(alloc: Global, resolved: &Resolved) -> Result<String, Fault> {
-    let mut told = format!(in alloc; "trial {} of {} keeps", resolved.trial, resolved.trials)?;
+fn put_resolution(answer: &mut Answer, resolved: &Result<Option<Resolved>, PlanFault>) {
+    match resolved {
+        Ok(Some(resolved)) => put_resolved(answer, resolved),
+        Ok(None) => answer.put("fails"),
+        Err(fault) => answer.debug(fault),
+    }
+}
+
+fn put_resolved(answer: &mut Answer, resolved: &Resolved) {
+    answer.put("trial ");
+    answer.show(&resolved.trial);
+    answer.put(" of ");
+    answer.show(&resolved.trials);
+    answer.put(" keeps");
     for place in resolved.kept.as_slice() {
-        write!(told, " {place}")?;
+        answer.put(" ");
+        answer.show(place);
     }
     for entry in resolved.plan.as_slice() {
-        push_entry(&mut told, entry)?;
+        put_entry(answer, entry);
     }
-    Ok(told)
 }
 
-fn push_entry(told: &mut String, entry: &PlanEntry) -> Result<(), Fault> {
-    write!(told, "\n{} by", entry.name.as_str())?;
+fn put_entry(answer: &mut Answer, entry: &PlanEntry) {
+    answer.put_all(&["\n", entry.name.as_str(), " by"]);
     for key in entry.providers.as_slice() {
-        write!(told, " {}", key.id.as_str())?;
+        answer.put_all(&[" ", key.id.as_str()]);
     }
-    told.push_str(" for")?;
+    answer.put(" for");
     for need in entry.needs.as_slice() {
         if let Meta::Text(text) = &need.meta {
-            write!(told, " {}", text.as_str())?;
+            answer.put_all(&[" ", text.as_str()]);
         }
     }
-    Ok(())
 }
 
 // Two to six buildpacks of up to four alternatives, over two to four names.
-fn drawn_rows(alloc: Global, seed: u64) -> Result<Vec<PlainRow>, Fault> {
+fn drawn_rows(answer: &mut Answer, seed: u64) -> List<PlainRow> {
     let mut draws = Draws::new(seed);
-    let names = [3, 7, 15]
-        .get(draws.below(3) as usize)
-        .copied()
-        .unwrap_or(3);
-    let mut rows = Vec::new(alloc);
+    let names = match draws.below(3) {
+        0 => 3,
+        1 => 7,
+        _ => 15,
+    };
+    let mut rows = List::new(answer.alloc);
     for _ in 0..draws.below(5).saturating_add(2) {
         let optional = draws.is_one_in(2);
-        let mut options = Vec::new(alloc);
+        let mut options = List::new(answer.alloc);
         for _ in 0..draws.below(4).saturating_add(1) {
-            let provides = drawn_names(&mut draws, names);
-            let needs = drawn_names(&mut draws, names);
-            options.push(PlainOption { provides, needs })?;
+            let (provides, needs) = (
+                drawn_names(&mut draws, names),
+                drawn_names(&mut draws, names),
+            );
+            answer.done(options.push(PlainOption { provides, needs }));
         }
-        rows.push(PlainRow { optional, options })?;
+        answer.done(rows.push(PlainRow { optional, options }));
     }
-    Ok(rows)
+    rows
 }
 
 // Each of some names is one of four times among these.
@@ -107,49 +143,55 @@ fn drawn_names(draws: &mut Draws, names: u64) -> u64 {
     first & second & names
 }
 
-fn alive_of(alloc: Global, rows: &Vec<PlainRow>) -> Result<Alive, Fault> {
-    let mut alive = List::new(alloc);
+fn alive_of(answer: &mut Answer, rows: &[PlainRow]) -> Alive {
+    let mut alive = List::new(answer.alloc);
     for (place, row) in rows.iter().enumerate() {
-        alive.push(alive_row(alloc, place, row)?)?;
+        push_alive(answer, &mut alive, place, row);
     }
-    Ok(alive)
+    alive
 }
 
-fn alive_row(alloc: Global, place: usize, row: &PlainRow) -> Result<AliveRow, Fault> {
-    let name = format!(in alloc; "b{place}")?;
-    let mut options = List::new(alloc);
-    for option in &row.options {
-        options.push(option_of(alloc, name.as_str(), *option)?)?;
+fn push_alive(answer: &mut Answer, alive: &mut Alive, place: usize, row: &PlainRow) {
+    if let Some(key) = key(answer, "b", place as u64, 1) {
+        let options = options_of(answer, key.id.as_str(), row.options.as_slice());
+        answer.done(alive.push(AliveRow {
+            key,
+            optional: row.optional,
+            options,
+        }));
     }
-    let key = key(alloc, name.as_str(), "1.0.0")?;
-    let optional = row.optional;
-    Ok(AliveRow {
-        key,
-        optional,
-        options,
-    })
 }
 
-/// The key of an id and a version.
-pub(crate) fn key(alloc: Global, id: &str, version: &str) -> Result<Key, Fault> {
-    match (BpId::parse(alloc, id), BpVersion::parse(alloc, version)) {
-        (Ok(id), Ok(version)) => Ok(Key { id, version }),
-        _ => Err(Fault::wrong(alloc, "no buildpack:", id)),
+fn options_of(answer: &mut Answer, buildpack: &str, plain: &[PlainOption]) -> List<PlanOption> {
+    let mut options = List::new(answer.alloc);
+    for option in plain {
+        let provides = names_of(answer, option.provides);
+        let needs = needs_of(answer, buildpack, option.needs);
+        answer.done(options.push(PlanOption { provides, needs }));
     }
+    options
+}
+
+fn names_of(answer: &mut Answer, set: u64) -> List<Text> {
+    let mut names = List::new(answer.alloc);
+    for (name, bit) in NAMES {
+        if set & bit != 0 {
+            let name = answer.text(name);
+            answer.done(names.push(name));
+        }
+    }
+    names
 }
 
 // What is said of a requirement is who requires it.
-fn option_of(alloc: Global, buildpack: &str, option: PlainOption) -> Result<PlanOption, Fault> {
-    let (mut provides, mut needs) = (List::new(alloc), List::new(alloc));
+fn needs_of(answer: &mut Answer, buildpack: &str, set: u64) -> List<Need> {
+    let mut needs = List::new(answer.alloc);
     for (name, bit) in NAMES {
-        if option.provides & bit != 0 {
-            provides.push(Text::of(alloc, name)?)?;
-        }
-        if option.needs & bit != 0 {
-            let name = Text::of(alloc, name)?;
-            let meta = Meta::Text(Text::of(alloc, buildpack)?);
-            needs.push(Need { name, meta })?;
+        if set & bit != 0 {
+            let name = answer.text(name);
+            let meta = Meta::Text(answer.text(buildpack));
+            answer.done(needs.push(Need { name, meta }));
         }
     }
-    Ok(PlanOption { provides, needs })
+    needs
 }

@@ -7,41 +7,41 @@
 mod drawn_orders;
 mod drawn_trials;
 mod draws;
-mod fault;
 mod plain_groups;
 mod plain_trials;
+mod texts;
 
 use drawn_orders::compare_walks;
 use drawn_trials::compare_trials;
-use fault::Fault;
-use row_files::{Row, RowFault, run};
-use std::alloc::{AllocError, Global};
-use std::ops::Range;
+use row_files::{Answer, Row, RowFault, run};
 use std::process::ExitCode;
 
 const FILES: [&str; 2] = ["orders.toml", "trials.toml"];
 
 fn answer(rt: &HostRuntime, row: &Row) -> Result<String, RowFault> {
-    match told(rt.alloc(), row) {
-        Ok(told) => Ok(told),
-        Err(Fault::Row(fault)) => Err(fault),
-        Err(Fault::Memory(_)) => Err(RowFault::Memory(AllocError)),
-    }
+    let mut answer = Answer::new(rt.alloc());
+    put_answer(&mut answer, row);
+    answer.end()
 }
 
-fn told(alloc: Global, row: &Row) -> Result<String, Fault> {
-    let seeds = seeds(alloc, row)?;
+fn put_answer(answer: &mut Answer, row: &Row) {
+    let (first, count) = (number(answer, row, "first"), number(answer, row, "count"));
+    let end = first.saturating_add(count);
     match row.call.as_str() {
-        "walk" => compare_walks(alloc, seeds),
-        "resolve" => compare_trials(alloc, seeds),
-        call => Err(Fault::wrong(alloc, "no such call:", call)),
+        "walk" => compare_walks(answer, first, end),
+        "resolve" => compare_trials(answer, first, end),
+        call => answer.wrong("no such call:", call),
     }
 }
 
-fn seeds(alloc: Global, row: &Row) -> Result<Range<u64>, Fault> {
-    let first = row.number(alloc, "first")?;
-    let count = row.number(alloc, "count")?;
-    Ok(first..first.saturating_add(count))
+fn number(answer: &mut Answer, row: &Row, name: &str) -> u64 {
+    match answer.given(row, name).parse() {
+        Ok(number) => number,
+        Err(_) => {
+            answer.wrong("no number is given as", name);
+            0
+        }
+    }
 }
 
 fn main(rt: HostRuntime) -> Result<ExitCode, RowFault> {

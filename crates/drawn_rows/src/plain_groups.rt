@@ -1,11 +1,13 @@
 // A plain listing of the groups that an order stands for: all of them, composite by composite.
-use crate::fault::Fault;
-use std::alloc::Global;
+use crate::texts::put_number;
+use cnb_world::List;
+use row_files::Answer;
 
 /// How many groups are listed at most, one more than an order may stand for.
-const MOST: usize = 4097;
+pub(crate) const MOST: usize = 4097;
 
-/// An entry: the number of a buildpack, or behind all of those the number of a composite.
+/// An entry: the number of a buildpack, or behind all of those the number of a composite. The buildpacks of numbers 2n
+/// and 2n + 1 are two versions of the id n. One in three clears the environment, and each has up to three targets.
 #[derive(Clone, Copy)]
 pub(crate) struct PlainEntry {
     pub(crate) number: u64,
@@ -13,158 +15,159 @@ pub(crate) struct PlainEntry {
 }
 
 /// The entries of a group, or its members, which are entries of buildpacks.
-pub(crate) type PlainGroup = Vec<PlainEntry>;
+pub(crate) type PlainGroup = List<PlainEntry>;
 
 /// An order over buildpacks and composites. A composite names only those of lower numbers.
 #[derive(Drop)]
 pub(crate) struct PlainOrder {
     pub(crate) buildpacks: u64,
-    pub(crate) composites: Vec<Vec<PlainGroup>>,
-    pub(crate) groups: Vec<PlainGroup>,
+    pub(crate) composites: List<List<PlainGroup>>,
+    pub(crate) groups: List<PlainGroup>,
 }
 
 /// The groups that an order stands for, in which the first member of an id stands.
-pub(crate) fn groups_of(alloc: Global, order: &PlainOrder) -> Result<Vec<PlainGroup>, Fault> {
-    let mut below = Vec::new(alloc);
-    for composite in &order.composites {
-        below.push(listed(alloc, order.buildpacks, &below, composite)?)?;
+pub(crate) fn groups_of(answer: &mut Answer, order: &PlainOrder) -> List<PlainGroup> {
+    let mut below = List::new(answer.alloc);
+    for composite in order.composites.as_slice() {
+        let groups = listed(answer, order.buildpacks, below.as_slice(), composite);
+        answer.done(below.push(groups));
     }
-    let mut groups = Vec::new(alloc);
-    for group in &listed(alloc, order.buildpacks, &below, &order.groups)? {
-        groups.push(first_of_each_id(alloc, group)?)?;
+    let all = listed(answer, order.buildpacks, below.as_slice(), &order.groups);
+    let mut groups = List::new(answer.alloc);
+    for group in all.as_slice() {
+        let group = first_of_each_id(answer, group.as_slice());
+        answer.done(groups.push(group));
     }
-    Ok(groups)
+    groups
 }
 
 // The groups that these stand for, one behind the other, where the composites so far stand for those `below`.
 fn listed(
-    alloc: Global,
+    answer: &mut Answer,
     buildpacks: u64,
-    below: &Vec<Vec<PlainGroup>>,
-    groups: &Vec<PlainGroup>,
-) -> Result<Vec<PlainGroup>, Fault> {
-    let mut all = Vec::new(alloc);
-    for group in groups {
-        for expanded in expanded(alloc, buildpacks, below, group)? {
-            if all.len() < MOST {
-                all.push(expanded)?;
-            }
+    below: &[List<PlainGroup>],
+    groups: &List<PlainGroup>,
+) -> List<PlainGroup> {
+    let mut all = List::new(answer.alloc);
+    for group in groups.as_slice() {
+        let groups = expanded(answer, buildpacks, below, group);
+        for group in groups.as_slice() {
+            push_joined(answer, &mut all, group.as_slice(), &[]);
         }
     }
-    Ok(all)
+    all
 }
 
 // The groups that one stands for: what is listed so far, with each choice for the next entry behind it.
 fn expanded(
-    alloc: Global,
+    answer: &mut Answer,
     buildpacks: u64,
-    below: &Vec<Vec<PlainGroup>>,
+    below: &[List<PlainGroup>],
     group: &PlainGroup,
-) -> Result<Vec<PlainGroup>, Fault> {
-    let mut fronts = Vec::new(alloc);
-    fronts.push(Vec::new(alloc))?;
-    for entry in group {
-        let choices = choices(alloc, buildpacks, below, *entry)?;
-        fronts = joined(alloc, &fronts, &choices)?;
+) -> List<PlainGroup> {
+    let mut fronts = List::new(answer.alloc);
+    push_joined(answer, &mut fronts, &[], &[]);
+    for entry in group.as_slice() {
+        let mut all = List::new(answer.alloc);
+        for front in fronts.as_slice() {
+            push_choices(
+                answer,
+                buildpacks,
+                below,
+                &mut all,
+                front.as_slice(),
+                *entry,
+            );
+        }
+        fronts = all;
     }
-    Ok(fronts)
+    fronts
 }
 
-// What may stand for an entry: a buildpack itself; of a composite each of its groups, and where it is optional none
-// last.
-fn choices(
-    alloc: Global,
+// Adds the groups that go on behind this front: with a buildpack itself; with each group of a composite, and where it
+// is optional with none last.
+fn push_choices(
+    answer: &mut Answer,
     buildpacks: u64,
-    below: &Vec<Vec<PlainGroup>>,
+    below: &[List<PlainGroup>],
+    all: &mut List<PlainGroup>,
+    front: &[PlainEntry],
     entry: PlainEntry,
-) -> Result<Vec<PlainGroup>, Fault> {
-    let mut choices = Vec::new(alloc);
-    match entry.number.checked_sub(buildpacks) {
-        None => {
-            let mut alone = Vec::new(alloc);
-            alone.push(entry)?;
-            choices.push(alone)?;
-        }
-        Some(composite) => {
-            if let Some(groups) = below.get(composite as usize) {
-                for group in groups {
-                    choices.push(group.clone()?)?;
-                }
-            }
-            if entry.optional {
-                choices.push(Vec::new(alloc))?;
-            }
+) {
+    let Some(composite) = entry.number.checked_sub(buildpacks) else {
+        push_joined(answer, all, front, &[entry]);
+        return;
+    };
+    if let Some(groups) = below.get(composite as usize) {
+        for group in groups.as_slice() {
+            push_joined(answer, all, front, group.as_slice());
         }
     }
-    Ok(choices)
-}
-
-fn joined(
-    alloc: Global,
-    fronts: &Vec<PlainGroup>,
-    choices: &Vec<PlainGroup>,
-) -> Result<Vec<PlainGroup>, Fault> {
-    let mut all = Vec::new(alloc);
-    for front in fronts {
-        for choice in choices {
-            if all.len() < MOST {
-                let mut group = front.clone()?;
-                group.extend_from_slice(choice.as_slice())?;
-                all.push(group)?;
-            }
-        }
+    if entry.optional {
+        push_joined(answer, all, front, &[]);
     }
-    Ok(all)
 }
 
-fn first_of_each_id(alloc: Global, group: &PlainGroup) -> Result<PlainGroup, Fault> {
-    let mut kept: PlainGroup = Vec::new(alloc);
+// Adds a group of these entries, unless there are the most groups already.
+fn push_joined(
+    answer: &mut Answer,
+    all: &mut List<PlainGroup>,
+    front: &[PlainEntry],
+    behind: &[PlainEntry],
+) {
+    if all.as_slice().len() < MOST {
+        let mut group = List::new(answer.alloc);
+        for entry in front.iter().chain(behind) {
+            answer.done(group.push(*entry));
+        }
+        answer.done(all.push(group));
+    }
+}
+
+fn first_of_each_id(answer: &mut Answer, group: &[PlainEntry]) -> PlainGroup {
+    let mut kept = List::new(answer.alloc);
     for member in group {
-        let (id, _) = id_and_version(member.number);
-        if kept.iter().all(|other| other.number / 2 != id) {
-            kept.push(*member)?;
+        if !has_id(kept.as_slice(), member.number / 2) {
+            answer.done(kept.push(*member));
         }
     }
-    Ok(kept)
+    kept
 }
 
-/// The numbers of a buildpack's id and version: those of numbers 2n and 2n + 1 are two versions of one id.
-pub(crate) fn id_and_version(number: u64) -> (u64, u64) {
-    (number / 2, (number % 2).saturating_add(1))
+fn has_id(members: &[PlainEntry], id: u64) -> bool {
+    for member in members {
+        if member.number / 2 == id {
+            return true;
+        }
+    }
+    false
 }
 
-/// Whether a buildpack clears the environment.
-pub(crate) fn clears_env(number: u64) -> bool {
-    number % 3 == 0
-}
-
-/// How many targets a buildpack has.
-pub(crate) fn target_count(number: u64) -> u64 {
-    number % 4
-}
-
-/// The groups as text: their number, and each on a line.
-pub(crate) fn told_groups(alloc: Global, groups: &Vec<PlainGroup>) -> Result<String, Fault> {
+/// Adds groups: their number, and each on a line.
+pub(crate) fn put_groups(answer: &mut Answer, groups: &[PlainGroup]) {
     if groups.len() == MOST {
-        return Ok(String::from_str(alloc, "too many groups")?);
+        answer.put("too many groups");
+        return;
     }
-    let mut told = format!(in alloc; "{} groups\n", groups.len())?;
+    put_number(answer, groups.len() as u64, " groups\n");
     for group in groups {
-        push_members(&mut told, group)?;
-        told.push_str(".\n")?;
+        for member in group.as_slice() {
+            put_member(answer, *member);
+        }
+        answer.put(".\n");
     }
-    Ok(told)
 }
 
-fn push_members(told: &mut String, group: &PlainGroup) -> Result<(), Fault> {
-    for member in group {
-        let (id, version) = id_and_version(member.number);
-        write!(told, " b{id}@{version}.0.0")?;
-        told.push_str(if member.optional { "?" } else { "" })?;
-        told.push_str(if clears_env(member.number) { "!" } else { "" })?;
-        for place in 0..target_count(member.number) {
-            write!(told, "~{}.{place}", member.number)?;
-        }
+fn put_member(answer: &mut Answer, member: PlainEntry) {
+    let number = member.number;
+    answer.put(" b");
+    put_number(answer, number / 2, "@");
+    put_number(answer, (number % 2).saturating_add(1), ".0.0");
+    answer.put(if member.optional { "?" } else { "" });
+    answer.put(if number % 3 == 0 { "!" } else { "" });
+    for place in 0..number % 4 {
+        answer.put("~");
+        put_number(answer, number, ".");
+        put_number(answer, place, "");
     }
-    Ok(())
 }
