@@ -3,16 +3,17 @@ ghost use Rattle.std.specs.Prelude.{IsOk};
 ghost use Rattle.order_expand.specs.Check.{checked};
 
 use crate::buildpacks::{catalog, order};
-use crate::detection::{Detected, detect_by, push_runs, told_end};
-use crate::fault::Fault;
-use crate::given::Given;
+use crate::detection::{end_by, put_end, put_runs, spawners};
+use crate::given::{Given, number_or};
+use crate::meeting::Meeting;
 use crate::random::random_row;
 use bp_docs::Order;
 use cnb_detect::choice_text;
+use cnb_world::{Bytes, Memory};
 use detect_core::{Chosen, DetectEnd};
 use order_expand::{Catalog, check};
+use row_files::{Answer, Row};
 use run_docs::{write_group, write_plan};
-use std::alloc::Global;
 use std::thread::Threads;
 
 // How many groups were chosen, how many members they have, and how many children were asked for them.
@@ -24,6 +25,14 @@ struct Tally {
 }
 
 impl Tally {
+    fn new() -> Tally {
+        Tally {
+            chosen: 0,
+            members: 0,
+            asked: 0,
+        }
+    }
+
     fn add(&mut self, end: &Result<Chosen, DetectEnd>) {
         if let Ok(chosen) = end {
             let (members, asked) = (chosen.group.as_slice().len(), chosen.asked.as_slice().len());
@@ -34,92 +43,143 @@ impl Tally {
     }
 }
 
+fn put_tally(answer: &mut Answer, tally: &Tally) {
+    answer.show(&tally.chosen);
+    answer.put(" groups chosen, of ");
+    answer.show(&tally.members);
+    answer.put(" members; ");
+    answer.show(&tally.asked);
+    answer.put(" children asked");
+}
+
 /// Detects the orders of some seeds by several spawners and by one. The answer is how many groups one spawner chose, or
 /// the first order of which several come to something else: another group or plan, other children asked or run, other
 /// lines printed, or other documents.
-pub(crate) fn compare_orders<R: Threads + Sync>(rt: &R, given: &Given) -> Result<String, Fault> {
-    let (alloc, clock, counts) = (given.alloc, given.clock, given.numbers("spawners")?);
-    let mut tally = Tally {
-        chosen: 0,
-        members: 0,
-        asked: 0,
-    };
-    let targeted = given.text_or_empty("targeted") == "yes";
-    for seed in 0..given.number_or("seeds", 1)? {
-        let row = random_row(alloc, seed, targeted)?;
+pub(crate) fn compare_orders<R: Threads + Sync>(rt: &R, answer: &mut Answer, given: &Given) {
+    let counts = answer.numbers(given.row.text_or_empty("spawners"));
+    let targeted = given.row.text_or_empty("targeted") == "yes";
+    let mut tally = Tally::new();
+    for seed in 0..number_or(answer, given.row, "seeds", 1) {
+        let row = random_row(answer, seed, targeted);
         let given = Given {
-            alloc,
-            clock,
+            clock: given.clock,
             row: &row,
         };
-        if let Some(text) = difference(rt, &given, counts.as_slice(), &mut tally)? {
-            return Ok(text);
+        if !is_alike(rt, answer, &given, counts.as_slice(), &mut tally) {
+            return;
         }
     }
-    let (chosen, members, asked) = (tally.chosen, tally.members, tally.asked);
-    Ok(format!(in alloc; "{chosen} groups chosen, of {members} members; {asked} children asked")?)
+    put_tally(answer, &tally);
 }
 
-fn difference<R: Threads + Sync>(
+// Whether several spawners come to the same as one. Where they don't, there is added what they come to.
+fn is_alike<R: Threads + Sync>(
     rt: &R,
+    answer: &mut Answer,
     given: &Given,
     counts: &[u64],
     tally: &mut Tally,
-) -> Result<Option<String>, Fault> {
-    let (catalog, order) = (catalog(given)?, order(given)?);
-    match check(given.alloc, &order, &catalog) {
-        Ok(_) => first_difference(rt, given, &order, &catalog, counts, tally),
-        Err(_) => Ok(None),
+) -> bool {
+    let catalog = catalog(answer, given.row);
+    match order(answer, given.row) {
+        Some(order) => is_refused_or_alike(rt, answer, given, &order, &catalog, counts, tally),
+        None => true,
     }
 }
 
-fn first_difference<R: Threads + Sync>(
+fn is_refused_or_alike<R: Threads + Sync>(
     rt: &R,
+    answer: &mut Answer,
     given: &Given,
     order: &Order,
     catalog: &Catalog,
     counts: &[u64],
     tally: &mut Tally,
-) -> Result<Option<String>, Fault>
-    requires { IsOk (checked catalog.now order.now) }
-{
-    let (alloc, name) = (given.alloc, given.row.name.as_str());
-    let by_one = detect_by(rt, given, order, catalog, 1)?;
-    tally.add(&by_one.end);
-    let by_one = all_of(alloc, by_one)?;
-    for count in counts {
-        let by_several = all_of(alloc, detect_by(rt, given, order, catalog, *count)?)?;
-        if by_several != by_one {
-            let text = format!(in alloc;
-                "{name} by {count} spawners: {by_several}\nand by one: {by_one}"
-            )?;
-            return Ok(Some(text));
-        }
+) -> bool {
+    match check(answer.alloc, order, catalog) {
+        Ok(_) => are_all_alike(rt, answer, given, order, catalog, counts, tally),
+        Err(_) => true,
     }
-    Ok(None)
 }
 
-// All that a detection comes to. Where a child gave no answer, it is a matter of time which others ran.
-fn all_of(alloc: Global, detected: Detected) -> Result<String, Fault> {
-    let Detected { end, mut ran } = detected;
-    let mut text = told_end(alloc, &end)?;
-    if let Ok(chosen) = &end {
-        push_written(alloc, &mut text, chosen)?;
+fn are_all_alike<R: Threads + Sync>(
+    rt: &R,
+    answer: &mut Answer,
+    given: &Given,
+    order: &Order,
+    catalog: &Catalog,
+    counts: &[u64],
+    tally: &mut Tally,
+) -> bool
+    requires { IsOk (checked catalog.now order.now) }
+{
+    let by_one = detected(rt, answer, given, order, catalog, 1, tally);
+    for count in counts {
+        let mut other = Tally::new();
+        let by_several = detected(rt, answer, given, order, catalog, *count, &mut other);
+        if by_several != by_one {
+            answer.put_all(&[given.row.name.as_str(), " by "]);
+            answer.show(count);
+            answer.put_all(&[
+                " spawners: ",
+                by_several.as_str(),
+                "\nand by one: ",
+                by_one.as_str(),
+            ]);
+            return false;
+        }
+    }
+    true
+}
+
+// All that a detection by so many spawners comes to.
+fn detected<R: Threads + Sync>(
+    rt: &R,
+    answer: &mut Answer,
+    given: &Given,
+    order: &Order,
+    catalog: &Catalog,
+    count: u64,
+    tally: &mut Tally,
+) -> String
+    requires { IsOk (checked catalog.now order.now) }
+{
+    let mut spawners = spawners(answer, given, count);
+    let mut text = Answer::new(answer.alloc);
+    if let Some(end) = end_by(rt, &mut text, given.row, order, catalog, &mut spawners) {
+        tally.add(&end);
+        put_detected(&mut text, given.row, &end, spawners.as_slice());
+    }
+    answer.taken(text)
+}
+
+// Where a child gave no answer, it is a matter of time which others ran.
+fn put_detected(
+    answer: &mut Answer,
+    row: &Row,
+    end: &Result<Chosen, DetectEnd>,
+    spawners: &[Meeting<'_>],
+) {
+    put_end(answer, end);
+    if let Ok(chosen) = end {
+        put_written(answer, chosen);
     }
     if !matches!(end, Err(DetectEnd::Child)) {
-        ran.sort()?;
-        push_runs(&mut text, &ran)?;
+        put_runs(answer, row, spawners, true);
     }
-    Ok(text)
 }
 
 // Adds what is printed of a choice, and its two documents.
-fn push_written(alloc: Global, text: &mut String, chosen: &Chosen) -> Result<(), Fault> {
-    let lines = choice_text(alloc, &chosen.group, chosen.plan.as_slice().len())?;
-    let group = write_group(alloc, &chosen.group)?;
-    let plan = write_plan(alloc, &chosen.plan)?;
-    write!(text, "\n{}", lines.as_str())?;
-    text.push_str(String::from_utf8_lossy(alloc, group.as_slice())?.as_str())?;
-    text.push_str(String::from_utf8_lossy(alloc, plan.as_slice())?.as_str())?;
-    Ok(())
+fn put_written(answer: &mut Answer, chosen: &Chosen) {
+    answer.put("\n");
+    answer.put_made(choice_text(answer.alloc, &chosen.group, chosen.plan.as_slice().len()));
+    put_document(answer, &write_group(answer.alloc, &chosen.group));
+    put_document(answer, &write_plan(answer.alloc, &chosen.plan));
+}
+
+fn put_document(answer: &mut Answer, written: &Result<Bytes, Memory>) {
+    match written {
+        Ok(bytes) => answer.put_lossy(bytes.as_slice()),
+        Err(Memory) => answer.run_out(),
+    }
 }

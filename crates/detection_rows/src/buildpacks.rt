@@ -1,141 +1,150 @@
 // Buildpacks, orders and groups of buildpacks as rows write them.
-use crate::fault::Fault;
-use crate::given::Given;
+use crate::given::{expanded, refuse};
 use bp_docs::{
     Body, Descriptor, Order, PlanOption, TargetRule, read_build_plan, read_buildpack, read_order,
 };
 use cnb_toml::{BpId, BpVersion, DocFault, Key, Target};
 use cnb_world::{List, Text};
 use order_expand::Catalog;
-use row_files::RowFault;
-use std::alloc::Global;
+use row_files::{Answer, Row};
 
 /// The key that `a` or `a@2.0.0` says; a version that is left out is 1.0.0.
-pub(crate) fn key(alloc: Global, text: &str) -> Result<Key, Fault> {
+pub(crate) fn key(answer: &mut Answer, text: &str) -> Option<Key> {
     let (id, version) = text.split_once('@').unwrap_or((text, "1.0.0"));
-    match (BpId::parse(alloc, id), BpVersion::parse(alloc, version)) {
-        (Ok(id), Ok(version)) => Ok(Key { id, version }),
-        _ => Err(Fault::wrong(alloc, "no buildpack:", text)),
+    match (
+        BpId::parse(answer.alloc, id),
+        BpVersion::parse(answer.alloc, version),
+    ) {
+        (Ok(id), Ok(version)) => Some(Key { id, version }),
+        _ => {
+            answer.wrong("no buildpack:", text);
+            None
+        }
     }
 }
 
 /// Adds a key as `a@2.0.0`.
-pub(crate) fn push_key(text: &mut String, key: &Key) -> Result<(), Fault> {
-    let (id, version) = (key.id.as_str(), key.version.as_str());
-    Ok(write!(text, "{id}@{version}")?)
+pub(crate) fn put_key(answer: &mut Answer, key: &Key) {
+    answer.put_all(&[key.id.as_str(), "@", key.version.as_str()]);
 }
 
-fn unread(alloc: Global, text: &str, fault: &DocFault) -> Result<Fault, Fault> {
-    Ok(Fault::Row(RowFault::Wrong(format!(in alloc; "{fault}: {text}")?)))
+// What was read of a document. Its fault is kept, with the document behind it.
+fn read<T: Drop>(answer: &mut Answer, text: &str, read: Result<T, DocFault>) -> Option<T> {
+    match read {
+        Ok(value) => Some(value),
+        Err(fault) => {
+            refuse(answer, &fault, ": ", text);
+            None
+        }
+    }
 }
 
 /// The order that a row has as a document.
-pub(crate) fn order(given: &Given) -> Result<Order, Fault> {
-    let text = given.expanded(given.text("order")?)?;
-    match read_order(given.alloc, text.as_bytes()) {
-        Ok(order) => Ok(order),
-        Err(fault) => Err(unread(given.alloc, text.as_str(), &fault)?),
-    }
+pub(crate) fn order(answer: &mut Answer, row: &Row) -> Option<Order> {
+    let text = answer.given(row, "order");
+    let text = expanded(answer, row, text);
+    let order = read_order(answer.alloc, text.as_bytes());
+    read(answer, text.as_str(), order)
 }
 
 /// The alternatives of a Build Plan.
-pub(crate) fn options(alloc: Global, text: &str) -> Result<List<PlanOption>, Fault> {
-    match read_build_plan(alloc, text.as_bytes()) {
-        Ok(options) => Ok(options),
-        Err(fault) => Err(unread(alloc, text, &fault)?),
-    }
+pub(crate) fn options(answer: &mut Answer, text: &str) -> Option<List<PlanOption>> {
+    let options = read_build_plan(answer.alloc, text.as_bytes());
+    read(answer, text, options)
 }
 
-fn descriptor(alloc: Global, text: &str) -> Result<Descriptor, Fault> {
-    match read_buildpack(alloc, text.as_bytes()) {
-        Ok(descriptor) => Ok(descriptor),
-        Err(fault) => Err(unread(alloc, text, &fault)?),
-    }
-}
-
-fn component(given: &Given, name: &str) -> Result<Descriptor, Fault> {
+fn push_component(answer: &mut Answer, row: &Row, descriptors: &mut List<Descriptor>, name: &str) {
     let body = Body::Component {
         clear_env: false,
-        targets: rules(given, name)?,
+        targets: rules(answer, row, name),
     };
-    let key = key(given.alloc, name)?;
-    Ok(Descriptor { key, body })
+    if let Some(key) = key(answer, name) {
+        answer.done(descriptors.push(Descriptor { key, body }));
+    }
 }
 
 // The targets of a component: those of its lines, each a name as among the components and targets as `linux/amd64`.
-fn rules(given: &Given, name: &str) -> Result<List<TargetRule>, Fault> {
-    let mut rules = List::new(given.alloc);
-    for line in given.text_or_empty("targets").lines() {
+fn rules(answer: &mut Answer, row: &Row, name: &str) -> List<TargetRule> {
+    let mut rules = List::new(answer.alloc);
+    for line in row.text_or_empty("targets").lines() {
         let mut words = line.split_whitespace();
         if words.next() == Some(name) {
             for word in words {
-                rules.push(rule(given.alloc, word)?)?;
+                push_rule(answer, &mut rules, word);
             }
         }
     }
-    Ok(rules)
+    rules
 }
 
 // One target, as `linux/amd64`, `linux/`, `/amd64` or `/`.
-fn rule(alloc: Global, text: &str) -> Result<TargetRule, Fault> {
-    let (os, arch) = os_and_arch(alloc, text)?;
-    Ok(TargetRule {
-        os: text_or_none(alloc, os)?,
-        arch: text_or_none(alloc, arch)?,
-    })
+fn push_rule(answer: &mut Answer, rules: &mut List<TargetRule>, text: &str) {
+    let (os, arch) = os_and_arch(answer, text);
+    let os = text_or_none(answer, os);
+    let arch = text_or_none(answer, arch);
+    answer.done(rules.push(TargetRule { os, arch }));
 }
 
-fn os_and_arch<'a>(alloc: Global, text: &'a str) -> Result<(&'a str, &'a str), Fault> {
+fn os_and_arch<'a>(answer: &mut Answer, text: &'a str) -> (&'a str, &'a str) {
     match text.split_once('/') {
-        Some(parts) => Ok(parts),
-        None => Err(Fault::wrong(alloc, "no target:", text)),
+        Some(parts) => parts,
+        None => {
+            answer.wrong("no target:", text);
+            ("", "")
+        }
     }
 }
 
-fn text_or_none(alloc: Global, text: &str) -> Result<Option<Text>, Fault> {
+fn text_or_none(answer: &mut Answer, text: &str) -> Option<Text> {
     if text.is_empty() {
-        Ok(None)
+        None
     } else {
-        Ok(Some(Text::of(alloc, text)?))
+        Some(answer.text(text))
     }
 }
 
 /// The image that a row builds for, as `linux/amd64`, where it has one.
-pub(crate) fn target(given: &Given) -> Result<Option<Target>, Fault> {
-    let text = given.text_or_empty("target");
+pub(crate) fn target(answer: &mut Answer, row: &Row) -> Option<Target> {
+    let text = row.text_or_empty("target");
     if text.is_empty() {
-        return Ok(None);
+        return None;
     }
-    let (os, arch) = os_and_arch(given.alloc, text)?;
-    Ok(Some(Target {
-        os: Text::of(given.alloc, os)?,
-        arch: Text::of(given.alloc, arch)?,
-    }))
+    let (os, arch) = os_and_arch(answer, text);
+    let os = answer.text(os);
+    let arch = answer.text(arch);
+    Some(Target { os, arch })
 }
 
 /// The descriptors of a row: its components, and behind them its documents between blank lines.
-pub(crate) fn descriptors(given: &Given) -> Result<Vec<Descriptor>, Fault> {
-    let mut descriptors = Vec::new(given.alloc);
-    for name in given.text_or_empty("components").split_whitespace() {
-        descriptors.push(component(given, name)?)?;
+pub(crate) fn descriptors(answer: &mut Answer, row: &Row) -> Vec<Descriptor> {
+    let mut descriptors = List::new(answer.alloc);
+    for name in row.text_or_empty("components").split_whitespace() {
+        push_component(answer, row, &mut descriptors, name);
     }
-    let documents = given.expanded(given.text_or_empty("descriptors"))?;
+    let documents = expanded(answer, row, row.text_or_empty("descriptors"));
     for document in documents.as_str().split("\n\n") {
-        if !document.trim().is_empty() {
-            descriptors.push(descriptor(given.alloc, document)?)?;
-        }
+        push_document(answer, &mut descriptors, document);
     }
-    Ok(descriptors)
+    descriptors.into_vec()
+}
+
+fn push_document(answer: &mut Answer, descriptors: &mut List<Descriptor>, document: &str) {
+    if document.trim().is_empty() {
+        return;
+    }
+    let descriptor = read_buildpack(answer.alloc, document.as_bytes());
+    if let Some(descriptor) = read(answer, document, descriptor) {
+        answer.done(descriptors.push(descriptor));
+    }
 }
 
 /// The catalog of a row's descriptors.
-pub(crate) fn catalog(given: &Given) -> Result<Catalog, Fault> {
-    let mut catalog = Catalog::new(given.alloc);
-    for descriptor in descriptors(given)? {
+pub(crate) fn catalog(answer: &mut Answer, row: &Row) -> Catalog {
+    let mut catalog = Catalog::new(answer.alloc);
+    for descriptor in descriptors(answer, row) {
         if let Err(fault) = catalog.add(descriptor) {
-            let text = format!(in given.alloc; "{fault}")?;
-            return Err(Fault::Row(RowFault::Wrong(text)));
+            refuse(answer, &fault, "", "");
         }
     }
-    Ok(catalog)
+    catalog
 }

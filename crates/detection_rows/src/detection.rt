@@ -1,19 +1,18 @@
 // Calls of detect_core.
-ghost use Rattle.std.specs.Prelude.{◌<◌, IfOk, IsOk, IsTrue, length};
+ghost use Rattle.std.specs.Prelude.{IfSome, IsOk, IsTrue};
 ghost use Rattle.order_expand.specs.Check.{checked};
 ghost use Rattle.detect_core.specs.Search.{is_short};
 
-use crate::buildpacks::{catalog, order, push_key, target};
+use crate::buildpacks::{catalog, order, put_key, target};
 use crate::environments::platform_env;
-use crate::fault::Fault;
-use crate::given::{Given, path};
-use crate::meeting::Meeting;
-use crate::plans::push_plan;
+use crate::given::{Given, expanded, number_or};
+use crate::meeting::{Meeting, new_count};
+use crate::plans::put_plan;
 use bp_docs::{Order, PlanOption};
-use cnb_toml::Key;
-use cnb_world::{Bytes, DetectJob, Env, List, MemSpawner, Probed, Reply, Text};
-use detect_core::{Chosen, DetectEnd, DetectFrame, Verdict, answer, detect};
+use cnb_world::{DetectJob, Env, List, Memory, Probed, Reply};
+use detect_core::{Chosen, DetectEnd, DetectFrame, Verdict, detect};
 use order_expand::{Catalog, check};
+use row_files::{Answer, Row};
 use std::alloc::Global;
 use std::sync::Arc;
 use std::sync::atomic::AtomicU64;
@@ -23,179 +22,195 @@ use std::thread::Threads;
 const MOST_PAUSE: u64 = 4096;
 
 // The exit code that a word says, `none` where a child has none.
-fn exit_code(alloc: Global, word: &str) -> Result<Option<i32>, Fault> {
-    match word.parse::<i32>() {
-        Ok(code) => Ok(Some(code)),
-        Err(_) if word == "none" => Ok(None),
-        Err(_) => Err(Fault::wrong(alloc, "no exit code:", word)),
+fn exit_code(answer: &mut Answer, word: &str) -> Option<i32> {
+    match word.parse() {
+        Ok(code) => Some(code),
+        Err(_) if word == "none" => None,
+        Err(_) => {
+            answer.wrong("no exit code:", word);
+            None
+        }
     }
 }
 
-fn probed(alloc: Global, code: &str, plan: &str) -> Result<Probed, Fault> {
-    Ok(Probed {
-        code: exit_code(alloc, code)?,
-        plan: Bytes::of(alloc, plan.as_bytes())?,
-    })
+fn probed(answer: &mut Answer, code: &str, plan: &str) -> Probed {
+    Probed {
+        code: exit_code(answer, code),
+        plan: answer.bytes(plan.as_bytes()),
+    }
 }
 
 /// What a child's end says.
-pub(crate) fn judge(given: &Given) -> Result<String, Fault> {
-    let plan = given.expanded(given.text_or_empty("plan"))?;
-    let probed = probed(given.alloc, given.text("code")?, plan.as_str())?;
-    match answer(given.alloc, &probed)? {
-        Verdict::Pass(options) => told_options(given.alloc, options.as_slice()),
-        Verdict::Fail => Ok(String::from_str(given.alloc, "fails")?),
-        Verdict::Error => Ok(String::from_str(given.alloc, "errs")?),
+pub(crate) fn judge(answer: &mut Answer, row: &Row) {
+    let plan = expanded(answer, row, row.text_or_empty("plan"));
+    let code = answer.given(row, "code");
+    let probed = probed(answer, code, plan.as_str());
+    put_verdict(answer, &detect_core::answer(answer.alloc, &probed));
+}
+
+fn put_verdict(answer: &mut Answer, verdict: &Result<Verdict, Memory>) {
+    match verdict {
+        Ok(Verdict::Pass(options)) => put_options(answer, options.as_slice()),
+        Ok(Verdict::Fail) => answer.put("fails"),
+        Ok(Verdict::Error) => answer.put("errs"),
+        Err(Memory) => answer.run_out(),
     }
 }
 
-fn told_options(alloc: Global, options: &[PlanOption]) -> Result<String, Fault> {
-    let mut told = String::from_str(alloc, "passes\n")?;
+fn put_options(answer: &mut Answer, options: &[PlanOption]) {
+    answer.put("passes\n");
     for option in options {
-        told.push_str("provides")?;
+        answer.put("provides");
         for name in option.provides.as_slice() {
-            write!(told, " {}", name.as_str())?;
+            answer.put_all(&[" ", name.as_str()]);
         }
-        told.push_str(", requires")?;
+        answer.put(", requires");
         for need in option.needs.as_slice() {
-            write!(told, " {}", need.name.as_str())?;
+            answer.put_all(&[" ", need.name.as_str()]);
         }
-        told.push_str("\n")?;
+        answer.put("\n");
     }
-    Ok(told)
 }
 
 // What children say: parts that begin with `> ID VERSION CODE`, each with a Build Plan behind that line.
-fn replies(given: &Given) -> Result<List<Reply>, Fault> {
-    let mut replies = List::new(given.alloc);
-    for part in given.text("replies")?.split("> ").skip(1) {
-        replies.push(reply(given.alloc, part)?)?;
+fn replies(answer: &mut Answer, row: &Row) -> List<Reply> {
+    let mut replies = List::new(answer.alloc);
+    for part in answer.given(row, "replies").split("> ").skip(1) {
+        push_reply(answer, &mut replies, part);
     }
-    Ok(replies)
+    replies
 }
 
-fn reply(alloc: Global, part: &str) -> Result<Reply, Fault> {
+fn push_reply(answer: &mut Answer, replies: &mut List<Reply>, part: &str) {
     let (head, plan) = part.split_once('\n').unwrap_or((part, ""));
     let Some((id, end)) = head.trim().split_once(' ') else {
-        return Err(Fault::wrong(alloc, "no version:", head));
+        answer.wrong("no version:", head);
+        return;
     };
     let Some((version, code)) = end.split_once(' ') else {
-        return Err(Fault::wrong(alloc, "no exit code:", head));
+        answer.wrong("no exit code:", head);
+        return;
     };
-    Ok(Reply {
-        id: Text::of(alloc, id)?,
-        version: Text::of(alloc, version)?,
-        probed: probed(alloc, code, plan)?,
-    })
+    let reply = Reply {
+        id: answer.text(id),
+        version: answer.text(version),
+        probed: probed(answer, code, plan),
+    };
+    answer.done(replies.push(reply));
 }
 
-fn frame(given: &Given) -> Result<DetectFrame, Fault>
-    ensures { IfOk result (λ frame. IsTrue (is_short frame)) }
+fn frame(answer: &mut Answer, row: &Row) -> Option<DetectFrame>
+    ensures { IfSome result (λ frame. IsTrue (is_short frame)) }
 {
-    let alloc = given.alloc;
-    let (files, target) = (platform_env(given)?, target(given)?);
-    Ok(DetectFrame {
-        buildpacks: path(alloc, "/buildpacks")?,
-        app: path(alloc, "/app")?,
-        platform: path(alloc, "/platform")?,
-        work: path(alloc, "/work")?,
-        env: Env::new(alloc),
+    let files = platform_env(answer, row);
+    let target = target(answer, row);
+    Some(DetectFrame {
+        buildpacks: answer.path("/buildpacks")?,
+        app: answer.path("/app")?,
+        platform: answer.path("/platform")?,
+        work: answer.path("/work")?,
+        env: Env::new(answer.alloc),
         files,
         target,
     })
 }
 
-// So many spawners of the row's children, each of which takes another time for a child.
-fn spawners<'a>(given: &Given<'a>, count: u64) -> Result<Vec<Meeting<'a>>, Fault> {
-    let begun = Arc::new(given.alloc, AtomicU64::new(0))?;
-    let pause = given.number_or("pause", 0)?;
-    let mut spawners = Vec::new(given.alloc);
-    for place in 0..count {
-        let pause = pause.wrapping_mul(place) % MOST_PAUSE;
-        let failing = given.numbers("failing")?;
-        let children = MemSpawner::new(given.alloc, replies(given)?, failing)?;
-        spawners.push(Meeting::new(given, &begun, pause, children)?)?;
+/// So many spawners of the row's children, each of which takes another time for a child.
+pub(crate) fn spawners<'a>(answer: &mut Answer, given: &Given<'a>, count: u64) -> Vec<Meeting<'a>> {
+    let mut spawners = List::new(answer.alloc);
+    if let Some(begun) = new_count(answer) {
+        let pause = number_or(answer, given.row, "pause", 0);
+        for place in 0..count {
+            let pause = pause.wrapping_mul(place) % MOST_PAUSE;
+            push_spawner(answer, given, &begun, pause, &mut spawners);
+        }
     }
-    Ok(spawners)
+    spawners.into_vec()
 }
 
-/// How a detection ended, and the children that ran: in order where there is one spawner, and else ascending by id and
-/// version.
-#[derive(Drop)]
-pub struct Detected {
-    pub end: Result<Chosen, DetectEnd>,
-    pub ran: Vec<String>,
+fn push_spawner<'a>(
+    answer: &mut Answer,
+    given: &Given<'a>,
+    begun: &Arc<AtomicU64, Global>,
+    pause: u64,
+    spawners: &mut List<Meeting<'a>>,
+) {
+    let failing = answer.numbers(given.row.text_or_empty("failing"));
+    let replies = replies(answer, given.row);
+    if let Some(spawner) = Meeting::new(answer, given, begun, pause, replies, failing) {
+        answer.done(spawners.push(spawner));
+    }
 }
 
 /// What a detection chooses, or why nothing, and which children ran, by as many spawners as the row says, or one.
-pub(crate) fn choose<R: Threads + Sync>(rt: &R, given: &Given) -> Result<String, Fault> {
-    let (catalog, order) = (catalog(given)?, order(given)?);
-    match check(given.alloc, &order, &catalog) {
-        Ok(_) => chosen(rt, given, &order, &catalog),
-        Err(fault) => Ok(format!(in given.alloc; "{fault}")?),
+pub(crate) fn choose<R: Threads + Sync>(rt: &R, answer: &mut Answer, given: &Given) {
+    let catalog = catalog(answer, given.row);
+    if let Some(order) = order(answer, given.row) {
+        put_checked(rt, answer, given, &order, &catalog);
+    }
+}
+
+fn put_checked<R: Threads + Sync>(
+    rt: &R,
+    answer: &mut Answer,
+    given: &Given,
+    order: &Order,
+    catalog: &Catalog,
+) {
+    match check(answer.alloc, order, catalog) {
+        Ok(_) => put_detected(rt, answer, given, order, catalog),
+        Err(fault) => answer.show(&fault),
     }
 }
 
 // The same for an order that was checked.
-fn chosen<R: Threads + Sync>(
+fn put_detected<R: Threads + Sync>(
     rt: &R,
+    answer: &mut Answer,
     given: &Given,
     order: &Order,
     catalog: &Catalog,
-) -> Result<String, Fault>
+)
     requires { IsOk (checked catalog.now order.now) }
 {
-    let count = given.number_or("spawners", 1)?;
-    let detected = detect_by(rt, given, order, catalog, count)?;
-    let mut told = told_end(given.alloc, &detected.end)?;
-    push_runs(&mut told, &detected.ran)?;
-    Ok(told)
-}
-
-/// A detection by so many spawners.
-pub(crate) fn detect_by<R: Threads + Sync>(
-    rt: &R,
-    given: &Given,
-    order: &Order,
-    catalog: &Catalog,
-    count: u64,
-) -> Result<Detected, Fault>
-    requires { IsOk (checked catalog.now order.now) }
-{
-    let mut spawners = spawners(given, count)?;
-    if spawners.is_empty() {
-        return Err(Fault::wrong(given.alloc, "none of", "spawners"));
+    let count = number_or(answer, given.row, "spawners", 1);
+    let mut spawners = spawners(answer, given, count);
+    if let Some(end) = end_by(rt, answer, given.row, order, catalog, &mut spawners) {
+        put_end(answer, &end);
+        let are_several = spawners.len() > 1;
+        put_runs(answer, given.row, spawners.as_slice(), are_several);
     }
-    let end = end_by(rt, given, order, catalog, &mut spawners)?;
-    let ran = ran(given, spawners.as_slice())?;
-    Ok(Detected { end, ran })
 }
 
-// How a detection by these spawners ends.
-fn end_by<R: Threads + Sync>(
+/// How a detection by these spawners ends.
+pub(crate) fn end_by<R: Threads + Sync>(
     rt: &R,
-    given: &Given,
+    answer: &mut Answer,
+    row: &Row,
     order: &Order,
     catalog: &Catalog,
     spawners: &mut Vec<Meeting<'_>>,
-) -> Result<Result<Chosen, DetectEnd>, Fault>
-    requires checked { IsOk (checked catalog.now order.now) }
-    requires spawners { 0 < length spawners.old.items }
+) -> Option<Result<Chosen, DetectEnd>>
+    requires { IsOk (checked catalog.now order.now) }
 {
-    let frame = frame(given)?;
     let workers = spawners.len();
-    Ok(detect(rt, given.alloc, order, catalog, spawners, workers, &frame))
+    if workers == 0 {
+        answer.wrong("none of", "spawners");
+        return None;
+    }
+    let frame = frame(answer, row)?;
+    Some(detect(rt, answer.alloc, order, catalog, spawners, workers, &frame))
 }
 
-/// How a detection ended, in words.
-pub(crate) fn told_end(alloc: Global, end: &Result<Chosen, DetectEnd>) -> Result<String, Fault> {
+/// Adds how a detection ended.
+pub(crate) fn put_end(answer: &mut Answer, end: &Result<Chosen, DetectEnd>) {
     match end {
-        Ok(chosen) => told_choice(alloc, chosen),
-        Err(end) => Ok(String::from_str(alloc, told_refusal(end))?),
+        Ok(chosen) => put_choice(answer, chosen),
+        Err(end) => answer.put(words_of(end)),
     }
 }
 
-fn told_refusal(end: &DetectEnd) -> &'static str {
+fn words_of(end: &DetectEnd) -> &'static str {
     match end {
         DetectEnd::NoGroup { erred: false } => "no group passes",
         DetectEnd::NoGroup { erred: true } => "no group passes, a child erred",
@@ -205,59 +220,68 @@ fn told_refusal(end: &DetectEnd) -> &'static str {
     }
 }
 
-fn told_choice(alloc: Global, chosen: &Chosen) -> Result<String, Fault> {
-    let (place, trial, trials) = (chosen.place, chosen.trial, chosen.trials);
-    let mut told = format!(in alloc; "group {place}, trial {trial} of {trials}")?;
+fn put_number(answer: &mut Answer, front: &str, number: u32) {
+    answer.put(front);
+    answer.show(&number);
+}
+
+fn put_choice(answer: &mut Answer, chosen: &Chosen) {
+    put_number(answer, "group ", chosen.place);
+    put_number(answer, ", trial ", chosen.trial);
+    put_number(answer, " of ", chosen.trials);
     for row in chosen.group.as_slice() {
-        told.push_str("\n")?;
-        push_key(&mut told, &row.key)?;
-        write!(told, " api {}", row.api.as_str())?;
+        answer.put("\n");
+        put_key(answer, &row.key);
+        answer.put_all(&[" api ", row.api.as_str()]);
     }
-    told.push_str("\nplan")?;
-    push_plan(&mut told, chosen.plan.as_slice())?;
-    told.push_str("\nasked")?;
-    push_keys(&mut told, chosen.asked.as_slice())?;
-    Ok(told)
+    answer.put("\nplan");
+    put_plan(answer, chosen.plan.as_slice());
+    answer.put("\nasked");
+    for key in chosen.asked.as_slice() {
+        answer.put(" ");
+        put_key(answer, key);
+    }
 }
 
-fn push_keys(told: &mut String, keys: &[Key]) -> Result<(), Fault> {
-    for key in keys {
-        told.push_str(" ")?;
-        push_key(told, key)?;
+/// Adds the children that ran, each with those of the variables under `shown` that it had: ascending, or in order.
+pub(crate) fn put_runs(
+    answer: &mut Answer,
+    row: &Row,
+    spawners: &[Meeting<'_>],
+    is_ascending: bool,
+) {
+    let mut names = runs(answer, row, spawners);
+    if is_ascending && names.sort().is_err() {
+        answer.run_out();
     }
-    Ok(())
+    answer.put("\nran");
+    for name in &names {
+        answer.put_all(&[" ", name.as_str()]);
+    }
 }
 
-fn ran(given: &Given, spawners: &[Meeting<'_>]) -> Result<Vec<String>, Fault> {
-    let mut names = Vec::new(given.alloc);
+fn runs(answer: &mut Answer, row: &Row, spawners: &[Meeting<'_>]) -> Vec<String> {
+    let mut names = List::new(answer.alloc);
     for spawner in spawners {
         for run in spawner.children.runs() {
-            names.push(ran_job(given, &run.job)?)?;
+            let name = run_text(answer, row, &run.job);
+            answer.done(names.push(name));
         }
     }
-    if spawners.len() > 1 {
-        names.sort()?;
-    }
-    Ok(names)
+    names.into_vec()
 }
 
-// A child that ran, and those of the variables under `shown` that it had.
-fn ran_job(given: &Given, job: &DetectJob) -> Result<String, Fault> {
-    let (id, version) = (job.id.as_str(), job.version.as_str());
-    let mut told = format!(in given.alloc; "{id}@{version}")?;
-    for name in given.text_or_empty("shown").split_whitespace() {
+fn run_text(answer: &mut Answer, row: &Row, job: &DetectJob) -> String {
+    let mut text = Answer::new(answer.alloc);
+    put_run(&mut text, row, job);
+    answer.taken(text)
+}
+
+fn put_run(answer: &mut Answer, row: &Row, job: &DetectJob) {
+    answer.put_all(&[job.id.as_str(), "@", job.version.as_str()]);
+    for name in row.text_or_empty("shown").split_whitespace() {
         if let Some(value) = job.env.get(name) {
-            write!(told, " {name}={}", value.as_str())?;
+            answer.put_all(&[" ", name, "=", value.as_str()]);
         }
     }
-    Ok(told)
-}
-
-/// Adds the names of the children that ran.
-pub(crate) fn push_runs(told: &mut String, names: &[String]) -> Result<(), Fault> {
-    told.push_str("\nran")?;
-    for name in names {
-        write!(told, " {name}")?;
-    }
-    Ok(())
 }

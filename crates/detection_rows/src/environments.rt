@@ -4,220 +4,278 @@ ghost use Rattle.std.specs.List.{All};
 ghost use Rattle.cnb_env.specs.Layers.{AreShort, IsShort};
 
 use crate::buildpacks::{key, target};
-use crate::fault::Fault;
-use crate::files::{refusal, world};
-use crate::given::{Given, path};
+use crate::files::{put_refusal, world};
+use crate::given::path_given;
 use cnb_env::{
-    EnvFault, EnvFile, LayerSet, When, apply_file, base_env, build_env, buildpack_folder, contents,
-    env_folder, launch_env, layer_paths, plan_name, platform, platform_files, set_path, set_target,
+    EnvFault, EnvFile, LayerSet, When, apply_file, base_env, build_env, buildpack_folder,
+    env_folder, launch_env, layer_paths, plan_name, platform, set_path, set_target,
 };
-use cnb_toml::ProcType;
-use cnb_world::{Env, List, Text};
-use std::alloc::Global;
+use cnb_toml::{Key, ProcType};
+use cnb_world::{Bytes, Env, List, MemWorld, Memory, Path};
+use row_files::{Answer, Row};
 
-// The variables under a name, each a line `NAME=VALUE`.
-fn variables(given: &Given, name: &str) -> Result<Env, Fault> {
-    let mut env = Env::new(given.alloc);
-    for file in env_files(given, name)?.into_vec() {
-        env.set(file.name, file.value)?;
-    }
-    Ok(env)
-}
-
-// The same as environment files.
-fn env_files(given: &Given, name: &str) -> Result<List<EnvFile>, Fault> {
-    let mut files = List::new(given.alloc);
-    for line in given.text_or_empty(name).lines() {
-        let Some((name, value)) = line.split_once('=') else {
-            return Err(Fault::wrong(given.alloc, "no variable:", line));
-        };
-        files.push(EnvFile {
-            name: Text::of(given.alloc, name)?,
-            value: Text::of(given.alloc, value)?,
-        })?;
-    }
-    Ok(files)
-}
-
-/// The environment files of the row's platform.
-pub(crate) fn platform_env(given: &Given) -> Result<List<EnvFile>, Fault> {
-    env_files(given, "platform files")
-}
-
-fn told(given: &Given, env: &Env) -> Result<String, Fault> {
-    let mut told = String::new(given.alloc);
-    for variable in env.variables() {
-        writeln!(
-            told,
-            "{}={}",
-            variable.name.as_str(),
-            variable.value.as_str()
-        )?;
-    }
-    Ok(told)
-}
-
-// The environment, or behind why a call was refused what it left of it.
-fn told_after(given: &Given, env: &Env, answer: &Result<(), EnvFault>) -> Result<String, Fault> {
-    match answer {
-        Ok(()) => told(given, env),
-        Err(fault) => {
-            let mut text = refusal(given.alloc, fault)?;
-            text.push_str("\n")?;
-            text.push_str(told(given, env)?.as_str())?;
-            Ok(text)
+// The name and the value of a line `NAME=VALUE`.
+fn variable<'a>(answer: &mut Answer, line: &'a str) -> (&'a str, &'a str) {
+    match line.split_once('=') {
+        Some(parts) => parts,
+        None => {
+            answer.wrong("no variable:", line);
+            ("", "")
         }
     }
 }
 
-fn told_made(given: &Given, answer: &Result<Env, EnvFault>) -> Result<String, Fault> {
-    match answer {
-        Ok(env) => told(given, env),
-        Err(fault) => refusal(given.alloc, fault),
+fn set(answer: &mut Answer, env: &mut Env, line: &str) {
+    let (name, value) = variable(answer, line);
+    let name = answer.text(name);
+    let value = answer.text(value);
+    answer.done(env.set(name, value));
+}
+
+// The variables of the row's `env`.
+fn variables(answer: &mut Answer, row: &Row) -> Env {
+    let mut env = Env::new(answer.alloc);
+    for line in row.text_or_empty("env").lines() {
+        set(answer, &mut env, line);
+    }
+    env
+}
+
+fn push_file(answer: &mut Answer, files: &mut List<EnvFile>, line: &str) {
+    let (name, value) = variable(answer, line);
+    let name = answer.text(name);
+    let value = answer.text(value);
+    answer.done(files.push(EnvFile { name, value }));
+}
+
+/// The environment files of the row's platform.
+pub(crate) fn platform_env(answer: &mut Answer, row: &Row) -> List<EnvFile> {
+    let mut files = List::new(answer.alloc);
+    for line in row.text_or_empty("platform files").lines() {
+        push_file(answer, &mut files, line);
+    }
+    files
+}
+
+fn put_env(answer: &mut Answer, env: &Env) {
+    for variable in env.variables() {
+        answer.put_all(&[variable.name.as_str(), "=", variable.value.as_str(), "\n"]);
+    }
+}
+
+// Adds the environment, or behind why a call was refused what it left of it.
+fn put_env_after(answer: &mut Answer, env: &Env, done: &Result<(), EnvFault>) {
+    if let Err(fault) = done {
+        put_refusal(answer, fault);
+        answer.put("\n");
+    }
+    put_env(answer, env);
+}
+
+fn put_env_made(answer: &mut Answer, made: &Result<Env, EnvFault>) {
+    match made {
+        Ok(env) => put_env(answer, env),
+        Err(fault) => put_refusal(answer, fault),
     }
 }
 
 /// A file of a layer in an environment.
-pub(crate) fn apply(given: &Given) -> Result<String, Fault> {
-    let mut env = variables(given, "env")?;
-    let (name, value) = (given.text("name")?, given.text("value")?);
-    apply_file(given.alloc, &mut env, name, value, given.text("delimiter")?)?;
-    told(given, &env)
+pub(crate) fn apply(answer: &mut Answer, row: &Row) {
+    let mut env = variables(answer, row);
+    let (name, value) = (answer.given(row, "name"), answer.given(row, "value"));
+    let delimiter = answer.given(row, "delimiter");
+    answer.done(apply_file(answer.alloc, &mut env, name, value, delimiter));
+    put_env(answer, &env);
 }
 
 /// A folder of files in an environment.
-pub(crate) fn apply_folder(given: &Given) -> Result<String, Fault> {
-    let mut env = variables(given, "env")?;
-    let (mut world, folder) = (world(given)?, given.path("folder")?);
-    let answer = env_folder(given.alloc, &mut world, &mut env, &folder);
-    told_after(given, &env, &answer)
+pub(crate) fn apply_folder(answer: &mut Answer, row: &Row) {
+    let mut env = variables(answer, row);
+    if let Some(mut world) = world(answer, row) {
+        put_applied(answer, row, &mut world, &mut env);
+    }
+}
+
+fn put_applied(answer: &mut Answer, row: &Row, world: &mut MemWorld, env: &mut Env) {
+    if let Some(folder) = path_given(answer, row, "folder") {
+        let done = env_folder(answer.alloc, world, env, &folder);
+        put_env_after(answer, env, &done);
+    }
 }
 
 // The layers between spaces.
-fn layer_set(alloc: Global, text: &str) -> Result<LayerSet, Fault>
+fn layer_set(answer: &mut Answer, text: &str) -> Result<LayerSet, Memory>
     ensures { IfOk result AreShort }
 {
-    let mut layers = List::new(alloc);
+    let mut layers = List::new(answer.alloc);
     for word in text.split_whitespace() {
-        layers.push(path(alloc, word)?)?;
+        if let Some(path) = answer.path(word) {
+            layers.push(path)?;
+        }
     }
     Ok(layers)
 }
 
 // The layers of each buildpack on a line.
-fn layer_sets(given: &Given) -> Result<List<LayerSet>, Fault>
+fn layer_sets(answer: &mut Answer, row: &Row) -> Result<List<LayerSet>, Memory>
     ensures { IfOk result (All AreShort) }
 {
-    let mut sets = List::new(given.alloc);
-    for line in given.text_or_empty("layers").lines() {
-        sets.push(layer_set(given.alloc, line)?)?;
+    let mut sets = List::new(answer.alloc);
+    for line in row.text_or_empty("layers").lines() {
+        sets.push(layer_set(answer, line)?)?;
     }
     Ok(sets)
 }
 
 /// The path folders of layers in an environment.
-pub(crate) fn put_paths(given: &Given) -> Result<String, Fault> {
-    let when = if given.text("when")? == "build" {
-        When::Build
-    } else {
-        When::Launch
+pub(crate) fn put_paths(answer: &mut Answer, row: &Row) {
+    let when = match answer.given(row, "when") {
+        "build" => When::Build,
+        _ => When::Launch,
     };
-    let mut env = variables(given, "env")?;
-    let layers = layer_set(given.alloc, given.text("layers")?)?;
-    let mut world = world(given)?;
-    let answer = layer_paths(given.alloc, &mut world, &mut env, &layers, when);
-    told_after(given, &env, &answer)
+    let mut env = variables(answer, row);
+    put_paths_in(answer, row, &mut env, when);
+}
+
+fn put_paths_in(answer: &mut Answer, row: &Row, env: &mut Env, when: When) {
+    let layers = answer.given(row, "layers");
+    let Ok(layers) = layer_set(answer, layers) else {
+        answer.run_out();
+        return;
+    };
+    if let Some(mut world) = world(answer, row) {
+        let done = layer_paths(answer.alloc, &mut world, env, &layers, when);
+        put_env_after(answer, env, &done);
+    }
 }
 
 /// The environment of a build, with the platform's files where the row has some.
-pub(crate) fn make_build_env(given: &Given) -> Result<String, Fault> {
-    let (env, files) = (variables(given, "env")?, platform_env(given)?);
-    let (mut world, sets) = (world(given)?, layer_sets(given)?);
+pub(crate) fn make_build_env(answer: &mut Answer, row: &Row) {
+    let env = variables(answer, row);
+    let files = platform_env(answer, row);
+    if let Some(mut world) = world(answer, row) {
+        put_build_env(answer, row, &mut world, &env, &files);
+    }
+}
+
+fn put_build_env(
+    answer: &mut Answer,
+    row: &Row,
+    world: &mut MemWorld,
+    env: &Env,
+    files: &List<EnvFile>,
+) {
+    let Ok(sets) = layer_sets(answer, row) else {
+        answer.run_out();
+        return;
+    };
     let files = if files.as_slice().is_empty() {
         None
     } else {
-        Some(&files)
+        Some(files)
     };
-    told_made(
-        given,
-        &build_env(given.alloc, &mut world, &env, &sets, files),
-    )
+    put_env_made(answer, &build_env(answer.alloc, world, env, &sets, files));
 }
 
 /// The environment of a launch, of a process of a type where the row has one.
-pub(crate) fn make_launch_env(given: &Given) -> Result<String, Fault> {
-    let env = variables(given, "env")?;
-    let (mut world, sets) = (world(given)?, layer_sets(given)?);
-    let kind = ProcType::parse(given.alloc, given.text_or_empty("type")).ok();
-    told_made(
-        given,
-        &launch_env(given.alloc, &mut world, &env, &sets, kind.as_ref()),
-    )
-}
-
-/// The platform's files, as they are read.
-pub(crate) fn read_platform(given: &Given) -> Result<String, Fault> {
-    let (mut world, folder) = (world(given)?, given.path("platform")?);
-    match &platform_files(given.alloc, &mut world, &folder) {
-        Ok(files) => told_files(given.alloc, files.as_slice()),
-        Err(fault) => refusal(given.alloc, fault),
+pub(crate) fn make_launch_env(answer: &mut Answer, row: &Row) {
+    let env = variables(answer, row);
+    if let Some(mut world) = world(answer, row) {
+        put_launch_env(answer, row, &mut world, &env);
     }
 }
 
-fn told_files(alloc: Global, files: &[EnvFile]) -> Result<String, Fault> {
-    let mut told = format!(in alloc; "{} files\n", files.len())?;
+fn put_launch_env(answer: &mut Answer, row: &Row, world: &mut MemWorld, env: &Env) {
+    let Ok(sets) = layer_sets(answer, row) else {
+        answer.run_out();
+        return;
+    };
+    let kind = ProcType::parse(answer.alloc, row.text_or_empty("type")).ok();
+    put_env_made(
+        answer,
+        &launch_env(answer.alloc, world, env, &sets, kind.as_ref()),
+    );
+}
+
+/// Adds the platform's files, as they are read.
+pub(crate) fn put_files(answer: &mut Answer, files: &Result<List<EnvFile>, EnvFault>) {
+    match files {
+        Ok(files) => put_each_file(answer, files.as_slice()),
+        Err(fault) => put_refusal(answer, fault),
+    }
+}
+
+fn put_each_file(answer: &mut Answer, files: &[EnvFile]) {
+    answer.show(&files.len());
+    answer.put(" files\n");
     for file in files {
-        writeln!(told, "{}={:?}", file.name.as_str(), file.value.as_str())?;
+        answer.put_all(&[file.name.as_str(), "="]);
+        answer.debug(&file.value.as_str());
+        answer.put("\n");
     }
-    Ok(told)
 }
 
 /// The platform's files in an environment.
-pub(crate) fn apply_platform(given: &Given) -> Result<String, Fault> {
-    let mut env = variables(given, "env")?;
-    platform(given.alloc, &mut env, &platform_env(given)?)?;
-    told(given, &env)
+pub(crate) fn apply_platform(answer: &mut Answer, row: &Row) {
+    let mut env = variables(answer, row);
+    let files = platform_env(answer, row);
+    answer.done(platform(answer.alloc, &mut env, &files));
+    put_env(answer, &env);
 }
 
 /// What children's environments begin with.
-pub(crate) fn begin(given: &Given) -> Result<String, Fault> {
-    told(given, &base_env(given.alloc, &variables(given, "env")?)?)
+pub(crate) fn begin(answer: &mut Answer, row: &Row) {
+    let env = variables(answer, row);
+    if let Some(base) = answer.made(base_env(answer.alloc, &env)) {
+        put_env(answer, &base);
+    }
 }
 
 /// A variable that is set to a path.
-pub(crate) fn put_path(given: &Given) -> Result<String, Fault> {
-    let mut env = variables(given, "env")?;
-    set_path(
-        given.alloc,
-        &mut env,
-        given.text("name")?,
-        &given.path("path")?,
-    )?;
-    told(given, &env)
+pub(crate) fn put_path(answer: &mut Answer, row: &Row) {
+    let mut env = variables(answer, row);
+    let name = answer.given(row, "name");
+    if let Some(path) = path_given(answer, row, "path") {
+        answer.done(set_path(answer.alloc, &mut env, name, &path));
+    }
+    put_env(answer, &env);
 }
 
 /// The variables of the image that a row builds for.
-pub(crate) fn put_target(given: &Given) -> Result<String, Fault> {
-    let mut env = variables(given, "env")?;
-    let target = target(given)?;
-    set_target(given.alloc, &mut env, target.as_ref())?;
-    told(given, &env)
+pub(crate) fn put_target(answer: &mut Answer, row: &Row) {
+    let mut env = variables(answer, row);
+    let target = target(answer, row);
+    answer.done(set_target(answer.alloc, &mut env, target.as_ref()));
+    put_env(answer, &env);
 }
 
 /// The folder of a buildpack, and the name of its plan.
-pub(crate) fn places(given: &Given) -> Result<String, Fault> {
-    let key = key(given.alloc, given.text("buildpack")?)?;
-    let folder = buildpack_folder(given.alloc, &given.path("folder")?, &key)?;
-    let name = plan_name(given.alloc, &key)?;
-    Ok(format!(in given.alloc; "{}\n{}", folder.as_str(), name.as_str())?)
+pub(crate) fn places(answer: &mut Answer, row: &Row) {
+    let text = answer.given(row, "buildpack");
+    if let Some(key) = key(answer, text) {
+        if let Some(folder) = path_given(answer, row, "folder") {
+            put_places(answer, &folder, &key);
+        }
+    }
 }
 
-/// The length of the file at a path.
-pub(crate) fn measure(given: &Given) -> Result<String, Fault> {
-    let (mut world, path) = (world(given)?, given.path("path")?);
-    match &contents(given.alloc, &mut world, &path) {
-        Ok(Some(bytes)) => Ok(format!(in given.alloc; "{} bytes", bytes.as_slice().len())?),
-        Ok(None) => Ok(String::from_str(given.alloc, "no file")?),
-        Err(fault) => refusal(given.alloc, fault),
+fn put_places(answer: &mut Answer, folder: &Path, key: &Key)
+    requires { length folder.now ≤ 4096 }
+{
+    if let Some(folder) = answer.made(buildpack_folder(answer.alloc, folder, key)) {
+        answer.put_all(&[folder.as_str(), "\n"]);
+    }
+    answer.put_made(plan_name(answer.alloc, key));
+}
+
+/// Adds the length of a file.
+pub(crate) fn put_contents(answer: &mut Answer, contents: &Result<Option<Bytes>, EnvFault>) {
+    match contents {
+        Ok(Some(bytes)) => {
+            answer.show(&bytes.as_slice().len());
+            answer.put(" bytes");
+        }
+        Ok(None) => answer.put("no file"),
+        Err(fault) => put_refusal(answer, fault),
     }
 }

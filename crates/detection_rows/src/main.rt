@@ -9,7 +9,6 @@ mod alike;
 mod buildpacks;
 mod detection;
 mod environments;
-mod fault;
 mod files;
 mod given;
 mod meeting;
@@ -18,10 +17,8 @@ mod plans;
 mod pool;
 mod random;
 
-use fault::Fault;
 use given::Given;
-use row_files::{Row, RowFault, run};
-use std::alloc::AllocError;
+use row_files::{Answer, Row, RowFault, run};
 use std::process::ExitCode;
 use std::thread::Threads;
 
@@ -37,57 +34,56 @@ const FILES: [&str; 8] = [
 ];
 
 fn answer<R: Threads + Sync>(rt: &R, clock: &HostRuntime, row: &Row) -> Result<String, RowFault> {
-    let alloc = clock.alloc();
-    let given = Given { alloc, clock, row };
-    match told(rt, &given) {
-        Ok(told) => Ok(String::from_str(alloc, told.as_str().trim_end())?),
-        Err(Fault::Row(fault)) => Err(fault),
-        Err(Fault::Memory(_)) => Err(RowFault::Memory(AllocError)),
+    let mut answer = Answer::new(clock.alloc());
+    put_answer(rt, &mut answer, &Given { clock, row });
+    match answer.end() {
+        Ok(text) => Ok(String::from_str(clock.alloc(), text.as_str().trim_end())?),
+        Err(fault) => Err(fault),
     }
 }
 
-fn told<R: Threads + Sync>(rt: &R, given: &Given) -> Result<String, Fault> {
+fn put_answer<R: Threads + Sync>(rt: &R, answer: &mut Answer, given: &Given) {
     match given.row.call.as_str() {
-        "detect" => detection::choose(rt, given),
-        "detect_random" => alike::compare_orders(rt, given),
-        "answer" => detection::judge(given),
-        "run_all" => pool::run_jobs(rt, given),
-        "round" => pool::round_of_two(given),
-        "tickets" => pool::draw_tickets(given),
-        "each_job_has_one_answer" => pool::one_answer(given),
-        call => told_of_orders(call, given),
+        "detect" => detection::choose(rt, answer, given),
+        "detect_random" => alike::compare_orders(rt, answer, given),
+        "run_all" => pool::run_jobs(rt, answer, given),
+        call => put_unthreaded(answer, given.row, call),
     }
 }
 
-fn told_of_orders(call: &str, given: &Given) -> Result<String, Fault> {
+// What a call answers that takes no threads.
+fn put_unthreaded(answer: &mut Answer, row: &Row, call: &str) {
     match call {
-        "add" => orders::add_all(given),
-        "check" | "walk" | "walk_digits" => orders::expand(given),
-        "read_order_file" => files::read_order(given),
-        "read_catalog" => files::read_buildpacks(given),
-        "kept" => plans::keep(given),
-        "resolve" => plans::first_trial(given),
-        "ascending" => plans::sort_names(given),
-        "has_name" => plans::find_name(given),
-        call => told_of_environments(call, given),
+        "answer" => detection::judge(answer, row),
+        "round" => pool::round_of_two(answer),
+        "tickets" => pool::draw_tickets(answer, row),
+        "each_job_has_one_answer" => pool::one_answer(answer),
+        "add" => orders::add_all(answer, row),
+        "check" | "walk" | "walk_digits" => orders::expand(answer, row),
+        "read_order_file" | "contents" => files::read(answer, row, "path"),
+        "read_catalog" => files::read(answer, row, "folder"),
+        "platform_files" => files::read(answer, row, "platform"),
+        "kept" => plans::keep(answer, row),
+        "resolve" => plans::first_trial(answer, row),
+        "ascending" => plans::sort_names(answer, row),
+        "has_name" => plans::find_name(answer, row),
+        call => put_environment(answer, row, call),
     }
 }
 
-fn told_of_environments(call: &str, given: &Given) -> Result<String, Fault> {
+fn put_environment(answer: &mut Answer, row: &Row, call: &str) {
     match call {
-        "apply_file" => environments::apply(given),
-        "env_folder" => environments::apply_folder(given),
-        "layer_paths" => environments::put_paths(given),
-        "build_env" => environments::make_build_env(given),
-        "launch_env" => environments::make_launch_env(given),
-        "platform_files" => environments::read_platform(given),
-        "platform" => environments::apply_platform(given),
-        "base_env" => environments::begin(given),
-        "set_path" => environments::put_path(given),
-        "set_target" => environments::put_target(given),
-        "buildpack_folder" => environments::places(given),
-        "contents" => environments::measure(given),
-        call => Err(Fault::wrong(given.alloc, "no such call:", call)),
+        "apply_file" => environments::apply(answer, row),
+        "env_folder" => environments::apply_folder(answer, row),
+        "layer_paths" => environments::put_paths(answer, row),
+        "build_env" => environments::make_build_env(answer, row),
+        "launch_env" => environments::make_launch_env(answer, row),
+        "platform" => environments::apply_platform(answer, row),
+        "base_env" => environments::begin(answer, row),
+        "set_path" => environments::put_path(answer, row),
+        "set_target" => environments::put_target(answer, row),
+        "buildpack_folder" => environments::places(answer, row),
+        call => answer.wrong("no such call:", call),
     }
 }
 

@@ -1,7 +1,7 @@
 // A spawner whose children wait for others, or take some time.
-use crate::fault::Fault;
-use crate::given::Given;
-use cnb_world::{DetectFault, DetectJob, MemSpawner, Probed, Spawner};
+use crate::given::{Given, number_or};
+use cnb_world::{DetectFault, DetectJob, List, MemSpawner, Probed, Reply, Spawner};
+use row_files::Answer;
 use std::alloc::Global;
 use std::sync::Arc;
 use std::sync::atomic::AtomicU64;
@@ -44,20 +44,45 @@ fn pass_time(count: &AtomicU64, turns: u64) {
     }
 }
 
+/// A count of the children that have begun, which spawners share.
+pub(crate) fn new_count(answer: &mut Answer) -> Option<Arc<AtomicU64, Global>> {
+    match Arc::new(answer.alloc, AtomicU64::new(0)) {
+        Ok(count) => Some(count),
+        Err(_) => {
+            answer.run_out();
+            None
+        }
+    }
+}
+
+fn shared(answer: &mut Answer, count: &Arc<AtomicU64, Global>) -> Option<Arc<AtomicU64, Global>> {
+    match Arc::try_clone(count) {
+        Ok(count) => Some(count),
+        Err(_) => {
+            answer.run_out();
+            None
+        }
+    }
+}
+
 impl<'a> Meeting<'a> {
-    /// A spawner of these children, which are held as the row says; all that share a count wait for one another.
+    /// A spawner whose children say what these replies say, and are held as the row says; all that share a count wait
+    /// for one another. Its calls of the numbers in `failing` fail.
     pub(crate) fn new(
+        answer: &mut Answer,
         given: &Given<'a>,
         begun: &Arc<AtomicU64, Global>,
         pause: u64,
-        children: MemSpawner,
-    ) -> Result<Meeting<'a>, Fault> {
-        Ok(Meeting {
+        replies: List<Reply>,
+        failing: List<u64>,
+    ) -> Option<Meeting<'a>> {
+        let children = answer.made(MemSpawner::new(answer.alloc, replies, failing))?;
+        Some(Meeting {
             clock: given.clock,
-            held: given.text_or_empty("held"),
-            least: given.number_or("least", 0)?,
-            patience: given.number_or("patience", PATIENCE)?,
-            begun: Arc::try_clone(begun)?,
+            held: given.row.text_or_empty("held"),
+            least: number_or(answer, given.row, "least", 0),
+            patience: number_or(answer, given.row, "patience", PATIENCE),
+            begun: shared(answer, begun)?,
             pause,
             children,
             faults: 0,

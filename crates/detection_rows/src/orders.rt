@@ -2,103 +2,142 @@
 ghost use Rattle.std.specs.Prelude.{IsOk};
 ghost use Rattle.order_expand.specs.Check.{checked};
 
-use crate::buildpacks::{catalog, descriptors, order, push_key};
-use crate::fault::Fault;
-use crate::given::Given;
+use crate::buildpacks::{catalog, descriptors, order, put_key};
 use bp_docs::Order;
-use order_expand::{Catalog, Member, Walk, check};
-use std::alloc::Global;
+use order_expand::{Catalog, CatalogFault, Group, Member, Walk, check};
+use row_files::{Answer, Row};
 
 /// Adds descriptors to a catalog, one after another.
-pub(crate) fn add_all(given: &Given) -> Result<String, Fault> {
-    let mut catalog = Catalog::new(given.alloc);
-    let mut told = String::new(given.alloc);
-    for descriptor in descriptors(given)? {
-        match catalog.add(descriptor) {
-            Ok(()) => writeln!(told, "added")?,
-            Err(fault) => writeln!(told, "{fault}")?,
-        }
+pub(crate) fn add_all(answer: &mut Answer, row: &Row) {
+    let mut catalog = Catalog::new(answer.alloc);
+    for descriptor in descriptors(answer, row) {
+        put_added(answer, &catalog.add(descriptor));
     }
-    Ok(told)
+}
+
+fn put_added(answer: &mut Answer, added: &Result<(), CatalogFault>) {
+    match added {
+        Ok(()) => answer.put("added"),
+        Err(fault) => answer.show(fault),
+    }
+    answer.put("\n");
 }
 
 /// The groups of an order over the row's descriptors.
-pub(crate) fn expand(given: &Given) -> Result<String, Fault> {
-    told_order(given, &catalog(given)?)
+pub(crate) fn expand(answer: &mut Answer, row: &Row) {
+    let catalog = catalog(answer, row);
+    put_order(answer, row, &catalog);
 }
 
-/// The row's order over a catalog: how many groups it stands for, with these where the call isn't `check`, or why it is
-/// refused.
-pub(crate) fn told_order(given: &Given, catalog: &Catalog) -> Result<String, Fault> {
-    let order = order(given)?;
-    match check(given.alloc, &order, catalog) {
-        Ok(number) if given.row.call.as_str() == "check" => {
-            Ok(format!(in given.alloc; "{number} groups")?)
-        }
-        Ok(_) if given.row.call.as_str() == "walk_digits" => digits(given.alloc, &order, catalog),
-        Ok(number) => listed(given.alloc, &order, catalog, number),
-        Err(fault) => Ok(format!(in given.alloc; "{fault}")?),
+/// Adds the row's order over a catalog: how many groups it stands for, with these where the call isn't `check`, or why
+/// it is refused.
+pub(crate) fn put_order(answer: &mut Answer, row: &Row, catalog: &Catalog) {
+    if let Some(order) = order(answer, row) {
+        put_checked(answer, row.call.as_str(), &order, catalog);
     }
 }
 
-fn listed(alloc: Global, order: &Order, catalog: &Catalog, number: u32) -> Result<String, Fault>
+fn put_checked(answer: &mut Answer, call: &str, order: &Order, catalog: &Catalog) {
+    match check(answer.alloc, order, catalog) {
+        Ok(number) if call == "check" => put_number(answer, number),
+        Ok(number) => put_walk(answer, call, order, catalog, number),
+        Err(fault) => answer.show(&fault),
+    }
+}
+
+fn put_number(answer: &mut Answer, number: u32) {
+    answer.show(&number);
+    answer.put(" groups");
+}
+
+fn put_walk(answer: &mut Answer, call: &str, order: &Order, catalog: &Catalog, number: u32)
     requires { IsOk (checked catalog.now order.now) }
 {
-    let mut walk = Walk::new(alloc, order, catalog)?;
-    let mut told = format!(in alloc; "{number} groups\n")?;
+    if let Some(mut walk) = answer.made(Walk::new(answer.alloc, order, catalog)) {
+        match call {
+            "walk_digits" => put_digits(answer, &mut walk),
+            _ => put_groups(answer, &mut walk, number),
+        }
+    }
+}
+
+fn next_group(answer: &mut Answer, walk: &mut Walk<'_>) -> Option<Group> {
+    answer.made(walk.next())?
+}
+
+fn put_groups(answer: &mut Answer, walk: &mut Walk<'_>, number: u32) {
+    put_number(answer, number);
+    answer.put("\n");
     for _ in 0..number {
-        match walk.next()? {
-            Some(group) => push_group(&mut told, group.as_slice())?,
-            None => told.push_str("none")?,
+        match next_group(answer, walk) {
+            Some(group) => put_group(answer, group.as_slice()),
+            None => answer.put("none"),
         }
-        told.push_str("\n")?;
+        answer.put("\n");
     }
-    if walk.next()?.is_some() {
-        told.push_str("and more")?;
+    if next_group(answer, walk).is_some() {
+        answer.put("and more");
     }
-    Ok(told)
 }
 
-/// The number of groups, where the members of each are the digits of its number to the base of 8: `c0-1` where the
-/// first of four digits is 1, and so on, and `tail` behind them.
-fn digits(alloc: Global, order: &Order, catalog: &Catalog) -> Result<String, Fault>
-    requires { IsOk (checked catalog.now order.now) }
-{
-    let mut walk = Walk::new(alloc, order, catalog)?;
+// Whether the groups are those of all digits to the base of 8, of four composites, with `tail` behind them.
+fn put_digits(answer: &mut Answer, walk: &mut Walk<'_>) {
     for number in 0..4096 {
-        let Some(group) = walk.next()? else {
-            return Ok(format!(in alloc; "{number} groups")?);
-        };
-        let mut told = String::new(alloc);
-        push_group(&mut told, group.as_slice())?;
-        if told.as_str() != digits_of(alloc, number)?.as_str() {
-            return Ok(format!(in alloc; "group {number} is {told}")?);
+        if !has_digits(answer, walk, number) {
+            return;
         }
     }
-    let end = if walk.next()?.is_some() {
-        "and more"
-    } else {
-        "in the order of their digits"
+    let end = match next_group(answer, walk) {
+        Some(_) => "and more",
+        None => "in the order of their digits",
     };
-    Ok(format!(in alloc; "4096 groups {end}")?)
+    answer.put_all(&["4096 groups ", end]);
 }
 
-fn digits_of(alloc: Global, number: u32) -> Result<String, Fault> {
-    let (first, second) = (number / 512 % 8, number / 64 % 8);
-    let (third, last) = (number / 8 % 8, number % 8);
-    Ok(format!(in alloc;
-        "c0-{first}@1.0.0 c1-{second}@1.0.0 c2-{third}@1.0.0 c3-{last}@1.0.0 tail@1.0.0"
-    )?)
-}
-
-// A group as `a@1.0.0 b@1.0.0?`, with `!` behind a buildpack that clears the environment.
-fn push_group(told: &mut String, group: &[Member]) -> Result<(), Fault> {
-    told.push_str(if group.is_empty() { "no member" } else { "" })?;
-    for (place, member) in group.iter().enumerate() {
-        told.push_str(if place == 0 { "" } else { " " })?;
-        push_key(told, &member.key)?;
-        told.push_str(if member.optional { "?" } else { "" })?;
-        told.push_str(if member.clear_env { "!" } else { "" })?;
+// Whether the next group has the digits of a number. Where it has not, there is added what it is.
+fn has_digits(answer: &mut Answer, walk: &mut Walk<'_>, number: u32) -> bool {
+    match next_group(answer, walk) {
+        Some(group) => is_of_digits(answer, group.as_slice(), number),
+        None => {
+            put_number(answer, number);
+            false
+        }
     }
-    Ok(())
+}
+
+fn is_of_digits(answer: &mut Answer, group: &[Member], number: u32) -> bool {
+    let (mut found, mut want) = (Answer::new(answer.alloc), Answer::new(answer.alloc));
+    put_group(&mut found, group);
+    put_digits_of(&mut want, number);
+    let (found, want) = (answer.taken(found), answer.taken(want));
+    if found != want {
+        answer.put("group ");
+        answer.show(&number);
+        answer.put_all(&[" is ", found.as_str()]);
+    }
+    found == want
+}
+
+fn put_digits_of(answer: &mut Answer, number: u32) {
+    put_digit(answer, "c0-", number / 512);
+    put_digit(answer, "@1.0.0 c1-", number / 64);
+    put_digit(answer, "@1.0.0 c2-", number / 8);
+    put_digit(answer, "@1.0.0 c3-", number);
+    answer.put("@1.0.0 tail@1.0.0");
+}
+
+fn put_digit(answer: &mut Answer, front: &str, number: u32) {
+    answer.put(front);
+    answer.show(&(number % 8));
+}
+
+// Adds a group as `a@1.0.0 b@1.0.0?`, with `!` behind a buildpack that clears the environment.
+fn put_group(answer: &mut Answer, group: &[Member]) {
+    answer.put(if group.is_empty() { "no member" } else { "" });
+    for (place, member) in group.iter().enumerate() {
+        answer.put(if place == 0 { "" } else { " " });
+        put_key(answer, &member.key);
+        answer.put(if member.optional { "?" } else { "" });
+        answer.put(if member.clear_env { "!" } else { "" });
+    }
 }

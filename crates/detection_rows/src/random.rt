@@ -1,9 +1,7 @@
 // Rows that a generator makes up: orders, and what children answer.
-use crate::fault::Fault;
 use rand_core::{Rng, SeedableRng};
 use rand_xoshiro::SplitMix64;
-use row_files::Row;
-use std::alloc::Global;
+use row_files::{Answer, Row};
 use std::collections::BTreeMap;
 
 const NAMES: [&str; 4] = ["p", "q", "r", "s"];
@@ -15,58 +13,30 @@ const ARCHITECTURES: [&str; 3] = ["", "amd64", "arm64"];
 /// What a row of `detect` is given: an order over composites and a few buildpacks, or in one of 128 rows two hundred;
 /// what each child answers, or that it gives no answer; and how much time children take. Where the row is targeted also
 /// an image that is built for, and targets of buildpacks.
-pub(crate) fn random_row(alloc: Global, seed: u64, targeted: bool) -> Result<Row, Fault> {
+pub(crate) fn random_row(answer: &mut Answer, seed: u64, targeted: bool) -> Row {
+    let mut name = Answer::new(answer.alloc);
+    name.put("random ");
+    name.show(&seed);
+    let mut row = Row {
+        name: answer.taken(name),
+        call: answer.joined(&["detect"]),
+        given: BTreeMap::new(answer.alloc),
+        want: String::new(answer.alloc),
+    };
     let mut maker = Maker::new(seed);
-    let mut given = random_given(alloc, &mut maker)?;
+    maker.give(answer, &mut row);
     if targeted {
-        insert_targets(alloc, &mut maker, &mut given)?;
+        maker.give_targets(answer, &mut row);
     }
-    Ok(Row {
-        name: format!(in alloc; "random {seed}")?,
-        call: text(alloc, "detect")?,
-        given,
-        want: String::new(alloc),
-    })
+    row
 }
 
-// What is drawn last: an image that is built for, or in one of four rows none, and targets of the buildpacks.
-fn insert_targets(
-    alloc: Global,
-    maker: &mut Maker,
-    given: &mut BTreeMap<String, String>,
-) -> Result<(), Fault> {
-    let mut target = String::new(alloc);
-    if !maker.is_one_in(4) {
-        let (os, arch) = (maker.system(1), maker.architecture(1));
-        write!(target, "{os}/{arch}")?;
+fn insert(answer: &mut Answer, row: &mut Row, name: &str, text: Answer) {
+    let name = answer.joined(&[name]);
+    let text = answer.taken(text);
+    if row.given.insert(name, text).is_err() {
+        answer.run_out();
     }
-    insert(alloc, given, "target", target)?;
-    insert(alloc, given, "targets", maker.targets(alloc)?)
-}
-
-fn random_given(alloc: Global, maker: &mut Maker) -> Result<BTreeMap<String, String>, Fault> {
-    let mut given = BTreeMap::new(alloc);
-    insert(alloc, &mut given, "order", maker.order(alloc)?)?;
-    insert(alloc, &mut given, "components", maker.components(alloc)?)?;
-    insert(alloc, &mut given, "descriptors", maker.descriptors(alloc)?)?;
-    insert(alloc, &mut given, "replies", maker.replies(alloc)?)?;
-    let pause = maker.below(4096);
-    insert(alloc, &mut given, "pause", format!(in alloc; "{pause}")?)?;
-    Ok(given)
-}
-
-fn insert(
-    alloc: Global,
-    given: &mut BTreeMap<String, String>,
-    name: &str,
-    value: String,
-) -> Result<(), Fault> {
-    given.insert(text(alloc, name)?, value)?;
-    Ok(())
-}
-
-fn text(alloc: Global, text: &str) -> Result<String, Fault> {
-    Ok(String::from_str(alloc, text)?)
 }
 
 // The generator, and how many buildpacks and composites there are. The buildpacks of numbers 2n and 2n + 1 are two
@@ -76,6 +46,15 @@ struct Maker {
     generator: SplitMix64,
     buildpacks: u64,
     composites: u64,
+}
+
+// Adds the id and the version of a buildpack, with this text between them.
+fn put_key(answer: &mut Answer, number: u64, between: &str) {
+    answer.put("b");
+    answer.show(&(number / 2));
+    answer.put(between);
+    answer.show(&(number % 2).saturating_add(1));
+    answer.put(".0.0");
 }
 
 impl Maker {
@@ -101,150 +80,166 @@ impl Maker {
         self.below(count) == 0
     }
 
-    fn order(&mut self, alloc: Global) -> Result<String, Fault> {
-        let mut text = String::new(alloc);
-        let all = self.buildpacks.saturating_add(self.composites);
-        self.push_groups(&mut text, all, self.buildpacks)?;
-        Ok(text)
+    // One of these words, from the one of a number on.
+    fn one_of(&mut self, words: &[&'static str], least: u64) -> &'static str {
+        let count = (words.len() as u64).saturating_sub(least);
+        let place = self.below(count).saturating_add(least) as usize;
+        words.get(place).unwrap_or(&"")
     }
 
-    fn components(&self, alloc: Global) -> Result<String, Fault> {
-        let mut text = String::new(alloc);
+    fn give(&mut self, answer: &mut Answer, row: &mut Row) {
+        let mut order = Answer::new(answer.alloc);
+        let all = self.buildpacks.saturating_add(self.composites);
+        self.put_groups(&mut order, all, self.buildpacks);
+        insert(answer, row, "order", order);
+        self.give_components(answer, row);
+        self.give_composites(answer, row);
+        self.give_replies(answer, row);
+        let mut pause = Answer::new(answer.alloc);
+        pause.show(&self.below(4096));
+        insert(answer, row, "pause", pause);
+    }
+
+    fn give_components(&self, answer: &mut Answer, row: &mut Row) {
+        let mut text = Answer::new(answer.alloc);
         for number in 0..self.buildpacks {
-            let (id, version) = key(number);
-            write!(text, "b{id}@{version}.0.0 ")?;
+            put_key(&mut text, number, "@");
+            text.put(" ");
         }
-        Ok(text)
+        insert(answer, row, "components", text);
     }
 
     // The composites, each with groups of at most three buildpacks.
-    fn descriptors(&mut self, alloc: Global) -> Result<String, Fault> {
-        let mut text = String::new(alloc);
+    fn give_composites(&mut self, answer: &mut Answer, row: &mut Row) {
+        let mut text = Answer::new(answer.alloc);
         for number in 0..self.composites {
-            write!(
-                text,
-                "api = \"0.10\"\nbuildpack = {{ id = \"o{number}\", version = \"1.0.0\" }}\n"
-            )?;
-            self.push_groups(&mut text, self.buildpacks, 3)?;
-            text.push_str("\n")?;
+            text.put("api = \"0.10\"\nbuildpack = { id = \"o");
+            text.show(&number);
+            text.put("\", version = \"1.0.0\" }\n");
+            self.put_groups(&mut text, self.buildpacks, 3);
+            text.put("\n");
         }
-        Ok(text)
+        insert(answer, row, "descriptors", text);
     }
 
     // One to three groups, each of one entry to so many, of so many buildpacks with the composites behind them.
-    fn push_groups(&mut self, text: &mut String, all: u64, most: u64) -> Result<(), Fault> {
-        text.push_str("order = [\n")?;
+    fn put_groups(&mut self, answer: &mut Answer, all: u64, most: u64) {
+        answer.put("order = [\n");
         for _ in 0..self.below(3).saturating_add(1) {
-            self.push_group(text, all, most)?;
+            answer.put("  { group = [");
+            for _ in 0..self.below(most).saturating_add(1) {
+                self.put_entry(answer, all);
+            }
+            answer.put("] },\n");
         }
-        text.push_str("]\n")?;
-        Ok(())
+        answer.put("]\n");
     }
 
-    fn push_group(&mut self, text: &mut String, all: u64, most: u64) -> Result<(), Fault> {
-        text.push_str("  { group = [")?;
-        for _ in 0..self.below(most).saturating_add(1) {
-            let (number, optional) = (self.below(all), !self.is_one_in(self.buildpacks));
-            let (id, version) = key(number);
-            match number.checked_sub(self.buildpacks) {
-                Some(id) => write!(text, "{{ id = \"o{id}\", optional = {optional} }}, ")?,
-                None => write!(
-                    text,
-                    "{{ id = \"b{id}\", version = \"{version}.0.0\", optional = {optional} }}, "
-                )?,
+    fn put_entry(&mut self, answer: &mut Answer, all: u64) {
+        let (number, optional) = (self.below(all), !self.is_one_in(self.buildpacks));
+        answer.put("{ id = \"");
+        match number.checked_sub(self.buildpacks) {
+            Some(composite) => {
+                answer.put("o");
+                answer.show(&composite);
             }
+            None => put_key(answer, number, "\", version = \""),
         }
-        text.push_str("] },\n")?;
-        Ok(())
+        answer.put("\", optional = ");
+        answer.show(&optional);
+        answer.put(" }, ");
+    }
+
+    fn give_replies(&mut self, answer: &mut Answer, row: &mut Row) {
+        let mut text = Answer::new(answer.alloc);
+        for number in 0..self.buildpacks {
+            self.put_reply(&mut text, number);
+        }
+        insert(answer, row, "replies", text);
     }
 
     // The more buildpacks there are, the fewer of them do not pass.
-    fn replies(&mut self, alloc: Global) -> Result<String, Fault> {
-        let mut text = String::new(alloc);
-        for number in 0..self.buildpacks {
-            let (id, version) = key(number);
-            let end = if self.is_one_in(self.buildpacks) {
-                self.below(8)
-            } else {
-                8
-            };
-            match end {
-                0 => {}
-                1 => write!(text, "> b{id} {version}.0.0 none\n")?,
-                2 => write!(text, "> b{id} {version}.0.0 1\n")?,
-                3 => write!(text, "> b{id} {version}.0.0 0\nno plan\n")?,
-                4..=7 => write!(text, "> b{id} {version}.0.0 100\n")?,
-                _ => {
-                    write!(text, "> b{id} {version}.0.0 0\n")?;
-                    self.push_plan(&mut text, number)?;
-                }
-            }
+    fn put_reply(&mut self, answer: &mut Answer, number: u64) {
+        let end = if self.is_one_in(self.buildpacks) {
+            self.below(8)
+        } else {
+            8
+        };
+        if end == 0 {
+            return;
         }
-        Ok(text)
+        answer.put("> ");
+        put_key(answer, number, " ");
+        answer.put(match end {
+            1 => " none\n",
+            2 => " 1\n",
+            3 => " 0\nno plan\n",
+            4..=7 => " 100\n",
+            _ => " 0\n",
+        });
+        if end == 8 {
+            self.put_plan(answer, number);
+        }
     }
 
-    fn push_plan(&mut self, text: &mut String, number: u64) -> Result<(), Fault> {
-        self.push_option(text, number)?;
+    fn put_plan(&mut self, answer: &mut Answer, number: u64) {
+        self.put_option(answer, number);
         for _ in 0..2 {
             if self.is_one_in(self.buildpacks) {
-                text.push_str("[[or]]\n")?;
-                self.push_option(text, number)?;
+                answer.put("[[or]]\n");
+                self.put_option(answer, number);
             }
         }
-        Ok(())
     }
 
     // At most a name that is provided, and at most one that is required.
-    fn push_option(&mut self, text: &mut String, number: u64) -> Result<(), Fault> {
+    fn put_option(&mut self, answer: &mut Answer, number: u64) {
         if self.is_one_in(2) {
-            let name = self.name();
-            writeln!(text, "provides = [{{ name = \"{name}\" }}]")?;
+            answer.put_all(&["provides = [{ name = \"", self.one_of(&NAMES, 0), "\" }]\n"]);
         }
         if self.is_one_in(2) {
-            let name = self.name();
-            writeln!(
-                text,
-                "requires = [{{ name = \"{name}\", metadata = {{ by = \"{number}\" }} }}]"
-            )?;
+            answer.put_all(&[
+                "requires = [{ name = \"",
+                self.one_of(&NAMES, 0),
+                "\", metadata = { by = \"",
+            ]);
+            answer.show(&number);
+            answer.put("\" } }]\n");
         }
-        Ok(())
+    }
+
+    // What is drawn last: an image that is built for, or in one of four rows none, and targets of the buildpacks.
+    fn give_targets(&mut self, answer: &mut Answer, row: &mut Row) {
+        let mut target = Answer::new(answer.alloc);
+        if !self.is_one_in(4) {
+            self.put_target(&mut target, 1);
+        }
+        insert(answer, row, "target", target);
+        let mut targets = Answer::new(answer.alloc);
+        for number in 0..self.buildpacks {
+            self.put_targets_of(&mut targets, number);
+        }
+        insert(answer, row, "targets", targets);
     }
 
     // The more buildpacks there are, the fewer of them have targets, which are one or two then.
-    fn targets(&mut self, alloc: Global) -> Result<String, Fault> {
-        let mut text = String::new(alloc);
-        for number in 0..self.buildpacks {
-            if self.is_one_in(self.buildpacks / 4) {
-                let (id, version) = key(number);
-                write!(text, "b{id}@{version}.0.0")?;
-                for _ in 0..self.below(2).saturating_add(1) {
-                    let (os, arch) = (self.system(0), self.architecture(0));
-                    write!(text, " {os}/{arch}")?;
-                }
-                text.push_str("\n")?;
+    fn put_targets_of(&mut self, answer: &mut Answer, number: u64) {
+        if self.is_one_in(self.buildpacks / 4) {
+            put_key(answer, number, "@");
+            for _ in 0..self.below(2).saturating_add(1) {
+                answer.put(" ");
+                self.put_target(answer, 0);
             }
+            answer.put("\n");
         }
-        Ok(text)
     }
 
-    // The name of an operating system, or where the least is 0 also none.
-    fn system(&mut self, least: u64) -> &'static str {
-        let place = self.below(3u64.saturating_sub(least)).saturating_add(least) as usize;
-        SYSTEMS.get(place).unwrap_or(&"")
+    // Adds an operating system and an architecture, each of which may be none where the least is 0.
+    fn put_target(&mut self, answer: &mut Answer, least: u64) {
+        let (system, architecture) = (
+            self.one_of(&SYSTEMS, least),
+            self.one_of(&ARCHITECTURES, least),
+        );
+        answer.put_all(&[system, "/", architecture]);
     }
-
-    fn architecture(&mut self, least: u64) -> &'static str {
-        let place = self.below(3u64.saturating_sub(least)).saturating_add(least) as usize;
-        ARCHITECTURES.get(place).unwrap_or(&"")
-    }
-
-    fn name(&mut self) -> &'static str {
-        let place = self.below(4) as usize;
-        NAMES.get(place).unwrap_or(&"p")
-    }
-}
-
-// The number of an id and that of its version.
-fn key(number: u64) -> (u64, u64) {
-    (number / 2, (number % 2).saturating_add(1))
 }

@@ -19,34 +19,34 @@ next old new round event at jobs workers is = (jobs ∙ at.0, workers ∙ at.1, 
 
 pub step-first-requires : goal.step-first-requires
 step-first-requires c =
-    let at : At c.in_ok-core.core start = (c.in_ok-core.ensures.jobs, c.in_ok-core.ensures.workers, c.in_ok-core.ensures.round) in
-    lawful c.in_ok-core.core start (Draw 1) at (omega arith, refl)
+    let at : At c.in-Ok.core start = (c.in-Ok.ensures.jobs, c.in-Ok.ensures.workers, c.in-Ok.ensures.round) in
+    lawful c.in-Ok.core start (Draw 1) at (omega arith, refl)
 
 pub step-second-requires : goal.step-second-requires
 step-second-requires c =
-    let at : At c.in_ok-core.core start = (c.in_ok-core.ensures.jobs, c.in_ok-core.ensures.workers, c.in_ok-core.ensures.round) in
-    let at-1 = next c.in_ok-core.core c.step-first.new.self start (Draw 1) at c.step-first.ensures.jobs c.step-first.ensures.workers c.step-first.ensures.round in
+    let at : At c.in-Ok.core start = (c.in-Ok.ensures.jobs, c.in-Ok.ensures.workers, c.in-Ok.ensures.round) in
+    let at-1 = next c.in-Ok.core c.step-first.new.self start (Draw 1) at c.step-first.ensures.jobs c.step-first.ensures.workers c.step-first.ensures.round in
     lawful c.step-first.new.self _ (Draw 0) at-1 (omega arith, refl)
 
 pub step-one-requires : goal.step-one-requires
 step-one-requires c =
-    let at : At c.in_ok-core.core start = (c.in_ok-core.ensures.jobs, c.in_ok-core.ensures.workers, c.in_ok-core.ensures.round) in
-    let at-1 = next c.in_ok-core.core c.step-first.new.self start (Draw 1) at c.step-first.ensures.jobs c.step-first.ensures.workers c.step-first.ensures.round in
+    let at : At c.in-Ok.core start = (c.in-Ok.ensures.jobs, c.in-Ok.ensures.workers, c.in-Ok.ensures.round) in
+    let at-1 = next c.in-Ok.core c.step-first.new.self start (Draw 1) at c.step-first.ensures.jobs c.step-first.ensures.workers c.step-first.ensures.round in
     let at-2 = next c.step-first.new.self c.step-second.new.self _ (Draw 0) at-1 c.step-second.ensures.jobs c.step-second.ensures.workers c.step-second.ensures.round in
     lawful c.step-second.new.self _ (End 0 c.ended.result) at-2 (1, refl)
 
 pub step-other-requires : goal.step-other-requires
 step-other-requires c =
-    let at : At c.in_ok-core.core start = (c.in_ok-core.ensures.jobs, c.in_ok-core.ensures.workers, c.in_ok-core.ensures.round) in
-    let at-1 = next c.in_ok-core.core c.step-first.new.self start (Draw 1) at c.step-first.ensures.jobs c.step-first.ensures.workers c.step-first.ensures.round in
+    let at : At c.in-Ok.core start = (c.in-Ok.ensures.jobs, c.in-Ok.ensures.workers, c.in-Ok.ensures.round) in
+    let at-1 = next c.in-Ok.core c.step-first.new.self start (Draw 1) at c.step-first.ensures.jobs c.step-first.ensures.workers c.step-first.ensures.round in
     let at-2 = next c.step-first.new.self c.step-second.new.self _ (Draw 0) at-1 c.step-second.ensures.jobs c.step-second.ensures.workers c.step-second.ensures.round in
     let at-3 = next c.step-second.new.self c.step-one.new.self _ (End 0 c.ended.result) at-2 c.step-one.ensures.jobs c.step-one.ensures.workers c.step-one.ensures.round in
     lawful c.step-one.new.self _ (End 1 c.ended-2.result) at-3 (0, refl)
 
 pub step-late-requires : goal.step-late-requires
 step-late-requires c =
-    let at : At c.in_ok-core.core start = (c.in_ok-core.ensures.jobs, c.in_ok-core.ensures.workers, c.in_ok-core.ensures.round) in
-    let at-1 = next c.in_ok-core.core c.step-first.new.self start (Draw 1) at c.step-first.ensures.jobs c.step-first.ensures.workers c.step-first.ensures.round in
+    let at : At c.in-Ok.core start = (c.in-Ok.ensures.jobs, c.in-Ok.ensures.workers, c.in-Ok.ensures.round) in
+    let at-1 = next c.in-Ok.core c.step-first.new.self start (Draw 1) at c.step-first.ensures.jobs c.step-first.ensures.workers c.step-first.ensures.round in
     let at-2 = next c.step-first.new.self c.step-second.new.self _ (Draw 0) at-1 c.step-second.ensures.jobs c.step-second.ensures.workers c.step-second.ensures.round in
     let at-3 = next c.step-second.new.self c.step-one.new.self _ (End 0 c.ended.result) at-2 c.step-one.ensures.jobs c.step-one.ensures.workers c.step-one.ensures.round in
     let at-4 = next c.step-one.new.self c.step-other.new.self _ (End 1 c.ended-2.result) at-3 c.step-other.ensures.jobs c.step-other.ensures.workers c.step-other.ensures.round in
