@@ -4,9 +4,10 @@ ghost use Rattle.cnb_words.specs.Words.{AsksWithinLimits, caches_asked};
 ghost use Rattle.cnb_main.specs.Folders.{caches_by};
 
 use cnb_progress::Phases;
-use cnb_words::{Asked, WordsFault, read_words};
+use cnb_words::{Asked, CreateWords, WordsFault, read_words};
 use cnb_world::{List, Memory, Path, PathFault};
 use std::alloc::Global;
+use std::mem::drop;
 
 /// The folders of the caches, in the order of the words; those that one process at a time writes below, and of these the
 /// ones of which that holds before anything is read; and those by which the phases of the command are told apart.
@@ -28,42 +29,57 @@ fn push_copies(alloc: Global, copies: &mut List<Path>, folders: &[Path]) -> Resu
 }
 
 // The work folder, the layers folder and the store, where the command may write below them.
-fn guarded_by(alloc: Global, asked: &Asked) -> Result<List<Path>, Memory> {
-    let mut folders = List::new(alloc);
+fn guarded_by(asked: &Asked) -> [Option<&Path>; 3] {
     match asked {
-        Asked::Detect(options) => folders.push(options.choice.work.copy(alloc)?)?,
-        Asked::Analyze(options) => folders.push(options.work.copy(alloc)?)?,
-        Asked::Restore(options) => folders.push(options.layers.copy(alloc)?)?,
-        Asked::Build(options) => {
-            folders.push(options.work.copy(alloc)?)?;
-            folders.push(options.layers.copy(alloc)?)?;
-        }
-        Asked::Create(options) => {
-            folders.push(options.detect.work.copy(alloc)?)?;
-            folders.push(options.layers.copy(alloc)?)?;
-            folders.push(options.store.copy(alloc)?)?;
-        }
-        Asked::Export(options) => folders.push(options.store.copy(alloc)?)?,
-        Asked::Rebase(options) => folders.push(options.store.copy(alloc)?)?,
-        Asked::Base(options) => folders.push(options.store.copy(alloc)?)?,
-        Asked::Prune(options) => folders.push(options.store.copy(alloc)?)?,
+        Asked::Detect(options) => [Some(&options.choice.work), None, None],
+        Asked::Analyze(options) => [Some(&options.work), None, None],
+        Asked::Restore(options) => [None, Some(&options.layers), None],
+        Asked::Build(options) => [Some(&options.work), Some(&options.layers), None],
+        Asked::Create(options) => [
+            Some(&options.detect.work),
+            Some(&options.layers),
+            Some(&options.store),
+        ],
+        Asked::Export(options) => [None, None, Some(&options.store)],
+        Asked::Rebase(options) => [None, None, Some(&options.store)],
+        Asked::Base(options) => [None, None, Some(&options.store)],
+        Asked::Prune(options) => [None, None, Some(&options.store)],
         Asked::Unpack(_)
         | Asked::Show(_)
         | Asked::Verify(_)
         | Asked::Check(_)
         | Asked::Drill(_)
-        | Asked::Launch(_) => {}
+        | Asked::Launch(_) => [None, None, None],
     }
-    Ok(folders)
 }
 
 // The store, where what is removed is decided by what was read.
-fn held_by(alloc: Global, asked: &Asked) -> Result<List<Path>, Memory> {
-    let mut folders = List::new(alloc);
-    if let Asked::Prune(options) = asked {
-        folders.push(options.store.copy(alloc)?)?;
+fn held_by(asked: &Asked) -> [Option<&Path>; 1] {
+    match asked {
+        Asked::Prune(options) => [Some(&options.store)],
+        _ => [None],
     }
-    Ok(folders)
+}
+
+fn copies(alloc: Global, folders: &[Option<&Path>]) -> Result<List<Path>, Memory> {
+    let mut copies = List::new(alloc);
+    match push_some(alloc, &mut copies, folders) {
+        Ok(()) => Ok(copies),
+        Err(Memory) => Err(Memory),
+    }
+}
+
+fn push_some(
+    alloc: Global,
+    copies: &mut List<Path>,
+    folders: &[Option<&Path>],
+) -> Result<(), Memory> {
+    for folder in folders {
+        if let Some(folder) = folder {
+            copies.push(folder.copy(alloc)?)?;
+        }
+    }
+    Ok(())
 }
 
 fn trees_of(alloc: Global, store: &Path) -> Result<Path, Memory> {
@@ -78,14 +94,22 @@ fn trees_of(alloc: Global, store: &Path) -> Result<Path, Memory> {
 // The phases of `create`. Other commands have one.
 fn phases_of(alloc: Global, asked: &Asked) -> Result<Phases, Memory> {
     let mut phases = Phases::none(alloc);
-    if let Asked::Create(options) = asked {
-        phases.push("ANALYZING", Some(options.store.copy(alloc)?))?;
-        phases.push("DETECTING", Some(options.detect.order.copy(alloc)?))?;
-        phases.push("RESTORING", Some(options.layers.copy(alloc)?))?;
-        phases.push("BUILDING", None)?;
-        phases.push("EXPORTING", Some(trees_of(alloc, &options.store)?))?;
+    let pushed = match asked {
+        Asked::Create(options) => push_phases(alloc, &mut phases, options),
+        _ => Ok(()),
+    };
+    match pushed {
+        Ok(()) => Ok(phases),
+        Err(Memory) => Err(Memory),
     }
-    Ok(phases)
+}
+
+fn push_phases(alloc: Global, phases: &mut Phases, options: &CreateWords) -> Result<(), Memory> {
+    phases.push("ANALYZING", Some(options.store.copy(alloc)?))?;
+    phases.push("DETECTING", Some(options.detect.order.copy(alloc)?))?;
+    phases.push("RESTORING", Some(options.layers.copy(alloc)?))?;
+    phases.push("BUILDING", None)?;
+    phases.push("EXPORTING", Some(trees_of(alloc, &options.store)?))
 }
 
 // The folders of what is asked for.
@@ -94,8 +118,8 @@ fn folders_of(alloc: Global, asked: &Asked) -> Result<Folders, Memory>
     ensures caches { IfOk result (λ folders. folders.caches ≡ caches_asked asked.now) }
     ensures few { IfOk result (λ folders. length folders.caches < 2 ^ 32) }
 {
-    let guarded = guarded_by(alloc, asked)?;
-    let held = held_by(alloc, asked)?;
+    let guarded = copies(alloc, &guarded_by(asked))?;
+    let held = copies(alloc, &held_by(asked))?;
     let phases = phases_of(alloc, asked)?;
     let mut caches = List::new(alloc);
     push_copies(alloc, &mut caches, asked.caches())?;
@@ -113,7 +137,11 @@ pub(crate) fn folders_in(alloc: Global, words: &[String]) -> Result<Folders, Mem
     ensures few { IfOk result (λ folders. length folders.caches < 2 ^ 32) }
 {
     match read_words(alloc, words) {
-        Ok(asked) => folders_of(alloc, &asked),
+        Ok(asked) => {
+            let folders = folders_of(alloc, &asked);
+            drop(asked);
+            folders
+        }
         Err(WordsFault::Memory) => Err(Memory),
         Err(_) => Ok(Folders {
             caches: List::new(alloc),
