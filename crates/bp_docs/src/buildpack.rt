@@ -4,11 +4,11 @@ ghost use Rattle.toml.specs.View.{table_view};
 ghost use Rattle.cnb_toml.specs.Reading.{Answers};
 ghost use Rattle.bp_docs.specs.Descriptor.{head_in, body_of, known_in, foreign_in, described_by, descriptor_at, descriptor_in};
 
-use crate::descriptor::{Body, Descriptor, Head, Order, TargetRule};
+use crate::descriptor::{Body, Descriptor, Head, Order};
 use crate::order::order_at;
-use crate::targets::targets_at;
+use crate::targets::{Targets, targets_at};
 use cnb_toml::{Doc, DocFault, Key, TableForm, TableOf, is_served, required_at, truth_at};
-use cnb_world::{List, Text};
+use cnb_world::Text;
 use std::alloc::Global;
 use toml::Table;
 
@@ -24,7 +24,7 @@ impl TableForm for Head {
     }
 }
 
-fn body(clear_env: bool, targets: List<TargetRule>, order: Order) -> Body
+fn body(clear_env: bool, targets: Targets, order: Order) -> Body
     ensures { result ≡ body_of clear_env targets order }
 {
     if order.as_slice().is_empty() {

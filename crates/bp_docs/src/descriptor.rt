@@ -1,4 +1,5 @@
 // Buildpack descriptors and orders.
+use crate::targets::Targets;
 use cnb_toml::{BpId, BpVersion, Key};
 use cnb_world::{List, Text};
 
@@ -25,10 +26,7 @@ pub struct TargetRule {
 /// nothing else is known.
 #[derive(Drop)]
 pub enum Body {
-    Component {
-        clear_env: bool,
-        targets: List<TargetRule>,
-    },
+    Component { clear_env: bool, targets: Targets },
     Composite(Order),
     Foreign(Text),
 }

@@ -11,4 +11,4 @@ pub use build_plan::{PlanOption, read_build_plan};
 pub use buildpack::read_buildpack;
 pub use descriptor::{Body, Descriptor, Entry, Order, TargetRule};
 pub use order::read_order;
-pub use targets::{copy_rules, fits};
+pub use targets::{Targets, fits};

@@ -10,6 +10,8 @@ use crate::descriptor::TargetRule;
 use cnb_toml::{DocFault, Form, TableForm, TableOf, Target, list_at, value_or};
 use cnb_world::{List, Memory, Text};
 use std::alloc::Global;
+use std::marker::Model;
+use std::sync::Arc;
 use toml::{Table, Value};
 
 fn text_or_none(alloc: Global, text: &str) -> Result<Option<Text>, DocFault>
@@ -50,45 +52,56 @@ impl TableForm for TargetRule {
     }
 }
 
+/// The targets of a component. All members of groups that are the same component share them.
+#[derive(Drop)]
+pub struct Targets {
+    rules: Arc<List<TargetRule>, Global>,
+}
+
+impl Model for Targets {
+    ghost use Rattle.std.specs.Prelude.{List};
+    ghost use Rattle.std.specs.Arc.{arc_value};
+    ghost use Rattle.bp_docs.specs.declared.descriptor.TargetRule.{TargetRule};
+
+    ghost Value = { List TargetRule };
+
+    ghost view = { λ targets. arc_value targets.rules };
+}
+
+impl Targets {
+    pub fn new(alloc: Global, rules: List<TargetRule>) -> Result<Targets, Memory>
+        ensures { IfOk result (λ targets. targets ≡ rules) }
+    {
+        match Arc::new(alloc, rules) {
+            Ok(rules) => Ok(Targets { rules }),
+            Err(_) => Err(Memory),
+        }
+    }
+
+    /// The same targets once more. It copies none of them.
+    pub fn share(&self) -> Result<Targets, Memory>
+        ensures { IfOk result (λ targets. targets ≡ self.now) }
+    {
+        match Arc::try_clone(&self.rules) {
+            Ok(rules) => Ok(Targets { rules }),
+            Err(_) => Err(Memory),
+        }
+    }
+
+    pub fn as_slice(&self) -> &[TargetRule]
+        ensures { result.now ≡ self.now }
+    {
+        self.rules.as_slice()
+    }
+}
+
 /// The targets of a table.
-pub(crate) fn targets_at(alloc: Global, table: &Table) -> Result<List<TargetRule>, DocFault>
+pub(crate) fn targets_at(alloc: Global, table: &Table) -> Result<Targets, DocFault>
     ensures { Answers result (targets_at (table_view table.now)) }
 {
-    list_at::<TableOf<TargetRule>>(alloc, table, "targets")
-}
-
-fn copy_text(alloc: Global, text: &Option<Text>) -> Result<Option<Text>, Memory>
-    ensures { IfOk result (λ copy. copy ≡ text.now) }
-{
-    match text {
-        Some(text) => Ok(Some(text.copy(alloc)?)),
-        None => Ok(None),
-    }
-}
-
-fn copy_rule(alloc: Global, rule: &TargetRule) -> Result<TargetRule, Memory>
-    ensures { IfOk result (λ copy. copy ≡ rule.now) }
-{
-    let os = copy_text(alloc, &rule.os)?;
-    let arch = copy_text(alloc, &rule.arch)?;
-    Ok(TargetRule { os, arch })
-}
-
-fn copy_each(alloc: Global, rules: &[TargetRule]) -> Result<List<TargetRule>, Memory>
-    ensures { IfOk result (λ copies. copies ≡ rules.now) }
-{
-    let mut copies = List::new(alloc);
-    for rule in rules {
-        copies.push(copy_rule(alloc, rule)?)?;
-    }
-    Ok(copies)
-}
-
-/// Copies the targets of a component.
-pub fn copy_rules(alloc: Global, rules: &List<TargetRule>) -> Result<List<TargetRule>, Memory>
-    ensures { IfOk result (λ copies. copies ≡ rules.now) }
-{
-    copy_each(alloc, rules.as_slice())
+    let rules = list_at::<TableOf<TargetRule>>(alloc, table, "targets")?;
+    let targets = Targets::new(alloc, rules)?;
+    Ok(targets)
 }
 
 // Whether a text is the one that is wanted, where one is.
@@ -122,11 +135,11 @@ fn fits_target(rules: &[TargetRule], target: &Target) -> bool
 /// Whether a component with these targets is for an image (buildpack.md, "buildpack.toml (TOML)", `targets`): it has no
 /// targets, or one of them has its operating system and its architecture, byte by byte. Where no image is known, every
 /// component is.
-pub fn fits(rules: &List<TargetRule>, target: Option<&Target>) -> bool
-    ensures { result ≡ fits rules.now (option_copied target.entry) }
+pub fn fits(targets: &Targets, target: Option<&Target>) -> bool
+    ensures { result ≡ fits targets.now (option_copied target.entry) }
 {
     match target {
-        Some(target) => fits_target(rules.as_slice(), target),
+        Some(target) => fits_target(targets.as_slice(), target),
         None => true,
     }
 }

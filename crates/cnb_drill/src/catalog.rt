@@ -6,22 +6,23 @@ ghost use Rattle.cnb_drill.specs.Order.{columns_below, drill_catalog};
 
 use crate::keys::{component_key, composite_key, tail_key};
 use crate::order::entry;
-use bp_docs::{Body, Descriptor, Entry, Order};
+use bp_docs::{Body, Descriptor, Entry, Order, Targets};
 use cnb_toml::Key;
 use cnb_world::{List, Memory};
 use order_expand::{Catalog, CatalogFault};
 use std::alloc::Global;
 
-fn component(alloc: Global, key: Key) -> Descriptor
-    ensures { result ≡ component key }
+fn component(alloc: Global, key: Key) -> Result<Descriptor, Memory>
+    ensures { IfOk result (λ descriptor. descriptor ≡ component key) }
 {
-    Descriptor {
+    let targets = Targets::new(alloc, List::new(alloc))?;
+    Ok(Descriptor {
         key,
         body: Body::Component {
             clear_env: false,
-            targets: List::new(alloc),
+            targets,
         },
-    }
+    })
 }
 
 /// The group of a digit: that digit's component alone.
@@ -70,7 +71,8 @@ fn add_component(alloc: Global, catalog: &mut Catalog, key: Key) -> Result<(), M
     requires { has_key catalog.old key ≡ false }
     ensures { OnOk result (catalog.new ≡ catalog.old ++ component key ∷ []) }
 {
-    add(catalog, component(alloc, key))
+    let descriptor = component(alloc, key)?;
+    add(catalog, descriptor)
 }
 
 /// Adds a column behind those before it.

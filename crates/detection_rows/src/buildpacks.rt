@@ -1,7 +1,8 @@
 // Buildpacks, orders and groups of buildpacks as rows write them.
 use crate::given::{expanded, refuse};
 use bp_docs::{
-    Body, Descriptor, Order, PlanOption, TargetRule, read_build_plan, read_buildpack, read_order,
+    Body, Descriptor, Order, PlanOption, TargetRule, Targets, read_build_plan, read_buildpack,
+    read_order,
 };
 use cnb_toml::{BpId, BpVersion, DocFault, Key, Target};
 use cnb_world::{List, Text};
@@ -54,11 +55,13 @@ pub(crate) fn options(answer: &mut Answer, text: &str) -> Option<List<PlanOption
 }
 
 fn push_component(answer: &mut Answer, row: &Row, descriptors: &mut List<Descriptor>, name: &str) {
-    let body = Body::Component {
-        clear_env: false,
-        targets: rules(answer, row, name),
-    };
-    if let Some(key) = key(answer, name) {
+    let rules = rules(answer, row, name);
+    let targets = answer.made(Targets::new(answer.alloc, rules));
+    if let (Some(key), Some(targets)) = (key(answer, name), targets) {
+        let body = Body::Component {
+            clear_env: false,
+            targets,
+        };
         answer.done(descriptors.push(Descriptor { key, body }));
     }
 }

@@ -5,7 +5,7 @@ ghost use Rattle.order_expand.specs.Check.{checked};
 use crate::draws::Draws;
 use crate::plain_groups::{MOST, PlainEntry, PlainGroup, PlainOrder, groups_of, put_groups};
 use crate::texts::{Sums, is_wanted, key, put_number};
-use bp_docs::{Body, Descriptor, Entry, Order, TargetRule};
+use bp_docs::{Body, Descriptor, Entry, Order, TargetRule, Targets};
 use cnb_toml::Key;
 use cnb_world::{List, Text};
 use order_expand::{Catalog, Group, Member, Walk, check};
@@ -147,10 +147,11 @@ fn drawn_groups(answer: &mut Answer, draws: &mut Draws, all: u64, most: u64) -> 
 fn catalog_of(answer: &mut Answer, order: &PlainOrder) -> Catalog {
     let mut catalog = Catalog::new(answer.alloc);
     for number in 0..order.buildpacks {
-        let targets = rules_of(answer, number);
-        let clear_env = number % 3 == 0;
-        let body = Body::Component { clear_env, targets };
-        add_body(answer, &mut catalog, order, number, body);
+        if let Some(targets) = targets_of(answer, number) {
+            let clear_env = number % 3 == 0;
+            let body = Body::Component { clear_env, targets };
+            add_body(answer, &mut catalog, order, number, body);
+        }
     }
     for (place, groups) in order.composites.as_slice().iter().enumerate() {
         let body = Body::Composite(order_of(answer, order.buildpacks, groups));
@@ -183,7 +184,7 @@ fn key_of(answer: &mut Answer, buildpacks: u64, number: u64) -> Option<Key> {
 }
 
 // The targets of a buildpack, each of an operating system alone.
-fn rules_of(answer: &mut Answer, number: u64) -> List<TargetRule> {
+fn targets_of(answer: &mut Answer, number: u64) -> Option<Targets> {
     let mut rules = List::new(answer.alloc);
     for place in 0..number % 4 {
         let mut os = Answer::new(answer.alloc);
@@ -192,7 +193,7 @@ fn rules_of(answer: &mut Answer, number: u64) -> List<TargetRule> {
         let os = Some(Text::from_string(answer.taken(os)));
         answer.done(rules.push(TargetRule { os, arch: None }));
     }
-    rules
+    answer.made(Targets::new(answer.alloc, rules))
 }
 
 fn order_of(answer: &mut Answer, buildpacks: u64, groups: &List<PlainGroup>) -> Order {

@@ -149,7 +149,7 @@ impl Catalog {
             .any(|descriptor| may_mean(entry, descriptor))
     }
 
-    /// The place of the descriptor that an entry names.
+    /// The place of the descriptor that an entry names: the only one that it may mean. Several are none.
     fn place(&self, entry: &Entry) -> Option<usize>
         ensures { result ≡ place_of self.now entry.now }
     {

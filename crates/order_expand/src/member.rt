@@ -1,5 +1,5 @@
 // Listed groups.
-use bp_docs::TargetRule;
+use bp_docs::Targets;
 use cnb_toml::Key;
 use cnb_world::List;
 
@@ -9,7 +9,7 @@ pub struct Member {
     pub key: Key,
     pub optional: bool,
     pub clear_env: bool,
-    pub targets: List<TargetRule>,
+    pub targets: Targets,
 }
 
 /// A listed group: components alone, in order.

@@ -11,7 +11,7 @@ use crate::catalog::Catalog;
 use crate::fingerprints::fingerprint_of;
 use crate::member::{Group, Member};
 use crate::table::at;
-use bp_docs::{Body, Order, TargetRule, copy_rules};
+use bp_docs::{Body, Order, Targets};
 use cnb_world::{List, Memory};
 use std::alloc::Global;
 use std::marker::Model;
@@ -49,12 +49,12 @@ fn clears_env(body: &Body) -> bool
     }
 }
 
-fn copy_targets(alloc: Global, body: &Body) -> Result<List<TargetRule>, Memory>
+fn share_targets(alloc: Global, body: &Body) -> Result<Targets, Memory>
     ensures { IfOk result (λ targets. targets ≡ targets_of body.now) }
 {
     match body {
-        Body::Component { targets, .. } => copy_rules(alloc, targets),
-        _ => Ok(List::new(alloc)),
+        Body::Component { targets, .. } => targets.share(),
+        _ => Targets::new(alloc, List::new(alloc)),
     }
 }
 
@@ -63,7 +63,7 @@ fn member(alloc: Global, chosen: &MemberComponent) -> Result<Member, Memory>
 {
     let descriptor = chosen.descriptor;
     let key = descriptor.key.copy(alloc)?;
-    let targets = copy_targets(alloc, &descriptor.body)?;
+    let targets = share_targets(alloc, &descriptor.body)?;
     Ok(Member {
         key,
         optional: chosen.optional,
