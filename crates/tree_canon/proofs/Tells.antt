@@ -12,17 +12,17 @@ use Rattle.tree_canon.specs.declared.next_field.ScannedFolder.{ScannedFolder}
 use Rattle.tree_canon.specs.declared.next_field.NextField.{NextField}
 use Rattle.tree_canon.specs.declared.next_field.NextField.TheVariants as field
 use Rattle.tree_canon.specs.declared.scanner.Scanner.{Scanner}
-use Rattle.tree_canon.specs.CutTree.{Magic}
+use Rattle.tree_canon.specs.CutTree.{Magic, width}
 use Rattle.tree_canon.specs.Reading.{State, Stuck, Going, cut_at, after, IsBytes, SpellsUpTo, run}
 use Rattle.tree_canon.specs.Scanning.{next_field, bytes_taken, field_width, closes_behind, kept_width, IsContents, scanned_folder, Place, place, behind, behind_node}
 use Rattle.tree_canon.specs.Events.{Told, Content, Closed, told, events_before, closed}
 use Rattle.tree_canon.specs.Fields.{event_by}
-use Rattle.tree_canon.specs.Telling.{HasTold}
+use Rattle.tree_canon.specs.Telling.{HasTold, FaultFollows}
 use Rattle.tree_canon.proofs.Total.{Holds, run_holds, start_holds}
 use Rattle.tree_canon.proofs.Reach.{run-append}
 use Rattle.tree_canon.proofs.CutMoves.{part_kept, stuck_stays}
 use Rattle.tree_canon.proofs.CutEvents.{field_tells, part_tells, part_silent}
-use Rattle.tree_canon.proofs.Scans.{HasTaken, HasMoved, part_reached, field_runs, field_reached}
+use Rattle.tree_canon.proofs.Scans.{HasTaken, HasMoved, part_reached, field_runs, field_reached, taken_same, width_same}
 use Rattle.tree_canon.proofs.Takes.{StandsBefore}
 
 -- ---- the event of a field
@@ -214,6 +214,25 @@ pub stuck_more : (state : State) (used share : ℕ) (input front : List ℕ) (at
 stuck_more state used share input front at reason is stuck =
     ap (run state) (sym (take-append-drop (used + share) input)) ∙ run-append state (take (used + share) input) (drop (used + share) input)
     ∙ ap (λ s. run s (drop (used + share) input)) (sym (taken_more state used share input front is) ∙ stuck) ∙ stuck_stays at reason (drop (used + share) input)
+
+-- a field that breaks a rule behind bytes of which all is told
+pub fault_follows : (s : Scanner) (seen : List ℕ) (given : List Told) (used share : ℕ) (input front : List ℕ) (at : ℕ) (reason : Reason) → front ≡ take share (drop used input) → s.owed ≡ 0
+    → (h : HasTold s (seen ++ take used input) given) → bytes_taken s.next s.part.items + share ≤ field_width s.next
+    → run (Going h.count h.cut h.part) front ≡ Stuck at reason → FaultFollows seen given input at reason
+fault_follows s seen given used share input front at reason is none h fits stuck =
+    let taken : bytes_taken s.next s.part.items ≡ length h.part = (λ i. bytes_taken (h.reached.next i) (h.reached.part i)) ∙ taken_same h.cut.hole h.part in
+    let wide : field_width s.next ≡ width h.cut.hole = ap field_width h.reached.next ∙ width_same h.cut.hole (length h.part) in
+    record {
+      used = used;
+      share = share;
+      count = h.count;
+      cut = h.cut;
+      part = h.part;
+      reads = h.reads;
+      is = given_all given s.owed (events_before h.cut h.part) none h.is;
+      field = omega (arith, taken, wide, fits);
+      breaks = ap (run (Going h.count h.cut h.part)) (sym is) ∙ stuck;
+    }
 
 -- what was told of the bytes before, and of the next ones
 pub told_more : (mid new : Scanner) (e : Event) (used share : ℕ) (input front seen : List ℕ) (given : List Told) → front ≡ take share (drop used input) → HasTold mid (seen ++ take used input) given

@@ -1,7 +1,10 @@
 // Whether bytes that come in pieces spell a tree.
-ghost use Rattle.std.specs.Prelude.{◌≡◌, ◌<◌, ◌≤◌, ◌++◌, ℕ, List as Seq, [], length, take, Ok, IfOk, OnOk};
+ghost use Rattle.std.specs.Prelude.{◌≡◌, ◌<◌, ◌≤◌, ◌++◌, ℕ, List as Seq, [], length, take, Ok, Err, IfOk, OnOk};
 ghost use Rattle.tree_canon.specs.declared.event.Event.TheVariants as events;
+ghost use Rattle.tree_canon.specs.declared.fault.Reason.{Reason};
+ghost use Rattle.tree_canon.specs.declared.fault.DecodeFault.TheVariants as faults;
 ghost use Rattle.tree_canon.specs.Events.{Told, told};
+ghost use Rattle.tree_canon.specs.Telling.{FaultFollows};
 ghost use Rattle.tree_canon.specs.Feeding.{Fed};
 ghost use Rattle.tree_canon.specs.Scanning.{bytes_taken, field_width, IsSmall};
 
@@ -64,6 +67,9 @@ impl Scan {
         ensures gives { IfOk result (λ step. (bytes : Seq ℕ) (given : Seq Told) → HasGiven self.old bytes given
             → HasGiven self.new (bytes ++ take step.used input.now)
             (given ++ told step.event (take step.used input.now))) }
+        // Nothing that the bytes before the field at fault tell is left.
+        ensures follows { (bytes : Seq ℕ) (given : Seq Told) → HasGiven self.old bytes given → (at : ℕ)
+            (reason : Reason) → result ≡ Err (faults.Bad at reason) → FaultFollows bytes given input.now at reason }
         ensures used { IfOk result (λ step. step.used ≤ length input.now) }
         ensures part { IfOk result (λ step. (n : ℕ) → step.event ≡ events.Part n → (0 < n) × (n ≤ step.used)) }
         ensures all { IfOk result (λ step. (n : ℕ) → step.event ≡ events.Part n → step.used < length input.now

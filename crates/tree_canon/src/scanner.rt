@@ -9,7 +9,7 @@ ghost use Rattle.tree_canon.specs.Scanning.{behind, behind_count, behind_file_le
 ghost use Rattle.tree_canon.specs.Reading.{State, Stuck, run};
 ghost use Rattle.tree_canon.specs.Events.{Told, told};
 ghost use Rattle.tree_canon.specs.Fields.{event_by};
-ghost use Rattle.tree_canon.specs.Telling.{HasTold};
+ghost use Rattle.tree_canon.specs.Telling.{HasTold, FaultFollows};
 
 use crate::event::{Event, Step};
 use crate::fault::DecodeFault;
@@ -112,6 +112,8 @@ impl Scanner {
             → IsAt self.new (run state (take step.used input.now))) }
         ensures bad { (state : State) → IsAt self.old state → (at : ℕ) (reason : Reason)
             → result ≡ Err (faults.Bad at reason) → run state input.now ≡ Stuck at reason }
+        ensures follows { (bytes : Seq ℕ) (given : Seq Told) → HasTold self.old bytes given → (at : ℕ)
+            (reason : Reason) → result ≡ Err (faults.Bad at reason) → FaultFollows bytes given input.now at reason }
         ensures told { IfOk result (λ step. (bytes : Seq ℕ) (given : Seq Told) → HasTold self.old bytes given
             → HasTold self.new (bytes ++ take step.used input.now)
             (given ++ told step.event (take step.used input.now))) }

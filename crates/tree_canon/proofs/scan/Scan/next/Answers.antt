@@ -14,6 +14,9 @@ returns-in-Ok-clause-takes c fed scans =
 pub returns-in-Ok-clause-gives : goal.returns-in-Ok-clause-gives
 returns-in-Ok-clause-gives c bytes given h = record { unbroken = c.in_default.is; told = c.in-Ok.ensures.told bytes given h.told }
 
+pub returns-in-Err-clause-follows : goal.returns-in-Err-clause-follows
+returns-in-Err-clause-follows c bytes given h at reason e = c.in-Err.ensures.follows bytes given h.told at reason (ap Err (cc e))
+
 pub returns-in-Err-clause-takes : goal.returns-in-Err-clause-takes
 returns-in-Err-clause-takes c fed scans =
     let fits : IsBytes c.args.input.now = λ i. omega (arith, c.type_inv.input i) in

@@ -1,8 +1,8 @@
 use Rattle.std.proofs.Common.{◌+◌, take, arith, refl, subst, length-drop}
 use Rattle.std.proofs.lemmas.Result.{err_from_is_err_and}
-use Rattle.tree_canon.specs.Reading.{State, run}
+use Rattle.tree_canon.specs.Reading.{State, Going, run}
 use Rattle.tree_canon.specs.Scanning.{IsAt}
-use Rattle.tree_canon.proofs.Tells.{close_told, rest_length, front_length, front_is, taken_more, stuck_more, told_more, more_told}
+use Rattle.tree_canon.proofs.Tells.{close_told, rest_length, front_length, front_is, taken_more, stuck_more, fault_follows, told_more, more_told}
 use Rattle.tree_canon.proofs.scanner.Scanner.next.Goals as goal
 
 pub returns-then-self-gt0-clause-told : goal.returns-then-self-gt0-clause-told
@@ -13,6 +13,13 @@ returns-in_err-event-clause-bad c state h at reason e =
     let p = err_from_is_err_and c.from_residual.result c.from_residual.ensures.1 in
     stuck_more state c.loop-used.used c.share-share.result c.args.input.now _ at reason (front_is c.loop-used.used c.share-share.result c.args.input.now)
     (c.in_err-event.ensures.bad (run state (take c.loop-used.used c.args.input.now)) (c.loop-used.invariant.runs state h) at reason (cc (p.1, p.2, e)))
+
+pub returns-in_err-event-clause-follows : goal.returns-in_err-event-clause-follows
+returns-in_err-event-clause-follows c bytes given h at reason e =
+    let p = err_from_is_err_and c.from_residual.result c.from_residual.ensures.1 in
+    let told = c.loop-used.invariant.told bytes given h in
+    fault_follows c.loop-used.self bytes given c.loop-used.used c.share-share.result c.args.input.now _ at reason (front_is c.loop-used.used c.share-share.result c.args.input.now)
+    c.loop-used.invariant.owed told c.share-share.ensures.fits (c.in_err-event.ensures.bad (Going told.count told.cut told.part) told.reached at reason (cc (p.1, p.2, e)))
 
 pub returns-then-not-is_more-clause-runs : goal.returns-then-not-is_more-clause-runs
 returns-then-not-is_more-clause-runs c state h =
