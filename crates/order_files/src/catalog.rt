@@ -12,7 +12,7 @@ ghost use Rattle.doc_files.specs.Reading.{BlamesOne};
 ghost use Rattle.order_files.specs.Catalog.{IsOfCatalog, IsOfId, buildpack_in, buildpacks_in, catalog_in, followed_by, is_fit_buildpack, is_fit_catalog};
 ghost use Rattle.order_files.specs.Places.{KeepsOtherIds, has_place};
 
-use crate::version::with_versions;
+use crate::version::read_versions;
 use cnb_world::{Path, Text, World};
 use doc_files::{ReadFault, is_folder, list_names};
 use order_expand::Catalog;
@@ -44,7 +44,7 @@ fn with_buildpack<W: World>(
         return Ok(catalog);
     }
     let versions = list_names(alloc, world, &folder)?;
-    let catalog = with_versions(
+    let catalog = read_versions(
         alloc,
         world,
         catalog,

@@ -42,7 +42,7 @@ fn with_descriptor(
 
 // The catalog with what a name in the folder of an id gives.
 #[tactic(auto, using(crate::proofs::Lengths::version_fits))]
-fn with_version<W: World>(
+fn read_version<W: World>(
     alloc: Global,
     world: &mut W,
     catalog: Catalog,
@@ -71,7 +71,7 @@ fn with_version<W: World>(
 }
 
 /// The catalog with the versions of these names in the folder of an id, in order.
-pub(crate) fn with_versions<W: World>(
+pub(crate) fn read_versions<W: World>(
     alloc: Global,
     world: &mut W,
     mut catalog: Catalog,
@@ -93,7 +93,7 @@ pub(crate) fn with_versions<W: World>(
         (W.misused world.old) (W.misused world.new) }
 {
     for version in versions {
-        catalog = with_version(alloc, world, catalog, folder, id_folder, version)?;
+        catalog = read_version(alloc, world, catalog, folder, id_folder, version)?;
     }
     Ok(catalog)
 }

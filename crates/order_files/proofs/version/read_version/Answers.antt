@@ -7,7 +7,7 @@ use Rattle.order_files.specs.Descriptor.{descriptor_at, is_fit_descriptor}
 use Rattle.order_files.proofs.Behind.{IsFolder, descriptor_added, descriptor_refused, folder_read, folder_refused, passed_over}
 use Rattle.order_files.proofs.FolderSteps.{version_fits, version_from, version_refused_from}
 use Rattle.order_files.proofs.Misuse.{folder_fits}
-use Rattle.order_files.proofs.version.with_version.Goals as goal
+use Rattle.order_files.proofs.version.read_version.Goals as goal
 
 pub returns-then-not-branch-clause-reads : goal.returns-then-not-branch-clause-reads
 returns-then-not-branch-clause-reads g c =

@@ -6,7 +6,7 @@ use Rattle.order_files.specs.Catalog.{are_fit_versions, followed_by, versions_in
 use Rattle.order_files.specs.Places.{KeepsOtherIds}
 use Rattle.order_files.proofs.Behind.{Leaves}
 use Rattle.order_files.proofs.PlaceLemmas.{AreVacant}
-use Rattle.order_files.proofs.version.with_versions.Given as goal
+use Rattle.order_files.proofs.version.read_versions.Given as goal
 
 abbrev pub invariant-loop-version : goal.invariant-loop-version
 invariant-loop-version g l = record {

@@ -8,7 +8,7 @@ use Rattle.order_files.specs.Catalog.{are_fit_versions, followed_by, is_fit_vers
 use Rattle.order_files.proofs.Behind.{Leaves, all_done, moves, stops}
 use Rattle.cnb_world.proofs.Misuse.{no_misuse, one_fits, rest_fits}
 use Rattle.order_files.proofs.PlaceLemmas.{AreVacant, keeps_ids, later_vacant}
-use Rattle.order_files.proofs.version.with_versions.Goals as goal
+use Rattle.order_files.proofs.version.read_versions.Goals as goal
 
 pub returns-in_err-catalog-clause-reads : goal.returns-in_err-catalog-clause-reads
 returns-in_err-catalog-clause-reads g c =
