@@ -25,3 +25,4 @@ pub use fault::BuildFault;
 pub use frame::{BuildFrame, Built};
 pub use given::Given;
 pub use group::build;
+pub use report::built_text;

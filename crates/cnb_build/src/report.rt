@@ -18,7 +18,7 @@ fn push_built_line(text: &mut String, row: &GroupRow) -> Result<(), AllocError>
 }
 
 /// A line for each buildpack of a group.
-pub(crate) fn built_text(alloc: Global, group: &GroupDoc) -> Result<Text, Memory>
+pub fn built_text(alloc: Global, group: &GroupDoc) -> Result<Text, Memory>
     ensures { IfOk result (λ text. text ≡ built_text group.now) }
 {
     let mut text = String::new(alloc);

@@ -1,36 +1,15 @@
 // What `create` prints.
-ghost use Rattle.std.specs.Prelude.{◌≡◌, ◌++◌, IfOk, OnOk, string_bytes};
-ghost use Rattle.cnb_build.specs.Report.{built_line, built_text};
+ghost use Rattle.std.specs.Prelude.{◌≡◌, IfOk, string_bytes};
 ghost use Rattle.cnb_create.specs.Report.{created_text, phases_text};
 
 use crate::phases::Phases;
+use cnb_build::built_text;
 use cnb_detect::choice_text;
 use cnb_export::{Exported, exported_text};
 use cnb_restore::{analyzed_text, restored_text};
 use cnb_toml::ImageName;
 use cnb_world::{Memory, Text};
-use run_docs::{GroupDoc, GroupRow};
-use std::alloc::{AllocError, Global};
-
-fn push_built_line(text: &mut String, row: &GroupRow) -> Result<(), AllocError>
-    ensures { OnOk result (string_bytes text.new ≡ string_bytes text.old ++ built_line row.now) }
-{
-    text.push_str("built ")?;
-    text.push_str(row.key.id.as_str())?;
-    text.push_str("@")?;
-    text.push_str(row.key.version.as_str())?;
-    text.push_str("\n")?;
-    Ok(())
-}
-
-fn push_built_text(text: &mut String, group: &[GroupRow]) -> Result<(), AllocError>
-    ensures { OnOk result (string_bytes text.new ≡ string_bytes text.old ++ built_text group.now) }
-{
-    for row in group {
-        push_built_line(text, row)?;
-    }
-    Ok(())
-}
+use std::alloc::Global;
 
 // The lines of the phases before the export.
 fn phases_text(alloc: Global, phases: &Phases) -> Result<String, Memory>
@@ -40,7 +19,7 @@ fn phases_text(alloc: Global, phases: &Phases) -> Result<String, Memory>
     text.push_str(analyzed_text(alloc, &phases.analyzed)?.as_str())?;
     text.push_str(choice_text(alloc, &phases.group, phases.entries)?.as_str())?;
     text.push_str(restored_text(alloc, &phases.restored)?.as_str())?;
-    push_built_text(&mut text, phases.group.as_slice())?;
+    text.push_str(built_text(alloc, &phases.group)?.as_str())?;
     Ok(text)
 }
 
