@@ -20,8 +20,9 @@ pub(crate) struct Started<W, S, O> {
     pub(crate) out: O,
 }
 
-fn cache_at(rt: &HostRuntime, folder: &Path) -> Result<FolderCache, Memory> {
-    Ok(FolderCache::new(rt, folder.copy(rt.alloc())?)?)
+fn cache_at(rt: &HostRuntime, folder: &Path) -> Result<Box<FolderCache>, Memory> {
+    let cache = FolderCache::new(rt, folder.copy(rt.alloc())?)?;
+    Ok(Box::new(rt.alloc(), cache)?)
 }
 
 /// Does what the words ask for, over the caches that they name, and returns the exit status.
@@ -41,7 +42,7 @@ pub(crate) fn serve<W: World, S: Spawner + Send, O: Sink, R: Threads + Sync>(
     let folders = started.caches.as_slice();
     let mut shelves: Vec<Box<dyn Shelf>> = Vec::new(rt.alloc());
     for folder in folders {
-        shelves.push(Box::new(rt.alloc(), cache_at(rt, folder)?)?)?;
+        shelves.push(cache_at(rt, folder)?)?;
     }
     let status = lifecycle(
         threads,

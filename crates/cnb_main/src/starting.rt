@@ -123,6 +123,38 @@ fn world_of(
     }
 }
 
+/// The system that the process works on.
+#[derive(Drop)]
+struct System {
+    world: MainWorld,
+    spawners: Vec<MainSpawner>,
+    out: MainSink,
+}
+
+fn sink(rt: &HostRuntime) -> Result<MainSink, AllocError> {
+    Ok(ProgressSink::new(rt.alloc(), StdoutSink::new(rt.clone()?)))
+}
+
+// The world is made last: it is the largest of these, and what is alive at an exit is proved there once more.
+fn make_system(
+    rt: &HostRuntime,
+    level: Level,
+    guarded: List<Path>,
+    held: &[Path],
+    phases: Phases,
+) -> Result<System, Unstarted>
+    ensures { IfOk result (λ system. length system.spawners.items ≡ SPAWNERS) }
+{
+    let out = sink(rt)?;
+    let spawners = make_spawners(rt, level)?;
+    let world = world_of(rt, level, guarded, held, phases)?;
+    Ok(System {
+        world,
+        spawners,
+        out,
+    })
+}
+
 /// Begins with the words and the environment of the process.
 pub(crate) fn start(rt: &HostRuntime) -> Result<MainStarted, Unstarted>
     ensures spawners { IfOk result (λ started. length started.spawners.items ≡ SPAWNERS) }
@@ -144,14 +176,17 @@ fn start_with(rt: &HostRuntime, words: Vec<String>) -> Result<MainStarted, Unsta
         held,
         phases,
     } = folders_in(rt.alloc(), words.as_slice())?;
-    let level = level_in(&env);
-    let world = world_of(rt, level, guarded, held.as_slice(), phases)?;
+    let System {
+        world,
+        spawners,
+        out,
+    } = make_system(rt, level_in(&env), guarded, held.as_slice(), phases)?;
     Ok(Started {
         words,
         env,
         world,
-        spawners: make_spawners(rt, level)?,
+        spawners,
         caches,
-        out: ProgressSink::new(rt.alloc(), StdoutSink::new(rt.clone()?)),
+        out,
     })
 }
