@@ -6,7 +6,7 @@ use Rattle.cnb_detect.proofs.CountLaws.{choice_counts, written_choice_counts}
 use Rattle.cnb_detect.specs.Choice.{Choice}
 use Rattle.cnb_detect.specs.Refusals as detection
 use Rattle.cnb_export.proofs.CountLaws.{exports_counts, saved_readable_image_counts}
-use Rattle.cnb_export.specs.Refusals as exporting
+use Rattle.cnb_layers.specs.Refusals as exporting
 use Rattle.cnb_restore.proofs.CountLaws.{analyzes_counts, restores_counts}
 use Rattle.cnb_restore.specs.Faults as restoring
 use Rattle.cnb_toml.specs.declared.target.Target.{Target}

@@ -28,7 +28,7 @@ use Rattle.cnb_detect.specs.declared.target.TargetSource.{TargetSource}
 use Rattle.cnb_detect.specs.declared.target.TargetSource.TheVariants.{Given}
 use Rattle.cnb_detect.proofs.DetectLaws.{prepares_reads}
 use Rattle.cnb_export.specs.Command.{saves_readable_image}
-use Rattle.cnb_export.specs.Refusals as exporting
+use Rattle.cnb_layers.specs.Refusals as exporting
 use Rattle.cnb_restore.specs.Analyzes.{analyzes}
 use Rattle.cnb_restore.specs.Commands.{ReadsAsAnalyzed}
 use Rattle.cnb_restore.specs.Faults as restoring

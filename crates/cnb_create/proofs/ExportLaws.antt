@@ -22,20 +22,20 @@ use Rattle.tree_canon.specs.declared.node.Node.{Node}
 use Rattle.tree_store.specs.Steps.{looks_for_tree}
 use Rattle.tree_store.specs.Writing.{trees_of}
 use Rattle.cnb_create.specs.Apart.{are_apart}
-use Rattle.cnb_export.specs.Buildpack.{exports_buildpack, exports_documents, exports_layers, exports_store, one_default, reads_launch, reads_store}
+use Rattle.cnb_layers.specs.Buildpack.{exports_buildpack, exports_documents, exports_layers, exports_store_document, one_default, reads_launch, reads_store_document}
 use Rattle.cnb_export.specs.Exports.{exports, gains}
-use Rattle.cnb_export.specs.Gathering.{exports_layer, keeps_found, keeps_layer, keeps_some, nothing_gathered}
+use Rattle.cnb_layers.specs.Gathering.{exports_layer, keeps_found, keeps_layer, keeps_documented, nothing_gathered}
 use Rattle.cnb_export.specs.Images.{reads_layers, reads_previous}
-use Rattle.cnb_export.specs.Layer.{finds_contents, flags_of, keeps_tree, looks_for_contents, puts_contents, reads_layer, takes_contents, takes_there, takes_whole, there_by}
+use Rattle.cnb_layers.specs.Layer.{finds_contents, flags_of, keeps_tree, looks_for_contents, puts_contents, reads_layer, takes_contents, takes_there, takes_whole, there_by}
 use Rattle.layer_paths.specs.Names.{layers_among}
-use Rattle.cnb_export.specs.Names.{lists_unless, reads_layer_names, reads_names}
-use Rattle.cnb_export.specs.Patterns.{adds_pattern, adds_slice, reads_pattern, reads_slices}
-use Rattle.cnb_export.specs.Reading.{reads_as, reads_some}
-use Rattle.cnb_export.specs.Refusals.{cause_of, of_image_fault}
-use Rattle.cnb_export.specs.Settling.{checks_reused, decision_of, looks_for_stored, reuses, row_of, settles_by}
+use Rattle.cnb_layers.specs.Names.{lists_unless, reads_layer_names, reads_names}
+use Rattle.cnb_layers.specs.Patterns.{adds_pattern, adds_slice, reads_pattern, reads_slices}
+use Rattle.cnb_layers.specs.Reading.{reads_as, reads_some}
+use Rattle.cnb_layers.specs.Refusals.{cause_of, of_image_fault}
+use Rattle.cnb_layers.specs.Settling.{checks_reused, decision_of, looks_for_stored, reuses, row_of, settles_by}
 use Rattle.cnb_export.specs.Trees.{cuts_app, puts_app, puts_links, puts_part, puts_parts, puts_process, puts_trees, puts_whole}
-use Rattle.cnb_export.specs.declared.exported.ExportFrame.{ExportFrame}
-use Rattle.cnb_export.specs.declared.fault.ExportFault.TheVariants.{Store}
+use Rattle.cnb_layers.specs.declared.frame.ExportFrame.{ExportFrame}
+use Rattle.cnb_layers.specs.declared.fault.ExportFault.TheVariants.{Store}
 use Rattle.cnb_create.proofs.KeepLemmas.{KeepsIn, cached_in_caches, cached_in_world, cached_world, in_bind, in_each, in_yields, keeps_puts, keeps_reads_tree}
 use Rattle.cnb_create.proofs.PutLemmas.{free_of_trees, keeps_puts_folder}
 
@@ -77,8 +77,8 @@ module _ (path : List ℕ) where
   unfolding reads_launch
   kept_launch folder id = keeps_bind path _ _ (keeps_gives path cause_of _) (λ at. keeps_bind path _ _ (kept_as launch_in at) (λ launch. keeps_gives path cause_of (one_default id launch)))
 
-  kept_store : (folder : List ℕ) → Preserves path (reads_store folder)
-  unfolding reads_store
+  kept_store : (folder : List ℕ) → Preserves path (reads_store_document folder)
+  unfolding reads_store_document
   kept_store folder = keeps_bind path _ _ (keeps_gives path cause_of _) (λ at. kept_some store_in at)
 
   kept_pattern : (id text : List ℕ) → Preserves path (reads_pattern id text)
@@ -102,7 +102,7 @@ module _ (path : List ℕ) where
   kept_cut app slices = keeps_bind path _ _ (keeps_told path Store _ (keeps_reads_tree path app)) (λ tree. keeps_gives path cause_of _)
 
   kept_documents : (folder id : List ℕ) → KeepsEach path (exports_documents folder id)
-  unfolding exports_documents exports_store
+  unfolding exports_documents exports_store_document
   kept_documents folder id gathered =
       keeps_bind path _ _ (kept_launch folder id)
       (λ launch. keeps_bind path _ _ (kept_slices id launch.slices) (λ slices. keeps_bind path _ _ (kept_store folder) (λ store. keeps_gives path cause_of _)))
@@ -170,7 +170,7 @@ module _ (store path : List ℕ) (apart : are_apart (trees_of store) path ≡ tr
   kept_contents folder layer flags = keeps_bind path _ _ (keeps_gives path cause_of _) (λ at. keeps_bind path _ _ (kept_look path at) (λ there. kept_taken flags at there))
 
   kept_found : (previous : List LayerRow) (id folder layer : List ℕ) (doc : Option LayerDoc) → Preserves path (keeps_found store previous id folder layer doc)
-  unfolding keeps_some
+  unfolding keeps_documented
   kept_found previous id folder layer None = keeps_yields path None
   kept_found previous id folder layer (Some doc) =
       keeps_bind path _ _ (kept_contents folder layer (flags_of doc))

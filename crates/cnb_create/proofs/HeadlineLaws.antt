@@ -9,9 +9,9 @@ use Rattle.cnb_build.proofs.OutcomeLaws.{runs_builds}
 use Rattle.cnb_env.specs.Base.{base_env}
 use Rattle.cnb_env.specs.declared.files.EnvFile.{EnvFile}
 use Rattle.cnb_export.specs.Exports.{exports}
-use Rattle.cnb_export.specs.declared.exported.ExportFrame.{ExportFrame}
+use Rattle.cnb_layers.specs.declared.frame.ExportFrame.{ExportFrame}
 use Rattle.cnb_export.specs.declared.exported.Exported.{Exported}
-use Rattle.cnb_export.specs.declared.fault.ExportFault.{ExportFault}
+use Rattle.cnb_layers.specs.declared.fault.ExportFault.{ExportFault}
 use Rattle.cnb_export.proofs.OneImageLaws.{one_image}
 use Rattle.image_docs.specs.Image.{image_in}
 use Rattle.image_docs.specs.declared.analyzed.Analyzed.{Analyzed}

@@ -14,10 +14,10 @@ use Rattle.cnb_env.specs.Files.{is_fit_platform, platform_files_in}
 use Rattle.cnb_env.specs.declared.files.EnvFile.{EnvFile}
 use Rattle.cnb_export.specs.Command.{saves_readable_image}
 use Rattle.cnb_export.specs.Exports.{exports}
-use Rattle.cnb_export.specs.Refusals as exporting
-use Rattle.cnb_export.specs.declared.exported.ExportFrame.{ExportFrame}
+use Rattle.cnb_layers.specs.Refusals as exporting
+use Rattle.cnb_layers.specs.declared.frame.ExportFrame.{ExportFrame}
 use Rattle.cnb_export.specs.declared.exported.Exported.{Exported}
-use Rattle.cnb_export.specs.declared.fault.ExportFault.{ExportFault}
+use Rattle.cnb_layers.specs.declared.fault.ExportFault.{ExportFault}
 use Rattle.cnb_restore.specs.Analyzes.{analyzes}
 use Rattle.cnb_restore.specs.Commands.{ReadsAsAnalyzed}
 use Rattle.cnb_restore.specs.Faults as restoring

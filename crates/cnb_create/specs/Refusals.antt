@@ -2,7 +2,7 @@
 use Rattle.steps.specs.Causes.{Cause, OutOfMemory}
 use Rattle.cnb_build.specs.Refusals as building
 use Rattle.cnb_detect.specs.Refusals as detection
-use Rattle.cnb_export.specs.Refusals as exporting
+use Rattle.cnb_layers.specs.Refusals as exporting
 use Rattle.cnb_restore.specs.Faults as restoring
 use Rattle.cnb_create.specs.declared.refusal.CreateRefusal.{CreateRefusal}
 use Rattle.cnb_create.specs.declared.refusal.CreateRefusal.TheVariants.{Detect, Restore, Build, Export, Memory}

@@ -1,13 +1,7 @@
 -- All that a command sees: the world, the spawners of detect children, and the caches.
 use Rattle.std.specs.Prelude.{◌≡◌, List, Result}
 use Rattle.steps.specs.Outside.{Outside, Seen, SpawnerSeen}
-use Rattle.cnb_world.specs.declared.shelf.Shelf as shelf
 use Rattle.shelf_set.specs.Caches.{Caches, WorldAndCaches}
-use Rattle.shelf_set.specs.ShelfState.{ShelfState, state_of}
-
--- what contracts see of a shelf
-abbrev pub shelf_seen : {H : Type 0} → shelf.Ghosts H → H → ShelfState
-shelf_seen ghosts h = state_of (ghosts.held h) (ghosts.rows h) (ghosts.faults h)
 
 pub record Surroundings : Type 0 where
   pub world : Seen

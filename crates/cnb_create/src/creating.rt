@@ -1,15 +1,14 @@
 // The command `create`.
-ghost use Rattle.std.specs.Prelude.{◌<◌, ◌^◌, IsTrue, OnErr, OnOk, length, map};
+ghost use Rattle.std.specs.Prelude.{◌<◌, ◌^◌, IsTrue, OnErr, OnOk, length};
 ghost use Rattle.cnb_words.specs.Create.{KeepsLimits};
 ghost use Rattle.image_files.specs.Images.{ImageStands};
-ghost use Rattle.shelf_set.specs.Caches.{caches_of};
-ghost use Rattle.shelf_set.specs.Dropping.{AreStanding};
 ghost use Rattle.steps.specs.Frames.{Keeps};
 ghost use Rattle.steps.specs.Outside.{outside, seen};
 ghost use Rattle.cnb_create.specs.Apart.{image_document, is_image_apart};
 ghost use Rattle.cnb_create.specs.Creates.{creates};
 ghost use Rattle.cnb_create.specs.Headline.{ComesToImage};
-ghost use Rattle.cnb_create.specs.Surroundings.{shelf_seen, surroundings};
+ghost use Rattle.shelf_set.specs.Caches.{caches_seen};
+ghost use Rattle.cnb_create.specs.Surroundings.{surroundings};
 
 use crate::building::build_group;
 use crate::choosing::choose;
@@ -19,15 +18,14 @@ use crate::phases::Phases;
 use crate::refusal::CreateRefusal;
 use crate::restoring::restore_layers;
 use cnb_words::CreateWords;
-use cnb_world::{Env, List, Shelf, Spawner, Text, World};
+use cnb_world::{Env, Shelf, Spawner, Text, World};
 use detect_core::Chosen;
-use shelf_set::Shelves;
+use shelf_set::Caches;
 use std::alloc::Global;
 use std::thread::Threads;
 
 /// Analyzes the images, chooses a group, restores its layers, builds it and exports the image, and gives the text to be
-/// printed (platform.md, "creator"). The image's document is written last. `places` has the numbers of the caches that
-/// stand, which are the first of the list.
+/// printed (platform.md, "creator"). The image's document is written last.
 pub fn create_command<W: World, S: Spawner + Send, R: Threads + Sync>(
     rt: &R,
     alloc: Global,
@@ -35,37 +33,32 @@ pub fn create_command<W: World, S: Spawner + Send, R: Threads + Sync>(
     env: &Env,
     world: &mut W,
     spawners: &mut Vec<S>,
-    shelves: &mut Shelves,
-    places: &mut List<u32>,
+    caches: &mut Caches,
 ) -> Result<Text, CreateRefusal>
     requires limits { KeepsLimits options.now }
     requires spawners { 0 < length spawners.old.items }
-    requires standing { AreStanding places.old
-        (map (λ s. shelf_seen (⟦<dyn Shelf as Shelf>⟧ s.vtable) s.value) shelves.old.items) }
-    requires few { length shelves.old.items < 2 ^ 32 }
+    requires few { length caches.old.shelves.items < 2 ^ 32 }
     // It does its steps in their order.
     ensures steps { creates options.now env.now
         (surroundings (outside W.World S.Spawner world.old spawners.old.items)
-        (caches_of (map (λ s. shelf_seen (⟦<dyn Shelf as Shelf>⟧ s.vtable) s.value) shelves.old.items) places.old))
+        (caches_seen ⟦<dyn Shelf as Shelf>⟧ caches.old))
         result
         (surroundings (outside W.World S.Spawner world.new spawners.new.items)
-        (caches_of (map (λ s. shelf_seen (⟦<dyn Shelf as Shelf>⟧ s.vtable) s.value) shelves.new.items) places.new)) }
+        (caches_seen ⟦<dyn Shelf as Shelf>⟧ caches.new)) }
     // So what it chooses is the first trial that passes, by the files and by what its children answered, however many
     // workers ran them and in whatever order they finished.
     ensures headline { ComesToImage options.now env.now
         (surroundings (outside W.World S.Spawner world.old spawners.old.items)
-        (caches_of (map (λ s. shelf_seen (⟦<dyn Shelf as Shelf>⟧ s.vtable) s.value) shelves.old.items) places.old))
+        (caches_seen ⟦<dyn Shelf as Shelf>⟧ caches.old))
         result
         (surroundings (outside W.World S.Spawner world.new spawners.new.items)
-        (caches_of (map (λ s. shelf_seen (⟦<dyn Shelf as Shelf>⟧ s.vtable) s.value) shelves.new.items) places.new)) }
+        (caches_seen ⟦<dyn Shelf as Shelf>⟧ caches.new)) }
     // Where it is refused, the image's document is as it was, if it stands apart from all else that is written and the
     // build children left it.
     ensures image { OnErr result (IsTrue (is_image_apart options.now) →
         Keeps (image_document options.now) (seen W.World world.old) (seen W.World world.new)) }
     // Where it isn't, the image's document stands and can be read.
     ensures stands { OnOk result (ImageStands options.now.store options.now.image (W.tree world.new)) }
-    ensures again { AreStanding places.new
-        (map (λ s. shelf_seen (⟦<dyn Shelf as Shelf>⟧ s.vtable) s.value) shelves.new.items) }
 {
     // The proof takes from this call what each path keeps to.
     let _layers = options.layers.as_str();
@@ -73,7 +66,7 @@ pub fn create_command<W: World, S: Spawner + Send, R: Threads + Sync>(
     let analyzed = look_at_images(alloc, options, world)?;
     let chosen = choose(rt, alloc, &analyzed, &options.detect, env, world, spawners)?;
     let Chosen { group, plan, .. } = chosen;
-    let restored = restore_layers(alloc, options, world, shelves, places, &analyzed, &group)?;
+    let restored = restore_layers(alloc, options, world, caches, &analyzed, &group)?;
     let entries = plan.as_slice().len();
     build_group(alloc, &analyzed, options, env, world, &group, plan)?;
     let phases = Phases {
@@ -82,5 +75,5 @@ pub fn create_command<W: World, S: Spawner + Send, R: Threads + Sync>(
         entries,
         restored,
     };
-    leave_image(alloc, options, world, shelves, places, &phases)
+    leave_image(alloc, options, world, caches, &phases)
 }

@@ -1,13 +1,11 @@
 // The export of the image, and its document.
-ghost use Rattle.std.specs.Prelude.{◌≡◌, ℕ, List as Seq, IfOk, IsTrue, map};
-ghost use Rattle.cnb_export.specs.Frame as frames;
-ghost use Rattle.cnb_export.specs.Refusals as exporting;
+ghost use Rattle.std.specs.Prelude.{◌≡◌, IfOk, IsTrue};
+ghost use Rattle.cnb_layers.specs.Frame as frames;
+ghost use Rattle.cnb_layers.specs.Refusals as exporting;
 ghost use Rattle.cnb_words.specs.Create.{KeepsLimits};
 ghost use Rattle.image_docs.specs.Image.{is_image_doc};
 ghost use Rattle.run_docs.specs.Group.{is_group_doc};
-ghost use Rattle.shelf_set.specs.Caches.{caches_of, world_and_caches};
-ghost use Rattle.shelf_set.specs.Dropping.{AreStanding};
-ghost use Rattle.shelf_set.specs.ShelfState.{state_of};
+ghost use Rattle.shelf_set.specs.Caches.{caches_seen, world_and_caches};
 ghost use Rattle.steps.specs.Outside.{seen};
 ghost use Rattle.steps.specs.Steps.{map_err};
 ghost use Rattle.cnb_create.specs.Creates.{export_frame, exports_image, leaves_image};
@@ -16,11 +14,12 @@ ghost use Rattle.cnb_create.specs.declared.refusal.CreateRefusal.TheVariants as 
 use crate::phases::Phases;
 use crate::refusal::CreateRefusal;
 use crate::report::created_text;
-use cnb_export::{ExportFault, ExportFrame, Exported, export, save_image};
+use cnb_export::{Exported, export, save_image};
+use cnb_layers::{ExportFault, ExportFrame};
 use cnb_words::CreateWords;
-use cnb_world::{List, Memory, Shelf, Text, World};
+use cnb_world::{Memory, Shelf, Text, World};
 use image_docs::ImageDoc;
-use shelf_set::Shelves;
+use shelf_set::Caches;
 use std::alloc::Global;
 
 fn export_frame(alloc: Global, options: &CreateWords) -> Result<ExportFrame, Memory>
@@ -40,27 +39,21 @@ fn export_image<W: World>(
     alloc: Global,
     options: &CreateWords,
     world: &mut W,
-    shelves: &mut Shelves,
-    places: &mut List<u32>,
+    caches: &mut Caches,
     phases: &Phases,
 ) -> Result<Exported, ExportFault>
     requires limits { KeepsLimits options.now }
-    requires standing { AreStanding places.old (map (λ s. state_of (held s) (rows s) (faults s)) shelves.old.items) }
     ensures steps { exports_image (is_group_doc phases.now.group) options.now phases.now.analyzed phases.now.group
-        (world_and_caches (seen W.World world.old)
-        (caches_of (map (λ s. state_of (held s) (rows s) (faults s)) shelves.old.items) places.old)) result
-        (world_and_caches (seen W.World world.new)
-        (caches_of (map (λ s. state_of (held s) (rows s) (faults s)) shelves.new.items) places.new)) }
+        (world_and_caches (seen W.World world.old) (caches_seen ⟦<dyn Shelf as Shelf>⟧ caches.old)) result
+        (world_and_caches (seen W.World world.new) (caches_seen ⟦<dyn Shelf as Shelf>⟧ caches.new)) }
     ensures readable { IsTrue (is_group_doc phases.now.group)
         → IfOk result (λ exported. IsTrue (is_image_doc exported.image)) }
-    ensures again { AreStanding places.new (map (λ s. state_of (held s) (rows s) (faults s)) shelves.new.items) }
 {
     let frame = export_frame(alloc, options)?;
     let exported = export(
         alloc,
         world,
-        shelves,
-        places,
+        caches,
         &frame,
         &phases.group,
         &phases.analyzed,
@@ -73,21 +66,16 @@ pub(crate) fn leave_image<W: World>(
     alloc: Global,
     options: &CreateWords,
     world: &mut W,
-    shelves: &mut Shelves,
-    places: &mut List<u32>,
+    caches: &mut Caches,
     phases: &Phases,
 ) -> Result<Text, CreateRefusal>
     requires limits { KeepsLimits options.now }
-    requires standing { AreStanding places.old (map (λ s. state_of (held s) (rows s) (faults s)) shelves.old.items) }
     requires group { IsTrue (is_group_doc phases.now.group) }
     ensures steps { leaves_image options.now phases.now
-        (world_and_caches (seen W.World world.old)
-        (caches_of (map (λ s. state_of (held s) (rows s) (faults s)) shelves.old.items) places.old)) result
-        (world_and_caches (seen W.World world.new)
-        (caches_of (map (λ s. state_of (held s) (rows s) (faults s)) shelves.new.items) places.new)) }
-    ensures again { AreStanding places.new (map (λ s. state_of (held s) (rows s) (faults s)) shelves.new.items) }
+        (world_and_caches (seen W.World world.old) (caches_seen ⟦<dyn Shelf as Shelf>⟧ caches.old)) result
+        (world_and_caches (seen W.World world.new) (caches_seen ⟦<dyn Shelf as Shelf>⟧ caches.new)) }
 {
-    let exported = export_image(alloc, options, world, shelves, places, phases)?;
+    let exported = export_image(alloc, options, world, caches, phases)?;
     let text = created_text(alloc, &options.image, phases, &exported)?;
     save_image(
         alloc,

@@ -1,7 +1,7 @@
 // Why the command `create` is refused.
 use cnb_build::BuildFault;
 use cnb_detect::DetectRefusal;
-use cnb_export::ExportFault;
+use cnb_layers::ExportFault;
 use cnb_restore::RestoreFault;
 use cnb_world::Memory;
 

@@ -14,10 +14,10 @@ use Rattle.cnb_export.specs.Command.{saves_image, saves_readable_image}
 use Rattle.cnb_export.specs.Given.{frame_of, needed_at, reads_given, reads_group, reads_needed}
 use Rattle.cnb_export.specs.Exports.{exports}
 use Rattle.cnb_export.specs.declared.exported.Exported.{Exported}
-use Rattle.cnb_export.specs.declared.exported.ExportFrame.{ExportFrame}
-use Rattle.cnb_export.specs.declared.fault.ExportFault.{ExportFault}
+use Rattle.cnb_layers.specs.declared.frame.ExportFrame.{ExportFrame}
+use Rattle.cnb_layers.specs.declared.fault.ExportFault.{ExportFault}
 use Rattle.cnb_export.specs.declared.given.ExportGiven.{ExportGiven}
-use Rattle.cnb_export.proofs.FormLaws.{group_readable, value_read}
+use Rattle.cnb_layers.proofs.FormLaws.{group_readable, value_read}
 
 -- an image that can be read is written with bytes that read as it
 pub saved_readable : (store name : List ℕ) (image : ImageDoc) (old : Seen) (result : Result (Unit {0}) ExportFault) (new : Seen) → IsTrue (is_image_doc image)

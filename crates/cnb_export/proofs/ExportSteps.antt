@@ -3,9 +3,7 @@ use Rattle.std.proofs.Common.{◌≡◌, ℕ, Bool, IsTrue, List, Ok, Err}
 use Rattle.image_docs.specs.CacheRows.{is_cache_doc}
 use Rattle.image_docs.specs.declared.layer_row.LayerRow.{LayerRow}
 use Rattle.shelf_set.specs.Caches.{caches_of}
-use Rattle.tree_store.specs.Steps.{puts_tree}
-use Rattle.steps.specs.Outside.{Seen}
-use Rattle.shelf_set.specs.Caching.{digest_of_tree, StoresRows, StoresSomeRows, stores_rows}
+use Rattle.shelf_set.specs.Caching.{StoresRows, StoresSomeRows, stores_rows}
 use Rattle.shelf_set.specs.ShelfState.{ShelfState}
 use Rattle.shelf_set.proofs.CachingLemmas.{part_where, stored_where}
 use Rattle.steps.specs.Causes.{Cause, OutOfMemory}
@@ -20,8 +18,3 @@ pub rows_refused : {E : Type 0} (cause_of : E → Cause) (readable : Bool) (rows
     → cause_of fault ≡ OutOfMemory → (IsTrue readable → IsTrue (is_cache_doc rows)) → StoresSomeRows (is_cache_doc rows) rows trees old places new standing → stores_rows cause_of readable rows trees (caches_of old places) (Err fault) (caches_of new standing)
 unfolding stores_rows
 rows_refused cause_of readable rows trees old places new standing fault memory follows h = (memory, part_where (is_cache_doc rows) readable rows trees old places new standing follows h)
-
--- a tree that was put has the digest that is answered
-pub put_digest : (store : List ℕ) (tree : Node) (old : Seen) (digest : List ℕ) (new : Seen) → puts_tree store tree old (Ok digest) new → digest ≡ digest_of_tree tree
-unfolding puts_tree
-put_digest store tree old digest new h = h.leaves.0

@@ -20,10 +20,10 @@ use Rattle.cnb_export.specs.Image.{image_of}
 use Rattle.cnb_export.specs.Processes.{default_of, entrypoint_of}
 use Rattle.cnb_export.specs.Rows.{app_row, launcher_row, layer_row, process_rows, rows_of}
 use Rattle.cnb_export.specs.declared.exported.Digests.{Digests}
-use Rattle.cnb_export.specs.declared.exported.Gathered.{Gathered}
-use Rattle.cnb_export.specs.declared.exported.ImageLayer.{ImageLayer}
+use Rattle.cnb_layers.specs.declared.gathered.Gathered.{Gathered}
+use Rattle.cnb_layers.specs.declared.gathered.ImageLayer.{ImageLayer}
 use Rattle.cnb_export.proofs.DistinctLaws.{last_distinct, last_hold}
-use Rattle.cnb_export.proofs.GatherLaws.{Gathers}
+use Rattle.cnb_layers.proofs.GatherLaws.{Gathers}
 use Rattle.cnb_export.proofs.PlaceLaws.{are_placed}
 
 -- ---- the rows above those of the run image

@@ -1,16 +1,9 @@
 pub mod AscendingLemmas
 pub mod CommandLaws
 pub mod CountLaws
-pub mod DecidedLaws
 pub mod DistinctLaws
 pub mod ExportSteps
-pub mod FormLaws
-pub mod GatherLaws
 pub mod ImageLaws
-pub mod LeftLaws
-pub mod MatchLaws
 pub mod OneImageLaws
-pub mod PatternLaws
 pub mod PlaceLaws
-pub mod ReadSteps
 pub mod StandLaws

@@ -15,7 +15,7 @@ use Rattle.image_docs.specs.ByLaws.{plain_is_plain}
 use Rattle.image_docs.specs.Row.{is_row}
 use Rattle.run_docs.specs.declared.group.GroupRow.{GroupRow}
 use Rattle.cnb_export.specs.Rows.{layer_by, layer_place, layer_row, version_of}
-use Rattle.cnb_export.specs.declared.exported.ImageLayer.{ImageLayer}
+use Rattle.cnb_layers.specs.declared.gathered.ImageLayer.{ImageLayer}
 use Rattle.image_docs.specs.declared.layer_row.LayerRow.{LayerRow}
 use Rattle.image_docs.specs.declared.row.Role.TheVariants.{Layer}
 use Rattle.image_docs.specs.declared.row.Row.{Row}

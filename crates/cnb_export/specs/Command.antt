@@ -7,13 +7,13 @@ use Rattle.shelf_set.specs.Caches.{WorldAndCaches, in_world}
 use Rattle.steps.specs.Outside.{Seen}
 use Rattle.steps.specs.Steps.{◌>>=◌, gives, map_err, yields}
 use Rattle.cnb_export.specs.declared.exported.Exported.{Exported}
-use Rattle.cnb_export.specs.declared.fault.ExportFault.{ExportFault}
+use Rattle.cnb_layers.specs.declared.fault.ExportFault.{ExportFault}
 use Rattle.cnb_export.specs.declared.given.ExportGiven.{ExportGiven}
 use Rattle.cnb_export.specs.declared.refusal.ExportRefusal.{ExportRefusal}
 use Rattle.cnb_export.specs.declared.refusal.ExportRefusal.TheVariants.{Fault}
 use Rattle.cnb_export.specs.Exports.{exports}
 use Rattle.cnb_export.specs.Given.{reads_given, refusal_cause}
-use Rattle.cnb_export.specs.Refusals.{of_image_fault}
+use Rattle.cnb_layers.specs.Refusals.{of_image_fault}
 use Rattle.cnb_export.specs.Report.{exported_text}
 
 -- the image's document is written

@@ -10,15 +10,15 @@ use Rattle.steps.specs.Steps.{◌>>=◌, gives, yields}
 use Rattle.cnb_export.specs.declared.exported.Digests.{Digests}
 use Rattle.cnb_export.specs.declared.exported.Exported.{Exported}
 use Rattle.cnb_export.specs.declared.exported.ExportedRow.{ExportedRow}
-use Rattle.cnb_export.specs.declared.exported.ExportFrame.{ExportFrame}
-use Rattle.cnb_export.specs.declared.exported.Gathered.{Gathered}
-use Rattle.cnb_export.specs.declared.exported.ImageLayer.{ImageLayer}
+use Rattle.cnb_layers.specs.declared.frame.ExportFrame.{ExportFrame}
+use Rattle.cnb_layers.specs.declared.gathered.Gathered.{Gathered}
+use Rattle.cnb_layers.specs.declared.gathered.ImageLayer.{ImageLayer}
 use Rattle.cnb_export.specs.declared.exporting.Gained.{Gained}
-use Rattle.cnb_export.specs.declared.fault.ExportFault.{ExportFault}
-use Rattle.cnb_export.specs.Buildpack.{exports_group}
+use Rattle.cnb_layers.specs.declared.fault.ExportFault.{ExportFault}
+use Rattle.cnb_layers.specs.Buildpack.{exports_group}
 use Rattle.cnb_export.specs.Image.{image_of}
 use Rattle.cnb_export.specs.Images.{reads_previous, reads_run_image}
-use Rattle.cnb_export.specs.Refusals.{cause_of}
+use Rattle.cnb_layers.specs.Refusals.{cause_of}
 use Rattle.cnb_export.specs.Trees.{puts_trees}
 use Rattle.steps.specs.Outside.{Seen}
 

@@ -10,14 +10,14 @@ use Rattle.run_docs.specs.declared.group.GroupRow.{GroupRow}
 use Rattle.steps.specs.Causes.{Cause, Decided}
 use Rattle.steps.specs.Outside.{Seen}
 use Rattle.steps.specs.Steps.{◌>>=◌, gives, map_err, yields}
-use Rattle.cnb_export.specs.declared.exported.ExportFrame.{ExportFrame}
-use Rattle.cnb_export.specs.declared.fault.ExportFault.{ExportFault}
-use Rattle.cnb_export.specs.declared.fault.ExportFault.TheVariants.{Document}
+use Rattle.cnb_layers.specs.declared.frame.ExportFrame.{ExportFrame}
+use Rattle.cnb_layers.specs.declared.fault.ExportFault.{ExportFault}
+use Rattle.cnb_layers.specs.declared.fault.ExportFault.TheVariants.{Document}
 use Rattle.cnb_export.specs.declared.given.ExportGiven.{ExportGiven}
 use Rattle.cnb_export.specs.declared.refusal.ExportRefusal.{ExportRefusal}
 use Rattle.cnb_export.specs.declared.refusal.ExportRefusal.TheVariants.{BuildpackApi, Fault}
-use Rattle.cnb_export.specs.Reading.{reads_document, value_at}
-use Rattle.cnb_export.specs.Refusals.{cause_of}
+use Rattle.cnb_layers.specs.Reading.{reads_document, value_at}
+use Rattle.cnb_layers.specs.Refusals.{cause_of}
 
 abbrev pub refusal_cause : ExportRefusal → Cause
 refusal_cause (BuildpackApi text) = Decided

@@ -5,21 +5,17 @@ use Rattle.cnb_toml.specs.declared.process.Process.{Process}
 use Rattle.run_docs.specs.declared.group.GroupRow.{GroupRow}
 use Rattle.image_docs.specs.declared.image.ImageDoc.{ImageDoc}
 use Rattle.image_docs.specs.declared.launch_doc.LaunchDoc.{LaunchDoc}
-use Rattle.image_docs.specs.declared.layer_row.LayerRow.{LayerRow}
 use Rattle.image_docs.specs.declared.run_image.RunDoc.{RunDoc}
 use Rattle.image_files.specs.RunPart.{base_of, image_env}
 use Rattle.cnb_export.specs.Ascending.{label_key, last_of_each, process_key}
 use Rattle.cnb_export.specs.Processes.{default_of, entrypoint_of}
 use Rattle.cnb_export.specs.Rows.{rows_of}
 use Rattle.cnb_export.specs.declared.exported.Digests.{Digests}
-use Rattle.cnb_export.specs.declared.exported.Gathered.{Gathered}
-use Rattle.cnb_export.specs.declared.exported.ImageLayer.{ImageLayer}
+use Rattle.cnb_layers.specs.Gathering.{layer_of}
+use Rattle.cnb_layers.specs.declared.gathered.Gathered.{Gathered}
 
 abbrev pub key_of : GroupRow → Key
 key_of row = row.key
-
-abbrev pub layer_of : ImageLayer → LayerRow
-layer_of layer = layer.row
 
 -- how the image is launched: the last process of each type, and the default type
 abbrev pub launch_of : List GroupRow → List Process → Option (List ℕ) → LaunchDoc
@@ -35,5 +31,5 @@ image_of name run group gathered digests = record {
   labels = last_of_each label_key gathered.labels;
   launch = launch_of group gathered.processes (default_of gathered.processes);
   layers = map layer_of gathered.layers;
-  store = gathered.store;
+  store = gathered.store_rows;
 }

@@ -5,8 +5,8 @@ use Rattle.image_docs.specs.declared.run_image.RunDoc.{RunDoc}
 use Rattle.image_files.specs.Images as images
 use Rattle.steps.specs.Outside.{Seen}
 use Rattle.steps.specs.Steps.{◌>>=◌, map_err, yields}
-use Rattle.cnb_export.specs.declared.fault.ExportFault.{ExportFault}
-use Rattle.cnb_export.specs.Refusals.{of_image_fault}
+use Rattle.cnb_layers.specs.declared.fault.ExportFault.{ExportFault}
+use Rattle.cnb_layers.specs.Refusals.{of_image_fault}
 
 -- the run image, which must be there
 abbrev pub reads_run_image : List ℕ → List ℕ → Seen → Result RunDoc ExportFault → Seen → Type 0

@@ -6,10 +6,10 @@ use Rattle.run_docs.specs.declared.group.GroupRow.{GroupRow}
 use Rattle.shelf_set.specs.Caches.{WorldAndCaches}
 use Rattle.steps.specs.Causes.{WhereDecided}
 use Rattle.cnb_export.specs.declared.exported.Exported.{Exported}
-use Rattle.cnb_export.specs.declared.exported.ExportFrame.{ExportFrame}
-use Rattle.cnb_export.specs.declared.fault.ExportFault.{ExportFault}
+use Rattle.cnb_layers.specs.declared.frame.ExportFrame.{ExportFrame}
+use Rattle.cnb_layers.specs.declared.fault.ExportFault.{ExportFault}
 use Rattle.cnb_export.specs.Exports.{exports}
-use Rattle.cnb_export.specs.Refusals.{cause_of}
+use Rattle.cnb_layers.specs.Refusals.{cause_of}
 
 -- Two exports came to one image with the same layers, or to one refusal, unless a call failed or memory ran out in one of them.
 abbrev pub AreOneImage : Result Exported ExportFault → Result Exported ExportFault → Type 0

@@ -11,7 +11,7 @@ use Rattle.image_docs.specs.declared.row.Row.{Row}
 use Rattle.image_docs.specs.declared.run_image.RunDoc.{RunDoc}
 use Rattle.image_files.specs.RunPart.{run_row}
 use Rattle.cnb_export.specs.declared.exported.Digests.{Digests}
-use Rattle.cnb_export.specs.declared.exported.ImageLayer.{ImageLayer}
+use Rattle.cnb_layers.specs.declared.gathered.ImageLayer.{ImageLayer}
 
 -- where a layer stands in the image
 abbrev pub layer_place : LayerRow → List ℕ

@@ -12,12 +12,12 @@ use Rattle.tree_canon.specs.declared.node.Node.{Node}
 use Rattle.tree_store.specs.Steps.{puts_folder, puts_tree, reads_tree}
 use Rattle.tree_store.specs.declared.fault.StoreFault.TheVariants.{Limit}
 use Rattle.cnb_export.specs.declared.exported.Digests.{Digests}
-use Rattle.cnb_export.specs.declared.exported.ExportFrame.{ExportFrame}
-use Rattle.cnb_export.specs.declared.fault.ExportFault.{ExportFault}
-use Rattle.cnb_export.specs.declared.fault.ExportFault.TheVariants.{Store}
+use Rattle.cnb_layers.specs.declared.frame.ExportFrame.{ExportFrame}
+use Rattle.cnb_layers.specs.declared.fault.ExportFault.{ExportFault}
+use Rattle.cnb_layers.specs.declared.fault.ExportFault.TheVariants.{Store}
 use Rattle.cnb_export.specs.Ascending.{last_of_each, process_key}
 use Rattle.cnb_export.specs.Processes.{links_of}
-use Rattle.cnb_export.specs.Refusals.{cause_of}
+use Rattle.cnb_layers.specs.Refusals.{cause_of}
 
 -- the application's folder, as one tree
 unfoldable pub puts_whole : List ℕ → List ℕ → Seen → Result (List (List ℕ)) ExportFault → Seen → Type 0

@@ -1,27 +1,26 @@
 // The command `export`.
-ghost use Rattle.std.specs.Prelude.{◌≤◌, IsTrue, OnOk, length, map};
+ghost use Rattle.std.specs.Prelude.{◌≤◌, IsTrue, OnOk, length};
 ghost use Rattle.cnb_words.specs.Export as words;
 ghost use Rattle.image_docs.specs.Image.{is_image_doc};
 ghost use Rattle.image_files.specs.Images.{ImageStands};
 ghost use Rattle.run_docs.specs.Group.{is_group_doc};
-ghost use Rattle.shelf_set.specs.Caches.{Caches, caches_of, world_and_caches};
-ghost use Rattle.shelf_set.specs.Dropping.{AreStanding};
-ghost use Rattle.shelf_set.specs.ShelfState.{state_of};
+ghost use Rattle.shelf_set.specs.Caches as seen_caches;
+ghost use Rattle.shelf_set.specs.Caches.{caches_seen, world_and_caches};
 ghost use Rattle.steps.specs.Outside.{seen};
 ghost use Rattle.cnb_export.specs.Command.{exports_command, exports_given, finishes_export, saves_image};
-ghost use Rattle.cnb_export.specs.Frame as frames;
+ghost use Rattle.cnb_layers.specs.Frame as frames;
 
 use crate::exported::Exported;
 use crate::exporting::export;
-use crate::fault::ExportFault;
 use crate::given::{ExportGiven, read_given};
 use crate::refusal::ExportRefusal;
 use crate::report::exported_text;
+use cnb_layers::ExportFault;
 use cnb_toml::ImageName;
 use cnb_words::ExportWords;
-use cnb_world::{List, Path, Shelf, Text, World};
+use cnb_world::{Path, Shelf, Text, World};
 use image_docs::ImageDoc;
-use shelf_set::Shelves;
+use shelf_set::Caches;
 use std::alloc::Global;
 
 /// Writes the image's document into a file of the store.
@@ -48,7 +47,7 @@ fn finish_export<W: World>(
 ) -> Result<Text, ExportRefusal>
     requires limits { words.KeepsLimits options.now }
     requires readable { IsTrue (is_image_doc exported.now.image) }
-    ensures steps { (caches : Caches) → finishes_export options.now exported.now
+    ensures steps { (caches : seen_caches.Caches) → finishes_export options.now exported.now
         (world_and_caches (seen W.World world.old) caches) result (world_and_caches (seen W.World world.new) caches) }
 {
     let text = exported_text(alloc, &options.image, exported)?;
@@ -67,28 +66,21 @@ fn export_given<W: World>(
     alloc: Global,
     options: &ExportWords,
     world: &mut W,
-    shelves: &mut Shelves,
-    places: &mut List<u32>,
+    caches: &mut Caches,
     given: &ExportGiven,
 ) -> Result<Text, ExportRefusal>
     requires limits { words.KeepsLimits options.now }
     requires frame { frames.KeepsLimits given.now.frame }
     requires group { IsTrue (is_group_doc given.now.group) }
-    requires standing { AreStanding places.old
-        (map (λ s. state_of (held s) (rows s) (faults s)) shelves.old.items) }
     ensures steps { exports_given options.now given.now
-        (world_and_caches (seen W.World world.old)
-        (caches_of (map (λ s. state_of (held s) (rows s) (faults s)) shelves.old.items) places.old))
+        (world_and_caches (seen W.World world.old) (caches_seen ⟦<dyn Shelf as Shelf>⟧ caches.old))
         result
-        (world_and_caches (seen W.World world.new)
-        (caches_of (map (λ s. state_of (held s) (rows s) (faults s)) shelves.new.items) places.new)) }
-    ensures again { AreStanding places.new (map (λ s. state_of (held s) (rows s) (faults s)) shelves.new.items) }
+        (world_and_caches (seen W.World world.new) (caches_seen ⟦<dyn Shelf as Shelf>⟧ caches.new)) }
 {
     let exported = export(
         alloc,
         world,
-        shelves,
-        places,
+        caches,
         &given.frame,
         &given.group,
         &given.analyzed,
@@ -97,26 +89,20 @@ fn export_given<W: World>(
 }
 
 /// Exports the image of the chosen group, and gives the text to be printed (platform.md, "exporter"). The image's
-/// document is written last. `places` has the numbers of the caches that stand, which are the first of the list.
+/// document is written last.
 pub fn export_command<W: World>(
     alloc: Global,
     options: &ExportWords,
     world: &mut W,
-    shelves: &mut Shelves,
-    places: &mut List<u32>,
+    caches: &mut Caches,
 ) -> Result<Text, ExportRefusal>
     requires limits { words.KeepsLimits options.now }
-    requires standing { AreStanding places.old
-        (map (λ s. state_of (held s) (rows s) (faults s)) shelves.old.items) }
     ensures steps { exports_command options.now
-        (world_and_caches (seen W.World world.old)
-        (caches_of (map (λ s. state_of (held s) (rows s) (faults s)) shelves.old.items) places.old))
+        (world_and_caches (seen W.World world.old) (caches_seen ⟦<dyn Shelf as Shelf>⟧ caches.old))
         result
-        (world_and_caches (seen W.World world.new)
-        (caches_of (map (λ s. state_of (held s) (rows s) (faults s)) shelves.new.items) places.new)) }
+        (world_and_caches (seen W.World world.new) (caches_seen ⟦<dyn Shelf as Shelf>⟧ caches.new)) }
     ensures stands { OnOk result (ImageStands options.now.store options.now.image (W.tree world.new)) }
-    ensures again { AreStanding places.new (map (λ s. state_of (held s) (rows s) (faults s)) shelves.new.items) }
 {
     let given = read_given(alloc, world, options)?;
-    export_given(alloc, options, world, shelves, places, &given)
+    export_given(alloc, options, world, caches, &given)
 }

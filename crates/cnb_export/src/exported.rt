@@ -1,37 +1,16 @@
 // What an image is made of, and what an export comes to.
-use app_slices::Pattern;
-use cnb_toml::{BpId, Label, LayerName, Process};
-use cnb_world::{List, Path};
-use image_docs::{ImageDoc, LayerRow, StoreRow};
-use tree_canon::{Digest, Tree};
+use cnb_toml::{BpId, ImageName, LayerName};
+use cnb_world::List;
+use image_docs::{ImageDoc, RunDoc};
+use run_docs::GroupDoc;
+use tree_canon::Digest;
 
-/// The folders of an export: the store, the layers that buildpacks left, the application and the launcher.
+/// What an image is made over: its run image, with the name of that, and the group.
 #[derive(Drop)]
-pub struct ExportFrame {
-    pub store: Path,
-    pub layers: Path,
-    pub app: Path,
-    pub launcher: Path,
-}
-
-/// A layer of an image, and whether the previous image has the same.
-#[derive(Drop)]
-pub(crate) struct ImageLayer {
-    pub row: LayerRow,
-    pub reused: bool,
-}
-
-/// What buildpacks left, each list in the order of the group: labels, processes and slices of their `launch.toml`, what
-/// their `store.toml` keeps, the layers that go into the image, and those that go into caches, with their trees.
-#[derive(Drop)]
-pub(crate) struct Gathered {
-    pub labels: List<Label>,
-    pub processes: List<Process>,
-    pub slices: List<List<Pattern>>,
-    pub store: List<StoreRow>,
-    pub layers: List<ImageLayer>,
-    pub cached: List<LayerRow>,
-    pub trees: List<Tree>,
+pub(crate) struct ImageFrame<'a> {
+    pub(crate) name: &'a ImageName,
+    pub(crate) run: &'a RunDoc,
+    pub(crate) group: &'a GroupDoc,
 }
 
 /// The digests of the trees above the layers: those of the application, the launcher's, and that of the links of the

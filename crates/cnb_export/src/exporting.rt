@@ -8,28 +8,25 @@ ghost use Rattle.image_docs.specs.Image.{is_image_doc};
 ghost use Rattle.image_docs.specs.Row.{is_row};
 ghost use Rattle.image_docs.specs.RunImage.{is_run_doc};
 ghost use Rattle.run_docs.specs.Group.{is_group_doc};
-ghost use Rattle.shelf_set.specs.Caches.{caches_of, world_and_caches};
+ghost use Rattle.shelf_set.specs.Caches.{caches_seen, world_and_caches};
 ghost use Rattle.shelf_set.specs.Caching.{digest_of_row, digest_of_tree};
-ghost use Rattle.shelf_set.specs.Dropping.{AreStanding};
-ghost use Rattle.shelf_set.specs.ShelfState.{state_of};
 ghost use Rattle.steps.specs.Outside.{seen};
 ghost use Rattle.cnb_export.specs.Exports.{exported_row, exports, gained_of, gains, gains_over};
-ghost use Rattle.cnb_export.specs.Frame.{KeepsLimits};
+ghost use Rattle.cnb_layers.specs.Frame.{KeepsLimits};
 ghost use Rattle.cnb_export.specs.OneImage.{IsOneImage};
 ghost use Rattle.cnb_export.specs.Processes as processes;
 ghost use Rattle.cnb_export.specs.Rows.{layer_row};
 
-use crate::buildpack::export_group;
-use crate::exported::{Digests, ExportFrame, Exported, ExportedRow, Gathered, ImageLayer};
-use crate::fault::ExportFault;
+use crate::exported::{Digests, Exported, ExportedRow, ImageFrame};
 use crate::image::make_image;
 use crate::images::{read_previous, read_run_image};
 use crate::trees::put_trees;
+use cnb_layers::{ExportFault, ExportFrame, Gathered, ImageLayer, export_group};
 use cnb_toml::ImageName;
 use cnb_world::{List, Memory, Shelf, World};
-use image_docs::{Analyzed, CacheDoc, ImageDoc, LayerRow, RunDoc};
+use image_docs::{Analyzed, CacheDoc, ImageDoc, LayerRow};
 use run_docs::GroupDoc;
-use shelf_set::{Shelves, store_all};
+use shelf_set::{Caches, store_all};
 use std::alloc::Global;
 use tree_canon::Tree;
 
@@ -59,18 +56,17 @@ fn exported_rows(alloc: Global, layers: &[ImageLayer]) -> Result<List<ExportedRo
 // The image of what was gathered, its layers, and what goes into caches.
 fn assemble(
     alloc: Global,
-    name: &ImageName,
-    run: &RunDoc,
-    group: &GroupDoc,
+    frame: &ImageFrame,
     gathered: Gathered,
     digests: &Digests,
 ) -> Result<Gained, Memory>
-    ensures gained { IfOk result (λ gained. gained ≡ gained_of name.now run.now group.now gathered digests.now) }
-    ensures placed { OnOk result (IsTrue (list_all is_row (map (layer_row group.now) gathered.layers))) }
+    ensures gained { IfOk result (λ gained. gained
+        ≡ gained_of frame.now.name.now frame.now.run.now frame.now.group.now gathered digests.now) }
+    ensures placed { OnOk result (IsTrue (list_all is_row (map (layer_row frame.now.group.now) gathered.layers))) }
     ensures started { OnOk result (IsTrue (is_short_path
         (processes.entrypoint_of (processes.default_of gathered.processes)))) }
 {
-    let image = make_image(alloc, name, run, group, &gathered, digests)?;
+    let image = make_image(alloc, frame, &gathered, digests)?;
     let rows = exported_rows(alloc, gathered.layers.as_slice())?;
     Ok(Gained {
         image,
@@ -92,21 +88,21 @@ fn gain_over<W: World>(
     alloc: Global,
     world: &mut W,
     frame: &ExportFrame,
-    group: &GroupDoc,
-    name: &ImageName,
-    run: &RunDoc,
+    image_frame: &ImageFrame,
     previous: &[LayerRow],
 ) -> Result<Gained, ExportFault>
     requires limits { KeepsLimits frame.now }
-    requires run { IsTrue (is_run_doc run.now) }
-    ensures step { gains_over frame.now group.now name.now run.now previous.now (seen W.World world.old) result
-        (seen W.World world.new) }
-    ensures readable { IsTrue (is_group_doc group.now) → IfOk result (λ gained. IsTrue (is_image_doc gained.image)) }
-    ensures cacheable { IsTrue (is_group_doc group.now) → IfOk result (λ gained. IsTrue (is_cache_doc gained.cached)) }
+    requires run { IsTrue (is_run_doc image_frame.now.run.now) }
+    ensures step { gains_over frame.now image_frame.now.group.now image_frame.now.name.now image_frame.now.run.now
+        previous.now (seen W.World world.old) result (seen W.World world.new) }
+    ensures readable { IsTrue (is_group_doc image_frame.now.group.now)
+        → IfOk result (λ gained. IsTrue (is_image_doc gained.image)) }
+    ensures cacheable { IsTrue (is_group_doc image_frame.now.group.now)
+        → IfOk result (λ gained. IsTrue (is_cache_doc gained.cached)) }
     ensures matched { IfOk result (λ gained. map digest_of_row gained.cached ≡ map digest_of_tree gained.trees) }
 {
-    named(name);
-    let gathered = export_group(alloc, world, frame, previous, group.as_slice())?;
+    named(image_frame.name);
+    let gathered = export_group(alloc, world, frame, previous, image_frame.group.as_slice())?;
     let digests = put_trees(
         alloc,
         world,
@@ -114,7 +110,7 @@ fn gain_over<W: World>(
         &gathered.slices,
         gathered.processes.as_slice(),
     )?;
-    let gained = assemble(alloc, name, run, group, gathered, &digests)?;
+    let gained = assemble(alloc, image_frame, gathered, &digests)?;
     Ok(gained)
 }
 
@@ -133,15 +129,12 @@ fn gain<W: World>(
 {
     let run = read_run_image(alloc, world, &frame.store, &analyzed.run)?;
     let previous = read_previous(alloc, world, &frame.store, &analyzed.previous)?;
-    gain_over(
-        alloc,
-        world,
-        frame,
+    let image_frame = ImageFrame {
+        name: &analyzed.run,
+        run: &run,
         group,
-        &analyzed.run,
-        &run,
-        previous.as_slice(),
-    )
+    };
+    gain_over(alloc, world, frame, &image_frame, previous.as_slice())
 }
 
 /// Exports an image: what the buildpacks of a group left, the application and the launcher. Trees go into the store and
@@ -153,28 +146,28 @@ fn gain<W: World>(
 pub fn export<W: World>(
     alloc: Global,
     world: &mut W,
-    shelves: &mut Shelves,
-    places: &mut List<u32>,
+    caches: &mut Caches,
     frame: &ExportFrame,
     group: &GroupDoc,
     analyzed: &Analyzed,
 ) -> Result<Exported, ExportFault>
     requires limits { KeepsLimits frame.now }
-    requires standing { AreStanding places.old
-        (map (λ s. state_of (held s) (rows s) (faults s)) shelves.old.items) }
     ensures steps { exports (is_group_doc group.now) frame.now group.now analyzed.now
-        (world_and_caches (seen W.World world.old)
-        (caches_of (map (λ s. state_of (held s) (rows s) (faults s)) shelves.old.items) places.old))
+        (world_and_caches (seen W.World world.old) (caches_seen ⟦<dyn Shelf as Shelf>⟧ caches.old))
         result
-        (world_and_caches (seen W.World world.new)
-        (caches_of (map (λ s. state_of (held s) (rows s) (faults s)) shelves.new.items) places.new)) }
+        (world_and_caches (seen W.World world.new) (caches_seen ⟦<dyn Shelf as Shelf>⟧ caches.new)) }
     ensures one_image { IsOneImage (is_group_doc group.now) frame.now group.now analyzed.now (W.tree world.old) result }
     ensures readable { IsTrue (is_group_doc group.now)
         → IfOk result (λ exported. IsTrue (is_image_doc exported.image)) }
-    ensures again { AreStanding places.new (map (λ s. state_of (held s) (rows s) (faults s)) shelves.new.items) }
 {
     let gained = gain(alloc, world, frame, group, analyzed)?;
-    let gone = store_all(alloc, shelves, places, &gained.cached, &gained.trees)?;
+    let gone = store_all(
+        alloc,
+        &mut caches.shelves,
+        &mut caches.places,
+        &gained.cached,
+        &gained.trees,
+    )?;
     Ok(Exported {
         image: gained.image,
         rows: gained.rows,

@@ -5,14 +5,12 @@ ghost use Rattle.image_docs.specs.Analyzed.{analyzed_in};
 ghost use Rattle.run_docs.specs.Group.{group_in};
 ghost use Rattle.steps.specs.Causes.{IsAnswer, IsGivenCause};
 ghost use Rattle.steps.specs.Outside.{seen};
-ghost use Rattle.cnb_export.specs.Frame.{KeepsLimits};
+ghost use Rattle.cnb_layers.specs.Frame.{KeepsLimits};
 ghost use Rattle.cnb_export.specs.Given.{frame_of, needed_at, reads_given, reads_group, reads_needed, refusal_cause, served};
-ghost use Rattle.cnb_export.specs.Refusals.{cause_of};
+ghost use Rattle.cnb_layers.specs.Refusals.{cause_of};
 
-use crate::exported::ExportFrame;
-use crate::fault::ExportFault;
-use crate::reading::{read_document, value_at};
 use crate::refusal::ExportRefusal;
+use cnb_layers::{ExportFault, ExportFrame, read_document, value_at};
 use cnb_toml::DocFault;
 use cnb_words::ExportWords;
 use cnb_world::{Bytes, Memory, Path, World};

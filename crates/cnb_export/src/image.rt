@@ -4,18 +4,20 @@ ghost use Rattle.std.specs.List.{list_all};
 ghost use Rattle.std.specs.Option.{option_copied};
 ghost use Rattle.cnb_world.specs.Path.{is_short_path};
 ghost use Rattle.image_docs.specs.Row.{is_row};
-ghost use Rattle.cnb_export.specs.Image.{image_of, key_of, launch_of, layer_of};
+ghost use Rattle.cnb_export.specs.Image.{image_of, key_of, launch_of};
+ghost use Rattle.cnb_layers.specs.Gathering.{layer_of};
 ghost use Rattle.cnb_export.specs.Ascending.{label_key, last_of_each};
 ghost use Rattle.cnb_export.specs.Processes as processes;
 ghost use Rattle.cnb_export.specs.Rows.{layer_row};
 
 use crate::ascending::last_of_each;
-use crate::exported::{Digests, Gathered, ImageLayer};
+use crate::exported::{Digests, ImageFrame};
 use crate::processes::{default_of, entrypoint};
 use crate::rows::image_rows;
-use cnb_toml::{ImageName, Key, Label, ProcType, Process};
+use cnb_layers::{Gathered, ImageLayer, copy_layer};
+use cnb_toml::{Key, Label, ProcType, Process};
 use cnb_world::{List, Memory};
-use image_docs::{ImageDoc, LaunchDoc, LayerRow, RunDoc, StoreRow};
+use image_docs::{ImageDoc, LaunchDoc, LayerRow, StoreRow};
 use image_files::{base_of, image_env};
 use run_docs::{GroupDoc, GroupRow};
 use std::alloc::Global;
@@ -51,19 +53,6 @@ fn launch(
         buildpacks: keys(alloc, group.as_slice())?,
         processes: last_of_each(alloc, processes)?,
         default: copy_type(alloc, default)?,
-    })
-}
-
-/// The same layer once more.
-pub(crate) fn copy_layer(alloc: Global, row: &LayerRow) -> Result<LayerRow, Memory>
-    ensures { IfOk result (λ copy. copy ≡ row.now) }
-{
-    Ok(LayerRow {
-        id: row.id.copy(alloc)?,
-        layer: row.layer.copy(alloc)?,
-        flags: row.flags,
-        meta: row.meta.copy(alloc)?,
-        digest: row.digest,
     })
 }
 
@@ -108,41 +97,40 @@ fn provided_by(
     ensures launch { IfOk result (λ all. all.launch
         ≡ launch_of group.now gathered.now.processes (option_copied default.entry)) }
     ensures layers { IfOk result (λ all. all.layers ≡ map layer_of gathered.now.layers) }
-    ensures store { IfOk result (λ all. all.store ≡ gathered.now.store) }
+    ensures store { IfOk result (λ all. all.store ≡ gathered.now.store_rows) }
 {
     Ok(Provided {
         labels: last_of_each(alloc, gathered.labels.as_slice())?,
         launch: launch(alloc, group, gathered.processes.as_slice(), default)?,
         layers: layers(alloc, gathered.layers.as_slice())?,
-        store: store(alloc, gathered.store.as_slice())?,
+        store: store(alloc, gathered.store_rows.as_slice())?,
     })
 }
 
-/// The image of what was gathered, on a run image of this name.
+/// The image of what was gathered.
 pub(crate) fn make_image(
     alloc: Global,
-    name: &ImageName,
-    run: &RunDoc,
-    group: &GroupDoc,
+    frame: &ImageFrame,
     gathered: &Gathered,
     digests: &Digests,
 ) -> Result<ImageDoc, Memory>
-    ensures image { IfOk result (λ image. image ≡ image_of name.now run.now group.now gathered.now digests.now) }
-    ensures placed { OnOk result (IsTrue (list_all is_row (map (layer_row group.now) gathered.now.layers))) }
+    ensures image { IfOk result (λ image. image
+        ≡ image_of frame.now.name.now frame.now.run.now frame.now.group.now gathered.now digests.now) }
+    ensures placed { OnOk result (IsTrue (list_all is_row (map (layer_row frame.now.group.now) gathered.now.layers))) }
     ensures started { OnOk result (IsTrue (is_short_path
         (processes.entrypoint_of (processes.default_of gathered.now.processes)))) }
 {
     let default = default_of(gathered.processes.as_slice());
-    let base = base_of(alloc, name, run, digests.launcher)?;
-    let rows = image_rows(alloc, name, run, group.as_slice(), gathered, digests)?;
-    let env = image_env(alloc, &run.env)?;
+    let base = base_of(alloc, frame.name, frame.run, digests.launcher)?;
+    let rows = image_rows(alloc, frame, gathered, digests)?;
+    let env = image_env(alloc, &frame.run.env)?;
     let entrypoint = entrypoint(alloc, default)?;
     let Provided {
         labels,
         launch,
         layers,
         store,
-    } = provided_by(alloc, group, gathered, default)?;
+    } = provided_by(alloc, frame.group, gathered, default)?;
     Ok(ImageDoc {
         base,
         rows,

@@ -4,7 +4,7 @@ ghost use Rattle.image_docs.specs.RunImage.{is_run_doc};
 ghost use Rattle.steps.specs.Outside.{seen};
 ghost use Rattle.cnb_export.specs.Images.{reads_layers, reads_previous, reads_run_image};
 
-use crate::fault::ExportFault;
+use cnb_layers::ExportFault;
 use cnb_toml::ImageName;
 use cnb_world::{List, Path, World};
 use image_docs::{LayerRow, RunDoc};

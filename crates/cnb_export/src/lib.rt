@@ -3,29 +3,20 @@
 #![tactic(auto)]
 
 mod ascending;
-mod buildpack;
 mod command;
 mod exported;
 mod exporting;
-mod fault;
-mod gathering;
 mod given;
 mod image;
 mod images;
-mod layer;
-mod names;
-mod patterns;
 mod processes;
-mod reading;
 mod refusal;
 mod report;
 mod rows;
-mod settling;
 mod trees;
 
 pub use command::{export_command, save_image};
-pub use exported::{ExportFrame, Exported, ExportedRow};
+pub use exported::{Exported, ExportedRow};
 pub use exporting::export;
-pub use fault::ExportFault;
 pub use refusal::ExportRefusal;
 pub use report::exported_text;

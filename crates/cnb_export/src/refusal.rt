@@ -1,5 +1,5 @@
 // Why the command `export` is refused.
-use crate::fault::ExportFault;
+use cnb_layers::ExportFault;
 use cnb_world::{Memory, Text};
 use std::alloc::AllocError;
 use tree_store::StoreFault;
@@ -15,7 +15,7 @@ pub enum ExportRefusal {
 impl From<Memory> for ExportRefusal {
     ghost use Rattle.std.specs.Prelude.{◌≡◌};
     ghost use Rattle.tree_store.specs.declared.fault.StoreFault.TheVariants as stored;
-    ghost use Rattle.cnb_export.specs.declared.fault.ExportFault.TheVariants.{Store};
+    ghost use Rattle.cnb_layers.specs.declared.fault.ExportFault.TheVariants.{Store};
     ghost use Rattle.cnb_export.specs.declared.refusal.ExportRefusal.TheVariants.{Fault};
 
     ghost from_gives = { λ _ given. given ≡ Fault (Store stored.Memory) };
@@ -28,7 +28,7 @@ impl From<Memory> for ExportRefusal {
 impl From<AllocError> for ExportRefusal {
     ghost use Rattle.std.specs.Prelude.{◌≡◌};
     ghost use Rattle.tree_store.specs.declared.fault.StoreFault.TheVariants as stored;
-    ghost use Rattle.cnb_export.specs.declared.fault.ExportFault.TheVariants.{Store};
+    ghost use Rattle.cnb_layers.specs.declared.fault.ExportFault.TheVariants.{Store};
     ghost use Rattle.cnb_export.specs.declared.refusal.ExportRefusal.TheVariants.{Fault};
 
     ghost from_gives = { λ _ given. given ≡ Fault (Store stored.Memory) };

@@ -5,10 +5,11 @@ ghost use Rattle.cnb_world.specs.Path.{is_path, is_short_path};
 ghost use Rattle.image_docs.specs.Row.{is_row, role_text};
 ghost use Rattle.cnb_export.specs.Rows.{app_row, launcher_row, layer_by, layer_place, layer_row, process_rows, rows_of, version_of};
 
-use crate::exported::{Digests, Gathered, ImageLayer};
-use cnb_toml::{BpId, ImageName};
+use crate::exported::{Digests, ImageFrame};
+use cnb_layers::{Gathered, ImageLayer};
+use cnb_toml::BpId;
 use cnb_world::{List, Memory, Path, PathFault, Text};
-use image_docs::{LayerRow, Role, Row, RunDoc, plain};
+use image_docs::{LayerRow, Role, Row, plain};
 use image_files::push_run_rows;
 use run_docs::GroupRow;
 use std::alloc::Global;
@@ -134,18 +135,22 @@ fn add_process_row(
 /// links of its process types, where there are any.
 pub(crate) fn image_rows(
     alloc: Global,
-    name: &ImageName,
-    run: &RunDoc,
-    group: &[GroupRow],
+    frame: &ImageFrame,
     gathered: &Gathered,
     digests: &Digests,
 ) -> Result<List<Row>, Memory>
-    ensures rows { IfOk result (λ rows. rows ≡ rows_of name.now run.now group.now gathered.now.layers digests.now) }
-    ensures placed { OnOk result (IsTrue (list_all is_row (map (layer_row group.now) gathered.now.layers))) }
+    ensures rows { IfOk result (λ rows. rows
+        ≡ rows_of frame.now.name.now frame.now.run.now frame.now.group.now gathered.now.layers digests.now) }
+    ensures placed { OnOk result (IsTrue (list_all is_row (map (layer_row frame.now.group.now) gathered.now.layers))) }
 {
     let mut rows = List::new(alloc);
-    push_run_rows(alloc, &mut rows, name, run.rows.as_slice())?;
-    add_layer_rows(alloc, &mut rows, group, gathered.layers.as_slice())?;
+    push_run_rows(alloc, &mut rows, frame.name, frame.run.rows.as_slice())?;
+    add_layer_rows(
+        alloc,
+        &mut rows,
+        frame.group.as_slice(),
+        gathered.layers.as_slice(),
+    )?;
     add_app_rows(alloc, &mut rows, digests.app.as_slice())?;
     add_row(
         alloc,

@@ -1,9 +1,7 @@
 -- The counts of failures, as the status tells them.
-use Rattle.std.proofs.Common.{◌≡◌, ◌∙◌, refl, sym, ap, subst, ℕ, ◌≤◌, List, [], ◌∷◌, Option, Result, Ok, Err, inl, inr, ◌⊎◌, arith}
-use Rattle.std.specs.Prelude.{IfErr}
-use Rattle.cnb_world.specs.Calls.{Rose}
-use Rattle.steps.specs.Asking.{NoneFell, OneRose, SpawnersBy}
-use Rattle.steps.specs.Causes.{Cause, FileFailed, ChildFailed, OutOfMemory, Decided, CountsFiles, FilesBy, IsGivenCause}
+use Rattle.std.proofs.Common.{◌≡◌, refl, sym, subst, ℕ, ◌≤◌, List, [], ◌∷◌, Option, Result, Ok, Err, inl, inr, arith}
+use Rattle.steps.specs.Asking.{NoneFell, OneRose}
+use Rattle.steps.specs.Causes.{Cause, FileFailed, ChildFailed, OutOfMemory, Decided, CountsFiles, FilesBy}
 use Rattle.steps.proofs.AskingLemmas.{none_fell}
 use Rattle.cnb_detect.specs.declared.refusal.DetectRefusal.{DetectRefusal}
 use Rattle.cnb_detect.specs.declared.refusal.DetectRefusal.TheVariants as detect
@@ -11,7 +9,7 @@ use Rattle.cnb_detect.specs.Refusals as detect_refusal
 use Rattle.cnb_lifecycle.specs.declared.answer.Answer.{Answer}
 use Rattle.cnb_lifecycle.specs.declared.answer.Answer.TheVariants as answer
 use Rattle.cnb_lifecycle.specs.declared.refusal.Refusal.{Refusal}
-use Rattle.cnb_lifecycle.specs.declared.refusal.Refusal.TheVariants.{File, Memory, Child}
+use Rattle.cnb_lifecycle.specs.declared.refusal.Refusal.TheVariants.{Memory}
 use Rattle.cnb_lifecycle.specs.declared.status.Status.{Status}
 use Rattle.cnb_lifecycle.specs.declared.status.Status.TheVariants.{Done, Output, Refused, Launched}
 use Rattle.steps.specs.EitherCounts.{EitherBy}

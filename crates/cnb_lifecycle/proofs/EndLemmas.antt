@@ -87,16 +87,16 @@ read_then : (step : Step) (old new : Surroundings) (result : Result Answer Refus
 read_then step old new result did = went (gives {A = Unit {0}} cause_of (Ok tt)) (λ read. step) _ _ _ tt result (given cause_of (Ok tt) old tt refl) did
 
 -- all shelves stood when the command began
-module _ (places all : List ℕ) (stand : places ≡ all) (outside after : Outside) (shelves left : List ShelfState) (standing : List ℕ) (result : Result Answer Refusal) where
+module _ (places all : List ℕ) (stand : places ≡ all) (outside after : Outside) (shelves left : List ShelfState) (result : Result Answer Refusal) where
   abbrev pub before : List ℕ → Surroundings
   before numbers = surroundings outside (caches_of shelves numbers)
 
-  begun_so : (step : Step) → step (before places) result (surroundings after (caches_of left standing)) → Did (after_words step) (before all) result after left
+  begun_so : (step : Step) → Did step (before places) result after left → Did (after_words step) (before all) result after left
   begun_so step did =
-      (standing, read_then step (before all) _ result (subst (λ (numbers : List ℕ). step (before numbers) result (surroundings after (caches_of left standing))) stand did))
+      (did.0, read_then step (before all) _ result (subst (λ (numbers : List ℕ). step (before numbers) result (surroundings after (caches_of left did.0))) stand did.1))
 
   pub begun : (asked : Result Asked Refusal) (command : Asked) (env : List Variable)
-      → asked ≡ Ok command → does command env (before places) result (surroundings after (caches_of left standing)) → On (asked_of asked) (λ a. Did (after_words (does a env)) (before all) result after left)
+      → asked ≡ Ok command → Did (does command env) (before places) result after left → On (asked_of asked) (λ a. Did (after_words (does a env)) (before all) result after left)
   begun asked command env is did =
       subst (λ a. On (asked_of a) (λ c. Did (after_words (does c env)) (before all) result after left)) (sym is) (begun_so (does command env) did)
 
@@ -118,6 +118,15 @@ pub lifted_caches : (step : WorldAndCaches → Result Answer Refusal → WorldAn
     → over_caches step (record { world = old; spawners = spawners; caches = caches }) result (record { world = new; spawners = spawners; caches = left })
 unfolding over_caches
 lifted_caches step old new spawners caches left result h = (h, refl)
+
+-- caches that were taken out of a list of shelves
+pub over_taken : {E A : Type 0} (step : WorldAndCaches → Result A E → WorldAndCaches → Type 0) (world : Seen) (taken caches : Caches) (result : Result A E) (new : WorldAndCaches) → taken ≡ caches
+    → step (world_and_caches world taken) result new → step (world_and_caches world caches) result new
+over_taken step world taken caches result new same h = subst (λ c. step (world_and_caches world c) result new) same h
+
+pub all_taken : {E A : Type 0} (step : Surroundings → Result A E → Surroundings → Type 0) (outside : Outside) (taken caches : Caches) (result : Result A E) (new : Surroundings) → taken ≡ caches
+    → step (surroundings outside taken) result new → step (surroundings outside caches) result new
+all_taken step outside taken caches result new same h = subst (λ c. step (surroundings outside c) result new) same h
 
 -- the command that was asked for did its steps
 pub arm : (asked command : Asked) (env : List Variable) (old new : Surroundings) (result : Result Answer Refusal) → asked ≡ command → does command env old result new → does asked env old result new

@@ -4,17 +4,17 @@ use Rattle.std.proofs.lemmas.Bool.{and_from, and_parts, leb-true}
 use Rattle.std.specs.Prelude.{◌||◌, IfOk, IfSome, IsTrue, OnOk, if◌then◌else◌, is_some}
 use Rattle.std.specs.Option.{option_map}
 use Rattle.std.specs.Str.{bytes_eq}
-use Rattle.cnb_create.specs.Surroundings.{Surroundings, over_caches, over_outside, over_world, surroundings}
+use Rattle.cnb_create.specs.Surroundings.{Surroundings, over_outside, over_world, surroundings}
 use Rattle.cnb_detect.proofs.OutcomeLaws.{comes_to}
 use Rattle.cnb_detect.specs.declared.target.TargetSource.TheVariants.{Document}
-use Rattle.cnb_env.specs.Layers.{are_fit_launch_sets, launch_env}
+use Rattle.cnb_env.specs.Layers.{are_fit_launch_sets}
 use Rattle.cnb_launch.specs.Choosing.{chosen_in}
 use Rattle.cnb_launch.specs.Commands.{launches_command}
-use Rattle.cnb_launch.specs.Documents.{is_fit_doc, launch_doc_under}
-use Rattle.cnb_launch.specs.Exec.{exec_job, runs_all, runs_exec, runs_execs}
+use Rattle.cnb_launch.specs.Documents.{launch_doc_under}
+use Rattle.cnb_launch.specs.Exec.{exec_job, runs_exec, runs_execs}
 use Rattle.cnb_launch.specs.Faults as launching
-use Rattle.cnb_launch.specs.Planning.{are_fit_execs, are_fit_layers, execs_in, launches, plans, prepares, prepares_in, prepares_of, sets_in}
-use Rattle.cnb_record.specs.Checks.{checks, compares, compares_group, compares_plan, follows, matches, proves, reads_group, reads_ordered, reads_plan}
+use Rattle.cnb_launch.specs.Planning.{are_fit_execs, launches, plans, prepares, prepares_in, prepares_of, sets_in}
+use Rattle.cnb_record.specs.Checks.{checks, compares, compares_group, compares_plan, follows, matches, proves, reads_group, reads_ordered}
 use Rattle.cnb_rebase.specs.Bases.{bases_command, makes_base, puts_folders, puts_next}
 use Rattle.cnb_rebase.specs.Refusals.{base_cause}
 use Rattle.cnb_rebase.specs.Rebases.{rebases, rebases_command, rebases_on, saves_rebased}
@@ -52,7 +52,7 @@ use Rattle.image_files.specs.Paths.{document_name, images_folder, run_path, runs
 use Rattle.sha2.specs.Sha256.{sha256}
 use Rattle.shelf_set.specs.Caches.{caches_of}
 use Rattle.shelf_set.specs.ShelfState.{ShelfState}
-use Rattle.steps.specs.Causes.{Cause, IsAnswer}
+use Rattle.steps.specs.Causes.{Cause}
 use Rattle.steps.specs.Each.{for_each}
 use Rattle.steps.specs.Outside.{Outside, Seen}
 use Rattle.steps.specs.Steps.{◌>>=◌, gives, map_err, reads, removes, runs_child, writes, yields}

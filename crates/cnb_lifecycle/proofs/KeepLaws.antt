@@ -8,9 +8,9 @@ use Rattle.cnb_create.proofs.KeepLemmas.{KeepsIn, KeepsRefused, cached_in_world,
 use Rattle.cnb_create.proofs.PutLemmas.{keeps_puts_folder}
 use Rattle.cnb_export.specs.Command.{exports_command, exports_given, finishes_export, saves_readable_image}
 use Rattle.cnb_export.specs.Given.{frame_of, reads_given, reads_group, reads_needed, refusal_cause}
-use Rattle.cnb_export.specs.Refusals as exporting
+use Rattle.cnb_layers.specs.Refusals as exporting
 use Rattle.cnb_export.specs.declared.exported.Exported.{Exported}
-use Rattle.cnb_export.specs.declared.exported.ExportFrame.{ExportFrame}
+use Rattle.cnb_layers.specs.declared.frame.ExportFrame.{ExportFrame}
 use Rattle.cnb_export.specs.declared.refusal.ExportRefusal.{ExportRefusal}
 use Rattle.cnb_export.specs.declared.refusal.ExportRefusal.TheVariants.{Fault}
 use Rattle.cnb_rebase.specs.Bases.{bases_command, makes_base, puts_folders, puts_next}

@@ -1,7 +1,6 @@
 -- The numbers of the caches.
-use Rattle.std.proofs.Common.{◌≡◌, ◌∙◌, ap, ℕ, zero, suc, ◌+◌, ◌≤◌, List, [], ◌∷◌, ◌++◌, length, map, arith}
+use Rattle.std.proofs.Common.{◌≡◌, ◌∙◌, ap, ℕ, zero, suc, ◌+◌, ◌≤◌, List, [], ◌∷◌, ◌++◌, length, arith}
 use Rattle.std.specs.List.{range_with_len}
-use Rattle.std.proofs.lemmas.List.{length-map}
 use Rattle.std.proofs.lemmas.List.FromFn.{length-range_with_len}
 
 one_more_from : (a n : ℕ) → range_with_len a (suc n) ≡ range_with_len a n ++ (a + n) ∷ []
@@ -17,5 +16,5 @@ one_more n =
     ap (range_with_len 0) same ∙ (one_more_from 0 n ∙ ap (λ x. range_with_len 0 n ++ x ∷ []) from)
 
 -- as many shelves as numbers stand
-pub all_stand : {X Y : Type 0} (f : X → Y) (xs : List X) (places : List ℕ) → places ≡ range_with_len 0 (length xs) → length places ≤ length (map f xs)
-all_stand f xs places is = let count : length places ≡ length xs = ap length is ∙ length-range_with_len 0 (length xs) in omega (arith, count, length-map xs f)
+pub all_stand : {X : Type 0} (xs : List X) (places : List ℕ) → places ≡ range_with_len 0 (length xs) → length places ≤ length xs
+all_stand xs places is = let count : length places ≡ length xs = ap length is ∙ length-range_with_len 0 (length xs) in omega (arith, count)

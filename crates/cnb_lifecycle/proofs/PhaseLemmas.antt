@@ -1,7 +1,5 @@
 -- The refusals of the phases keep their causes, as the lifecycle's refusals tell them.
-use Rattle.std.proofs.Common.{◌≡◌, ◌≢◌, refl, sym, subst, ℕ, List, inl, arith}
-use Rattle.steps.specs.Causes.{Cause, FileFailed, ChildFailed, OutOfMemory, Decided, ChildrenBy, FilesBy}
-use Rattle.steps.proofs.AskingLemmas.{none_fell}
+use Rattle.std.proofs.Common.{◌≡◌, refl}
 use Rattle.image_files.specs.Faults as image_files
 use Rattle.image_files.specs.declared.fault.ImageFault.{ImageFault}
 use Rattle.image_files.specs.declared.fault.ImageFault.TheVariants as image
@@ -15,9 +13,9 @@ use Rattle.cnb_create.specs.Refusals as creating
 use Rattle.cnb_create.specs.declared.refusal.CreateRefusal.{CreateRefusal}
 use Rattle.cnb_create.specs.declared.refusal.CreateRefusal.TheVariants as create
 use Rattle.cnb_export.specs.Given as exporting
-use Rattle.cnb_export.specs.Refusals as export_faults
-use Rattle.cnb_export.specs.declared.fault.ExportFault.{ExportFault}
-use Rattle.cnb_export.specs.declared.fault.ExportFault.TheVariants as export_fault
+use Rattle.cnb_layers.specs.Refusals as export_faults
+use Rattle.cnb_layers.specs.declared.fault.ExportFault.{ExportFault}
+use Rattle.cnb_layers.specs.declared.fault.ExportFault.TheVariants as export_fault
 use Rattle.cnb_export.specs.declared.refusal.ExportRefusal.{ExportRefusal}
 use Rattle.cnb_export.specs.declared.refusal.ExportRefusal.TheVariants as export
 use Rattle.cnb_launch.specs.Faults as launching
@@ -42,8 +40,6 @@ use Rattle.store_prune.specs.declared.fault.PruneFault.{PruneFault}
 use Rattle.store_prune.specs.declared.fault.PruneFault.TheVariants as prune
 use Rattle.store_prune.specs.declared.fault.VerifyFault.{VerifyFault}
 use Rattle.store_prune.specs.declared.fault.VerifyFault.TheVariants as verify
-use Rattle.cnb_lifecycle.specs.declared.refusal.Refusal.{Refusal}
-use Rattle.steps.specs.EitherCounts.{EitherBy}
 use Rattle.cnb_lifecycle.specs.Faults.{cause_of}
 use Rattle.cnb_lifecycle.proofs.CauseLemmas.{same_cause}
 use Rattle.cnb_lifecycle.specs.PhaseFaults.{of_base, of_build, of_check, of_create, of_export, of_export_fault, of_image, of_launch, of_prune, of_rebase, of_restore, of_restore_refusal, of_store, of_verify}

@@ -6,7 +6,7 @@ use Rattle.std.specs.FinMap.{get, insert, remove}
 use Rattle.std.proofs.lemmas.Bool.{and_parts, and_from}
 use Rattle.std.proofs.lemmas.List.Folds.{list_all-append}
 use Rattle.cnb_world.proofs.EffectLemmas.{same_path}
-use Rattle.cnb_world.proofs.Folders.{get-folder_made_longer, get-with_folders, get-without, not_longer}
+use Rattle.cnb_world.proofs.Folders.{get-folder_made_longer, get-with_folders, get-without}
 use Rattle.cnb_world.proofs.Trees.{bytes_eq-other, get-insert_bytes, get-remove_bytes}
 use Rattle.cnb_world.specs.Path.{beside, joined, parent_of}
 use Rattle.cnb_world.specs.Tree.{Tree, can_make_folder, folder_made, folders_above, folders_from, is_file_or_absent, is_folder, is_root, is_within, item_at, without}

@@ -1,5 +1,5 @@
 -- What is asked for.
-use Rattle.std.specs.Prelude.{ℕ, Bool, true, false, ◌≡◌, List, codes, if◌then◌else◌, Option, Some, None, Result, Ok, Err}
+use Rattle.std.specs.Prelude.{ℕ, Bool, true, false, List, codes, if◌then◌else◌, Option, Some, None, Result, Ok, Err}
 use Rattle.std.specs.Str.{bytes_eq}
 use Rattle.cnb_world.specs.declared.env.Variable.{Variable}
 use Rattle.cnb_world.specs.Env.{value_of}

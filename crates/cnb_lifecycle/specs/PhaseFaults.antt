@@ -7,8 +7,8 @@ use Rattle.cnb_build.specs.declared.fault.BuildFault.{BuildFault}
 use Rattle.cnb_build.specs.declared.fault.BuildFault.TheVariants as build
 use Rattle.cnb_create.specs.declared.refusal.CreateRefusal.{CreateRefusal}
 use Rattle.cnb_create.specs.declared.refusal.CreateRefusal.TheVariants as create
-use Rattle.cnb_export.specs.declared.fault.ExportFault.{ExportFault}
-use Rattle.cnb_export.specs.declared.fault.ExportFault.TheVariants as export_fault
+use Rattle.cnb_layers.specs.declared.fault.ExportFault.{ExportFault}
+use Rattle.cnb_layers.specs.declared.fault.ExportFault.TheVariants as export_fault
 use Rattle.cnb_export.specs.declared.refusal.ExportRefusal.{ExportRefusal}
 use Rattle.cnb_export.specs.declared.refusal.ExportRefusal.TheVariants as export
 use Rattle.cnb_launch.specs.declared.fault.LaunchFault.{LaunchFault}

@@ -1,5 +1,5 @@
 -- What unpacking comes to of an image whose application is cut into slices, beside an image that has the application whole.
-use Rattle.std.specs.Prelude.{ℕ, ◌≡◌, true, List, [], ◌∷◌, ◌++◌, Option, Some, Result, Ok, IsTrue}
+use Rattle.std.specs.Prelude.{ℕ, ◌≡◌, List, [], ◌∷◌, ◌++◌, Option, Some, Ok, IsTrue}
 use Rattle.std.specs.List.{AllByRecursion}
 use Rattle.app_slices.specs.Slices.{slices_of}
 use Rattle.app_slices.specs.Slots.{Slices}

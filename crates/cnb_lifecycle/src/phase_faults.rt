@@ -2,8 +2,9 @@
 use crate::refusal::Refusal;
 use cnb_build::BuildFault;
 use cnb_create::CreateRefusal;
-use cnb_export::{ExportFault, ExportRefusal};
+use cnb_export::ExportRefusal;
 use cnb_launch::LaunchFault;
+use cnb_layers::ExportFault;
 use cnb_rebase::{BaseFault, RebaseFault};
 use cnb_record::CheckRefusal;
 use cnb_restore::{RestoreFault, RestoreRefusal};

@@ -1,11 +1,11 @@
 // The top call.
-ghost use Rattle.std.specs.Prelude.{◌≡◌, ◌<◌, ◌^◌, false, Err, List as Seq, ℕ, length, map, string_bytes};
+ghost use Rattle.std.specs.Prelude.{◌≡◌, ◌<◌, ◌≤◌, ◌^◌, false, Err, List as Seq, ℕ, length, map, string_bytes};
 ghost use Rattle.std.specs.List.{range_with_len};
 ghost use Rattle.cnb_words.specs.Words.{AsksWithinLimits};
 ghost use Rattle.steps.specs.Outside.{faults_of, outside, seen, spawners_seen};
 ghost use Rattle.steps.specs.Steps.{gives};
 ghost use Rattle.shelf_set.specs.Caches.{caches_of};
-ghost use Rattle.shelf_set.specs.Dropping.{AreStanding};
+ghost use Rattle.shelf_set.specs.ShelfState.{shelves_seen};
 ghost use Rattle.cnb_lifecycle.specs.Commands.{after_words, asked_of, command_in, does, options_in, options_of_create, options_of_detect, refusal_of, uses_caches, On};
 ghost use Rattle.cnb_lifecycle.specs.Detecting.{ComesToWords};
 ghost use Rattle.cnb_lifecycle.specs.Ends.{CauseOfChild, CauseOfFile, Ends};
@@ -15,7 +15,7 @@ ghost use Rattle.cnb_lifecycle.specs.Keeping.{KeepsImage, OnRefusal};
 ghost use Rattle.cnb_lifecycle.specs.Leaving.{LeavesImage, OnDone};
 ghost use Rattle.cnb_lifecycle.specs.Printing.{CountsOutput};
 ghost use Rattle.cnb_create.specs.Headline.{ComesToImage};
-ghost use Rattle.cnb_create.specs.Surroundings.{over_outside, shelf_seen, surroundings};
+ghost use Rattle.cnb_create.specs.Surroundings.{over_outside, surroundings};
 ghost use Rattle.cnb_lifecycle.specs.PhaseFaults.{of_create};
 ghost use Rattle.cnb_lifecycle.specs.Telling.{tells};
 
@@ -39,7 +39,7 @@ use std::alloc::Global;
 use std::mem::drop;
 use std::thread::Threads;
 
-// Does what was asked for. `places` has the numbers of the caches that stand.
+// Does what was asked for. `places` has the numbers of the shelves that stand.
 fn run_asked<W: World, S: Spawner + Send, R: Threads + Sync>(
     rt: &R,
     alloc: Global,
@@ -48,19 +48,18 @@ fn run_asked<W: World, S: Spawner + Send, R: Threads + Sync>(
     world: &mut W,
     spawners: &mut Vec<S>,
     shelves: &mut Shelves,
-    places: &mut List<u32>,
+    places: List<u32>,
 ) -> Result<Answer, Refusal>
     requires limits { AsksWithinLimits asked.now }
     requires spawners { 0 < length spawners.old.items }
-    requires standing { AreStanding places.old
-        (map (λ s. shelf_seen (⟦<dyn Shelf as Shelf>⟧ s.vtable) s.value) shelves.old.items) }
+    requires standing { length places ≤ length shelves.old.items }
     requires few { length shelves.old.items < 2 ^ 32 }
-    ensures does { does asked.now env.now
+    ensures does { (standing : Seq ℕ) × does asked.now env.now
         (surroundings (outside W.World S.Spawner world.old spawners.old.items)
-        (caches_of (map (λ s. shelf_seen (⟦<dyn Shelf as Shelf>⟧ s.vtable) s.value) shelves.old.items) places.old))
+        (caches_of (shelves_seen ⟦<dyn Shelf as Shelf>⟧ shelves.old.items) places))
         result
         (surroundings (outside W.World S.Spawner world.new spawners.new.items)
-        (caches_of (map (λ s. shelf_seen (⟦<dyn Shelf as Shelf>⟧ s.vtable) s.value) shelves.new.items) places.new)) }
+        (caches_of (shelves_seen ⟦<dyn Shelf as Shelf>⟧ shelves.new.items) standing)) }
     ensures shelves { (uses_caches asked.now ≡ false) → (shelves.new.items ≡ shelves.old.items) }
 {
     match asked {
@@ -99,35 +98,26 @@ fn run_words<W: World, S: Spawner + Send, R: Threads + Sync>(
     ensures refused { let all = range_with_len 0 (length shelves.old.items) in
         On (refusal_of (command_in (map string_bytes words.now) env.now)) (λ refusal. gives cause_of (Err refusal)
         (surroundings (outside W.World S.Spawner world.old spawners.old.items)
-        (caches_of (map (λ s. shelf_seen (⟦<dyn Shelf as Shelf>⟧ s.vtable) s.value) shelves.old.items) all))
+        (caches_of (shelves_seen ⟦<dyn Shelf as Shelf>⟧ shelves.old.items) all))
         result
         (surroundings (outside W.World S.Spawner world.new spawners.new.items)
-        (caches_of (map (λ s. shelf_seen (⟦<dyn Shelf as Shelf>⟧ s.vtable) s.value) shelves.new.items) all))) }
+        (caches_of (shelves_seen ⟦<dyn Shelf as Shelf>⟧ shelves.new.items) all))) }
     ensures idle { On (refusal_of (command_in (map string_bytes words.now) env.now)) (λ refusal.
         (world.new ≡ world.old) × (spawners.new.items ≡ spawners.old.items) × (shelves.new.items ≡ shelves.old.items)) }
     ensures does { let all = range_with_len 0 (length shelves.old.items) in
         On (asked_of (command_in (map string_bytes words.now) env.now)) (λ asked.
         (standing : Seq ℕ) × after_words (does asked env.now)
         (surroundings (outside W.World S.Spawner world.old spawners.old.items)
-        (caches_of (map (λ s. shelf_seen (⟦<dyn Shelf as Shelf>⟧ s.vtable) s.value) shelves.old.items) all))
+        (caches_of (shelves_seen ⟦<dyn Shelf as Shelf>⟧ shelves.old.items) all))
         result
         (surroundings (outside W.World S.Spawner world.new spawners.new.items)
-        (caches_of (map (λ s. shelf_seen (⟦<dyn Shelf as Shelf>⟧ s.vtable) s.value) shelves.new.items) standing))) }
+        (caches_of (shelves_seen ⟦<dyn Shelf as Shelf>⟧ shelves.new.items) standing))) }
     ensures shelves { On (asked_of (command_in (map string_bytes words.now) env.now)) (λ asked.
         (uses_caches asked ≡ false) → (shelves.new.items ≡ shelves.old.items)) }
 {
-    let mut places = numbers(alloc, shelves.len() as u32)?;
+    let places = numbers(alloc, shelves.len() as u32)?;
     let asked = command(alloc, words, env)?;
-    let end = run_asked(
-        rt,
-        alloc,
-        &asked,
-        env,
-        world,
-        spawners,
-        shelves,
-        &mut places,
-    );
+    let end = run_asked(rt, alloc, &asked, env, world, spawners, shelves, places);
     drop(asked);
     end
 }
@@ -151,9 +141,9 @@ pub fn lifecycle<W: World, S: Spawner + Send, O: Sink, R: Threads + Sync>(
         On (refusal_of (command_in (map string_bytes words.now) env.now))
         (λ refusal. Ends (gives cause_of (Err refusal))
         (surroundings (outside W.World S.Spawner world.old spawners.old.items)
-        (caches_of (map (λ s. shelf_seen (⟦<dyn Shelf as Shelf>⟧ s.vtable) s.value) shelves.old.items) all))
+        (caches_of (shelves_seen ⟦<dyn Shelf as Shelf>⟧ shelves.old.items) all))
         (outside W.World S.Spawner world.new spawners.new.items)
-        (map (λ s. shelf_seen (⟦<dyn Shelf as Shelf>⟧ s.vtable) s.value) shelves.new.items)
+        (shelves_seen ⟦<dyn Shelf as Shelf>⟧ shelves.new.items)
         result (O.taken out.old) (O.taken out.new)) }
     ensures idle { On (refusal_of (command_in (map string_bytes words.now) env.now)) (λ refusal.
         (world.new ≡ world.old) × (spawners.new.items ≡ spawners.old.items) × (shelves.new.items ≡ shelves.old.items)) }
@@ -162,9 +152,9 @@ pub fn lifecycle<W: World, S: Spawner + Send, O: Sink, R: Threads + Sync>(
         On (asked_of (command_in (map string_bytes words.now) env.now))
         (λ asked. Ends (after_words (does asked env.now))
         (surroundings (outside W.World S.Spawner world.old spawners.old.items)
-        (caches_of (map (λ s. shelf_seen (⟦<dyn Shelf as Shelf>⟧ s.vtable) s.value) shelves.old.items) all))
+        (caches_of (shelves_seen ⟦<dyn Shelf as Shelf>⟧ shelves.old.items) all))
         (outside W.World S.Spawner world.new spawners.new.items)
-        (map (λ s. shelf_seen (⟦<dyn Shelf as Shelf>⟧ s.vtable) s.value) shelves.new.items)
+        (shelves_seen ⟦<dyn Shelf as Shelf>⟧ shelves.new.items)
         result (O.taken out.old) (O.taken out.new)) }
     // So `detect` comes to the choice of the first trial that passes, by the files and by what its children answered,
     // however many workers ran them and in whatever order they finished, or to its refusal; each document is the old
@@ -174,9 +164,9 @@ pub fn lifecycle<W: World, S: Spawner + Send, O: Sink, R: Threads + Sync>(
         On (options_in options_of_detect (command_in (map string_bytes words.now) env.now)) (λ options.
         Ends (after_words (over_outside (tells Answer.Printed of_detect (ComesToWords options env.now))))
         (surroundings (outside W.World S.Spawner world.old spawners.old.items)
-        (caches_of (map (λ s. shelf_seen (⟦<dyn Shelf as Shelf>⟧ s.vtable) s.value) shelves.old.items) all))
+        (caches_of (shelves_seen ⟦<dyn Shelf as Shelf>⟧ shelves.old.items) all))
         (outside W.World S.Spawner world.new spawners.new.items)
-        (map (λ s. shelf_seen (⟦<dyn Shelf as Shelf>⟧ s.vtable) s.value) shelves.new.items)
+        (shelves_seen ⟦<dyn Shelf as Shelf>⟧ shelves.new.items)
         result (O.taken out.old) (O.taken out.new)) }
     // And `create` comes to the image that is defined for the choice of the first trial that passes, by what its children
     // answered, or ends as `detect` is refused.
@@ -184,9 +174,9 @@ pub fn lifecycle<W: World, S: Spawner + Send, O: Sink, R: Threads + Sync>(
         On (options_in options_of_create (command_in (map string_bytes words.now) env.now)) (λ options.
         Ends (after_words (tells Answer.Printed of_create (ComesToImage options env.now)))
         (surroundings (outside W.World S.Spawner world.old spawners.old.items)
-        (caches_of (map (λ s. shelf_seen (⟦<dyn Shelf as Shelf>⟧ s.vtable) s.value) shelves.old.items) all))
+        (caches_of (shelves_seen ⟦<dyn Shelf as Shelf>⟧ shelves.old.items) all))
         (outside W.World S.Spawner world.new spawners.new.items)
-        (map (λ s. shelf_seen (⟦<dyn Shelf as Shelf>⟧ s.vtable) s.value) shelves.new.items)
+        (shelves_seen ⟦<dyn Shelf as Shelf>⟧ shelves.new.items)
         result (O.taken out.old) (O.taken out.new)) }
     // Where `export`, `create`, `rebase` or `base` is refused, the document that it writes is as it was: of `create` if
     // its path is apart from all else that is written and the build children left it.

@@ -1,8 +1,6 @@
 // A buildpack's folder of layers.
-ghost use Rattle.std.specs.Prelude.{◌≡◌, ◌≤◌, ◌<◌, ◌+◌, ◌^◌, IfOk, length, map};
-ghost use Rattle.shelf_set.specs.ShelfState.{state_of};
-ghost use Rattle.shelf_set.specs.Caches.{caches_of, world_and_caches};
-ghost use Rattle.shelf_set.specs.Dropping.{AreStanding};
+ghost use Rattle.std.specs.Prelude.{◌≡◌, ◌≤◌, ◌<◌, ◌+◌, ◌^◌, IfOk, length};
+ghost use Rattle.shelf_set.specs.Caches.{caches_seen, world_and_caches};
 ghost use Rattle.steps.specs.Outside.{seen};
 ghost use Rattle.cnb_restore.specs.Restores.{prepares_folder, restores_buildpack, restores_group, restores_rows};
 
@@ -14,11 +12,11 @@ use crate::restored::Restored;
 use crate::rows::{kept_for, rows_of};
 use crate::sources::{Sources, layers_of, store_of};
 use cnb_toml::BpId;
-use cnb_world::{List, Path, Shelf, World};
+use cnb_world::{Path, Shelf, World};
 use image_docs::StoreRow;
 use layer_paths::layers_folder;
 use run_docs::GroupRow;
-use shelf_set::Shelves;
+use shelf_set::Caches;
 use std::alloc::Global;
 
 // Removes a buildpack's folder and makes it anew, with what the previous image keeps for it.
@@ -41,97 +39,69 @@ fn prepare_folder<W: World>(
 fn restore_rows<W: World>(
     alloc: Global,
     world: &mut W,
-    shelves: &mut Shelves,
-    places: &mut List<u32>,
+    caches: &mut Caches,
     folder: &Path,
     sources: &Sources,
     id: &BpId,
     restored: Restored,
 ) -> Result<Restored, RestoreFault>
     requires short { length folder.now ≤ 4352 }
-    requires standing { AreStanding places.old (map (λ s. state_of (held s) (rows s) (faults s)) shelves.old.items) }
-    requires few { length restored.gone + length places.old < 2 ^ 32 }
+    requires few { length restored.gone + length caches.old.places < 2 ^ 32 }
     ensures step { restores_rows folder.now sources.now id.now restored
-        (world_and_caches (seen W.World world.old)
-        (caches_of (map (λ s. state_of (held s) (rows s) (faults s)) shelves.old.items) places.old)) result
-        (world_and_caches (seen W.World world.new)
-        (caches_of (map (λ s. state_of (held s) (rows s) (faults s)) shelves.new.items) places.new)) }
-    ensures again { AreStanding places.new (map (λ s. state_of (held s) (rows s) (faults s)) shelves.new.items) }
-    ensures count { IfOk result (λ after. length after.gone + length places.new
-        ≡ length restored.gone + length places.old) }
+        (world_and_caches (seen W.World world.old) (caches_seen ⟦<dyn Shelf as Shelf>⟧ caches.old)) result
+        (world_and_caches (seen W.World world.new) (caches_seen ⟦<dyn Shelf as Shelf>⟧ caches.new)) }
+    ensures count { IfOk result (λ after. length after.gone + length caches.new.places
+        ≡ length restored.gone + length caches.old.places) }
 {
     let app = rows_of(alloc, id, layers_of(&sources.previous))?;
     let cache = rows_of(alloc, id, sources.rows.as_slice())?;
-    restore_layers(
-        alloc, world, shelves, places, folder, &app, &cache, restored,
-    )
+    restore_layers(alloc, world, caches, folder, &app, &cache, restored)
 }
 
 // Restores a buildpack.
 fn restore_buildpack<W: World>(
     alloc: Global,
     world: &mut W,
-    shelves: &mut Shelves,
-    places: &mut List<u32>,
+    caches: &mut Caches,
     layers: &Path,
     sources: &Sources,
     id: &BpId,
     restored: Restored,
 ) -> Result<Restored, RestoreFault>
     requires short { length layers.now ≤ 4096 }
-    requires standing { AreStanding places.old (map (λ s. state_of (held s) (rows s) (faults s)) shelves.old.items) }
-    requires few { length restored.gone + length places.old < 2 ^ 32 }
+    requires few { length restored.gone + length caches.old.places < 2 ^ 32 }
     ensures step { restores_buildpack layers.now sources.now id.now restored
-        (world_and_caches (seen W.World world.old)
-        (caches_of (map (λ s. state_of (held s) (rows s) (faults s)) shelves.old.items) places.old)) result
-        (world_and_caches (seen W.World world.new)
-        (caches_of (map (λ s. state_of (held s) (rows s) (faults s)) shelves.new.items) places.new)) }
-    ensures again { AreStanding places.new (map (λ s. state_of (held s) (rows s) (faults s)) shelves.new.items) }
-    ensures count { IfOk result (λ after. length after.gone + length places.new
-        ≡ length restored.gone + length places.old) }
+        (world_and_caches (seen W.World world.old) (caches_seen ⟦<dyn Shelf as Shelf>⟧ caches.old)) result
+        (world_and_caches (seen W.World world.new) (caches_seen ⟦<dyn Shelf as Shelf>⟧ caches.new)) }
+    ensures count { IfOk result (λ after. length after.gone + length caches.new.places
+        ≡ length restored.gone + length caches.old.places) }
 {
     let folder = layers_folder(alloc, layers, id)?;
     prepare_folder(alloc, world, &folder, id, store_of(&sources.previous))?;
-    restore_rows(
-        alloc, world, shelves, places, &folder, sources, id, restored,
-    )
+    restore_rows(alloc, world, caches, &folder, sources, id, restored)
 }
 
 /// Restores the buildpacks of a group, in order.
 pub(crate) fn restore_group<W: World>(
     alloc: Global,
     world: &mut W,
-    shelves: &mut Shelves,
-    places: &mut List<u32>,
+    caches: &mut Caches,
     layers: &Path,
     sources: &Sources,
     group: &[GroupRow],
     restored: Restored,
 ) -> Result<Restored, RestoreFault>
     requires short { length layers.now ≤ 4096 }
-    requires standing { AreStanding places.old (map (λ s. state_of (held s) (rows s) (faults s)) shelves.old.items) }
-    requires few { length restored.gone + length places.old < 2 ^ 32 }
+    requires few { length restored.gone + length caches.old.places < 2 ^ 32 }
     ensures step { restores_group layers.now sources.now group.now restored
-        (world_and_caches (seen W.World world.old)
-        (caches_of (map (λ s. state_of (held s) (rows s) (faults s)) shelves.old.items) places.old)) result
-        (world_and_caches (seen W.World world.new)
-        (caches_of (map (λ s. state_of (held s) (rows s) (faults s)) shelves.new.items) places.new)) }
-    ensures again { AreStanding places.new (map (λ s. state_of (held s) (rows s) (faults s)) shelves.new.items) }
-    ensures count { IfOk result (λ after. length after.gone + length places.new
-        ≡ length restored.gone + length places.old) }
+        (world_and_caches (seen W.World world.old) (caches_seen ⟦<dyn Shelf as Shelf>⟧ caches.old)) result
+        (world_and_caches (seen W.World world.new) (caches_seen ⟦<dyn Shelf as Shelf>⟧ caches.new)) }
+    ensures count { IfOk result (λ after. length after.gone + length caches.new.places
+        ≡ length restored.gone + length caches.old.places) }
 {
     let mut so_far = restored;
     for row in group {
-        so_far = restore_buildpack(
-            alloc,
-            world,
-            shelves,
-            places,
-            layers,
-            sources,
-            &row.key.id,
-            so_far,
-        )?;
+        so_far = restore_buildpack(alloc, world, caches, layers, sources, &row.key.id, so_far)?;
     }
     Ok(so_far)
 }

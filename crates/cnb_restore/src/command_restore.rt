@@ -1,9 +1,7 @@
 // The command `restore`.
-ghost use Rattle.std.specs.Prelude.{◌≤◌, ◌<◌, ◌^◌, IfErr, length, map};
+ghost use Rattle.std.specs.Prelude.{◌≤◌, ◌<◌, ◌^◌, IfErr, length};
 ghost use Rattle.cnb_words.specs.Restore.{KeepsLimits};
-ghost use Rattle.shelf_set.specs.ShelfState.{state_of};
-ghost use Rattle.shelf_set.specs.Caches.{caches_of, world_and_caches};
-ghost use Rattle.shelf_set.specs.Dropping.{AreStanding};
+ghost use Rattle.shelf_set.specs.Caches.{caches_seen, world_and_caches};
 ghost use Rattle.steps.specs.Causes.{IsAnswer, IsGivenCause};
 ghost use Rattle.steps.specs.Outside.{seen};
 ghost use Rattle.steps.specs.Steps.{reads};
@@ -19,11 +17,11 @@ use crate::report::restored_text;
 use crate::restoring::restore;
 use cnb_toml::DocFault;
 use cnb_words::RestoreWords;
-use cnb_world::{List, Memory, Path, Shelf, Text, World};
+use cnb_world::{Path, Shelf, Text, World};
 use image_docs::Analyzed;
 use image_files::find_document;
 use run_docs::{GroupDoc, GroupRow, GroupTable, foreign_among};
-use shelf_set::Shelves;
+use shelf_set::Caches;
 use std::alloc::Global;
 
 // A document that must be there.
@@ -79,27 +77,21 @@ fn restore_analyzed<W: World>(
     alloc: Global,
     options: &RestoreWords,
     world: &mut W,
-    shelves: &mut Shelves,
-    places: &mut List<u32>,
+    caches: &mut Caches,
     analyzed: &Analyzed,
     group: &GroupDoc,
 ) -> Result<Text, RestoreRefusal>
     requires limits { KeepsLimits options.now }
-    requires standing { AreStanding places.old (map (λ s. state_of (held s) (rows s) (faults s)) shelves.old.items) }
-    requires few { length shelves.old.items < 2 ^ 32 }
+    requires few { length caches.old.shelves.items < 2 ^ 32 }
     ensures steps { restores_analyzed options.now analyzed.now group.now
-        (world_and_caches (seen W.World world.old)
-        (caches_of (map (λ s. state_of (held s) (rows s) (faults s)) shelves.old.items) places.old)) result
-        (world_and_caches (seen W.World world.new)
-        (caches_of (map (λ s. state_of (held s) (rows s) (faults s)) shelves.new.items) places.new)) }
-    ensures again { AreStanding places.new (map (λ s. state_of (held s) (rows s) (faults s)) shelves.new.items) }
+        (world_and_caches (seen W.World world.old) (caches_seen ⟦<dyn Shelf as Shelf>⟧ caches.old)) result
+        (world_and_caches (seen W.World world.new) (caches_seen ⟦<dyn Shelf as Shelf>⟧ caches.new)) }
 {
     served(alloc, group.as_slice())?;
     let restored = restore(
         alloc,
         world,
-        shelves,
-        places,
+        caches,
         &options.store,
         analyzed,
         group,
@@ -110,25 +102,20 @@ fn restore_analyzed<W: World>(
 }
 
 /// Restores what the buildpacks of the chosen group left the last time, and gives the text to be printed (platform.md,
-/// "restorer"). `places` has the numbers of the caches that stand, which are the first of the list.
+/// "restorer").
 pub fn restore_command<W: World>(
     alloc: Global,
     options: &RestoreWords,
     world: &mut W,
-    shelves: &mut Shelves,
-    places: &mut List<u32>,
+    caches: &mut Caches,
 ) -> Result<Text, RestoreRefusal>
     requires limits { KeepsLimits options.now }
-    requires standing { AreStanding places.old (map (λ s. state_of (held s) (rows s) (faults s)) shelves.old.items) }
-    requires few { length shelves.old.items < 2 ^ 32 }
+    requires few { length caches.old.shelves.items < 2 ^ 32 }
     ensures steps { restores_command options.now
-        (world_and_caches (seen W.World world.old)
-        (caches_of (map (λ s. state_of (held s) (rows s) (faults s)) shelves.old.items) places.old)) result
-        (world_and_caches (seen W.World world.new)
-        (caches_of (map (λ s. state_of (held s) (rows s) (faults s)) shelves.new.items) places.new)) }
-    ensures again { AreStanding places.new (map (λ s. state_of (held s) (rows s) (faults s)) shelves.new.items) }
+        (world_and_caches (seen W.World world.old) (caches_seen ⟦<dyn Shelf as Shelf>⟧ caches.old)) result
+        (world_and_caches (seen W.World world.new) (caches_seen ⟦<dyn Shelf as Shelf>⟧ caches.new)) }
 {
     let analyzed = read_analyzed(alloc, world, &options.work)?;
     let group = read_group(alloc, world, &options.work)?;
-    restore_analyzed(alloc, options, world, shelves, places, &analyzed, &group)
+    restore_analyzed(alloc, options, world, caches, &analyzed, &group)
 }

@@ -1,10 +1,9 @@
 // The layers of a buildpack.
 ghost use Rattle.std.specs.Prelude.{◌≡◌, ◌≤◌, ◌<◌, ◌+◌, ◌^◌, IfOk, Some, length, map};
 ghost use Rattle.std.specs.Option.{option_copied};
-ghost use Rattle.shelf_set.specs.ShelfState.{state_of};
-ghost use Rattle.shelf_set.specs.Caches.{Caches, caches_of, world_and_caches};
+ghost use Rattle.shelf_set.specs.Caches.{caches_seen, world_and_caches};
+ghost use Rattle.shelf_set.specs.Caches as seen_caches;
 ghost use Rattle.shelf_set.specs.CacheSteps.{finds};
-ghost use Rattle.shelf_set.specs.Dropping.{AreStanding};
 ghost use Rattle.steps.specs.Outside.{seen};
 ghost use Rattle.cnb_restore.specs.Faults.{cause_of};
 ghost use Rattle.cnb_restore.specs.Restores.{restores_contents, restores_document, restores_each, restores_found, restores_laid, restores_layer, restores_layers, restores_part};
@@ -13,10 +12,10 @@ use crate::fault::RestoreFault;
 use crate::layer::{lay_contents, write_layer_document};
 use crate::restored::{Restored, after_search, with_layer};
 use crate::rows::{layer_names, restored_part, row_of, source_of};
-use cnb_world::{List, Path, Shelf, World};
+use cnb_world::{Path, Shelf, World};
 use image_docs::LayerRow;
 use layer_flags::RestoreRow;
-use shelf_set::{Found, Search, Shelves, find};
+use shelf_set::{Caches, Found, Search, find};
 use std::alloc::Global;
 use tree_canon::{Digest, Tree};
 
@@ -30,7 +29,7 @@ fn restore_document<W: World>(
     restored: Restored,
 ) -> Result<Restored, RestoreFault>
     requires { length folder.now ≤ 4352 }
-    ensures step { (caches : Caches) → restores_document folder.now row.now contents restored
+    ensures step { (caches : seen_caches.Caches) → restores_document folder.now row.now contents restored
         (world_and_caches (seen W.World world.old) caches) result (world_and_caches (seen W.World world.new) caches) }
     ensures gone { IfOk result (λ after. after.gone ≡ restored.gone) }
 {
@@ -49,7 +48,7 @@ fn restore_laid<W: World>(
     restored: Restored,
 ) -> Result<Restored, RestoreFault>
     requires { length folder.now ≤ 4352 }
-    ensures step { (caches : Caches) → restores_laid folder.now row.now restored tree.now
+    ensures step { (caches : seen_caches.Caches) → restores_laid folder.now row.now restored tree.now
         (world_and_caches (seen W.World world.old) caches) result (world_and_caches (seen W.World world.new) caches) }
     ensures gone { IfOk result (λ after. after.gone ≡ restored.gone) }
 {
@@ -68,7 +67,7 @@ fn restore_found<W: World>(
     restored: Restored,
 ) -> Result<Restored, RestoreFault>
     requires { length folder.now ≤ 4352 }
-    ensures step { (caches : Caches) → restores_found folder.now row.now restored found
+    ensures step { (caches : seen_caches.Caches) → restores_found folder.now row.now restored found
         (world_and_caches (seen W.World world.old) caches) result (world_and_caches (seen W.World world.new) caches) }
     ensures gone { IfOk result (λ after. after.gone ≡ restored.gone) }
 {
@@ -81,20 +80,13 @@ fn restore_found<W: World>(
 
 // Searches the caches for a tree.
 #[tactic(auto, unfolding(shelf_set::specs::CacheSteps::finds), using(shelf_set::proofs::CountLemmas::finds_count))]
-fn find_tree(
-    alloc: Global,
-    shelves: &mut Shelves,
-    places: &mut List<u32>,
-    digest: &Digest,
-) -> Result<Search, RestoreFault>
-    requires { AreStanding places.old (map (λ s. state_of (held s) (rows s) (faults s)) shelves.old.items) }
-    ensures step { finds cause_of digest.now
-        (caches_of (map (λ s. state_of (held s) (rows s) (faults s)) shelves.old.items) places.old) result
-        (caches_of (map (λ s. state_of (held s) (rows s) (faults s)) shelves.new.items) places.new) }
-    ensures again { AreStanding places.new (map (λ s. state_of (held s) (rows s) (faults s)) shelves.new.items) }
-    ensures count { IfOk result (λ search. length search.gone + length places.new ≡ length places.old) }
+fn find_tree(alloc: Global, caches: &mut Caches, digest: &Digest) -> Result<Search, RestoreFault>
+    ensures step { finds cause_of digest.now (caches_seen ⟦<dyn Shelf as Shelf>⟧ caches.old) result
+        (caches_seen ⟦<dyn Shelf as Shelf>⟧ caches.new) }
+    ensures count { IfOk result (λ search.
+        length search.gone + length caches.new.places ≡ length caches.old.places) }
 {
-    let search = find(alloc, shelves, places, digest)?;
+    let search = find(alloc, &mut caches.shelves, &mut caches.places, digest)?;
     Ok(search)
 }
 
@@ -102,25 +94,20 @@ fn find_tree(
 fn restore_contents<W: World>(
     alloc: Global,
     world: &mut W,
-    shelves: &mut Shelves,
-    places: &mut List<u32>,
+    caches: &mut Caches,
     folder: &Path,
     row: &LayerRow,
     restored: Restored,
 ) -> Result<Restored, RestoreFault>
     requires short { length folder.now ≤ 4352 }
-    requires standing { AreStanding places.old (map (λ s. state_of (held s) (rows s) (faults s)) shelves.old.items) }
-    requires few { length restored.gone + length places.old < 2 ^ 32 }
+    requires few { length restored.gone + length caches.old.places < 2 ^ 32 }
     ensures step { restores_contents folder.now row.now restored
-        (world_and_caches (seen W.World world.old)
-        (caches_of (map (λ s. state_of (held s) (rows s) (faults s)) shelves.old.items) places.old)) result
-        (world_and_caches (seen W.World world.new)
-        (caches_of (map (λ s. state_of (held s) (rows s) (faults s)) shelves.new.items) places.new)) }
-    ensures again { AreStanding places.new (map (λ s. state_of (held s) (rows s) (faults s)) shelves.new.items) }
-    ensures count { IfOk result (λ after. length after.gone + length places.new
-        ≡ length restored.gone + length places.old) }
+        (world_and_caches (seen W.World world.old) (caches_seen ⟦<dyn Shelf as Shelf>⟧ caches.old)) result
+        (world_and_caches (seen W.World world.new) (caches_seen ⟦<dyn Shelf as Shelf>⟧ caches.new)) }
+    ensures count { IfOk result (λ after. length after.gone + length caches.new.places
+        ≡ length restored.gone + length caches.old.places) }
 {
-    let Search { found, gone } = find_tree(alloc, shelves, places, &row.digest)?;
+    let Search { found, gone } = find_tree(alloc, caches, &row.digest)?;
     let counted = after_search(restored, &gone)?;
     restore_found(alloc, world, folder, row, found, counted)
 }
@@ -130,29 +117,24 @@ fn restore_contents<W: World>(
 fn restore_part<W: World>(
     alloc: Global,
     world: &mut W,
-    shelves: &mut Shelves,
-    places: &mut List<u32>,
+    caches: &mut Caches,
     folder: &Path,
     row: &LayerRow,
     part: RestoreRow,
     restored: Restored,
 ) -> Result<Restored, RestoreFault>
     requires short { length folder.now ≤ 4352 }
-    requires standing { AreStanding places.old (map (λ s. state_of (held s) (rows s) (faults s)) shelves.old.items) }
-    requires few { length restored.gone + length places.old < 2 ^ 32 }
+    requires few { length restored.gone + length caches.old.places < 2 ^ 32 }
     ensures step { restores_part folder.now (Some row.now) part restored
-        (world_and_caches (seen W.World world.old)
-        (caches_of (map (λ s. state_of (held s) (rows s) (faults s)) shelves.old.items) places.old)) result
-        (world_and_caches (seen W.World world.new)
-        (caches_of (map (λ s. state_of (held s) (rows s) (faults s)) shelves.new.items) places.new)) }
-    ensures again { AreStanding places.new (map (λ s. state_of (held s) (rows s) (faults s)) shelves.new.items) }
-    ensures count { IfOk result (λ after. length after.gone + length places.new
-        ≡ length restored.gone + length places.old) }
+        (world_and_caches (seen W.World world.old) (caches_seen ⟦<dyn Shelf as Shelf>⟧ caches.old)) result
+        (world_and_caches (seen W.World world.new) (caches_seen ⟦<dyn Shelf as Shelf>⟧ caches.new)) }
+    ensures count { IfOk result (λ after. length after.gone + length caches.new.places
+        ≡ length restored.gone + length caches.old.places) }
 {
     match part {
         RestoreRow::Nothing => Ok(restored),
         RestoreRow::Meta => restore_document(alloc, world, folder, row, false, restored),
-        RestoreRow::Both => restore_contents(alloc, world, shelves, places, folder, row, restored),
+        RestoreRow::Both => restore_contents(alloc, world, caches, folder, row, restored),
     }
 }
 
@@ -161,8 +143,7 @@ fn restore_part<W: World>(
 fn restore_layer<W: World>(
     alloc: Global,
     world: &mut W,
-    shelves: &mut Shelves,
-    places: &mut List<u32>,
+    caches: &mut Caches,
     folder: &Path,
     app: &[&LayerRow],
     cache: &[&LayerRow],
@@ -170,23 +151,19 @@ fn restore_layer<W: World>(
     restored: Restored,
 ) -> Result<Restored, RestoreFault>
     requires short { length folder.now ≤ 4352 }
-    requires standing { AreStanding places.old (map (λ s. state_of (held s) (rows s) (faults s)) shelves.old.items) }
-    requires few { length restored.gone + length places.old < 2 ^ 32 }
+    requires few { length restored.gone + length caches.old.places < 2 ^ 32 }
     ensures step { restores_layer folder.now (map (λ row. row.now) app.now) (map (λ row. row.now) cache.now) name.now
         restored
-        (world_and_caches (seen W.World world.old)
-        (caches_of (map (λ s. state_of (held s) (rows s) (faults s)) shelves.old.items) places.old)) result
-        (world_and_caches (seen W.World world.new)
-        (caches_of (map (λ s. state_of (held s) (rows s) (faults s)) shelves.new.items) places.new)) }
-    ensures again { AreStanding places.new (map (λ s. state_of (held s) (rows s) (faults s)) shelves.new.items) }
-    ensures count { IfOk result (λ after. length after.gone + length places.new
-        ≡ length restored.gone + length places.old) }
+        (world_and_caches (seen W.World world.old) (caches_seen ⟦<dyn Shelf as Shelf>⟧ caches.old)) result
+        (world_and_caches (seen W.World world.new) (caches_seen ⟦<dyn Shelf as Shelf>⟧ caches.new)) }
+    ensures count { IfOk result (λ after. length after.gone + length caches.new.places
+        ≡ length restored.gone + length caches.old.places) }
 {
     let app = row_of(name, app);
     let cache = row_of(name, cache);
     let part = restored_part(app, cache);
     match source_of(app, cache) {
-        Some(row) => restore_part(alloc, world, shelves, places, folder, row, part, restored),
+        Some(row) => restore_part(alloc, world, caches, folder, row, part, restored),
         None => Ok(restored),
     }
 }
@@ -195,8 +172,7 @@ fn restore_layer<W: World>(
 fn restore_each<W: World>(
     alloc: Global,
     world: &mut W,
-    shelves: &mut Shelves,
-    places: &mut List<u32>,
+    caches: &mut Caches,
     folder: &Path,
     app: &[&LayerRow],
     cache: &[&LayerRow],
@@ -204,23 +180,17 @@ fn restore_each<W: World>(
     restored: Restored,
 ) -> Result<Restored, RestoreFault>
     requires short { length folder.now ≤ 4352 }
-    requires standing { AreStanding places.old (map (λ s. state_of (held s) (rows s) (faults s)) shelves.old.items) }
-    requires few { length restored.gone + length places.old < 2 ^ 32 }
+    requires few { length restored.gone + length caches.old.places < 2 ^ 32 }
     ensures step { restores_each folder.now (map (λ row. row.now) app.now) (map (λ row. row.now) cache.now)
         (map (λ name. name.now) names.now) restored
-        (world_and_caches (seen W.World world.old)
-        (caches_of (map (λ s. state_of (held s) (rows s) (faults s)) shelves.old.items) places.old)) result
-        (world_and_caches (seen W.World world.new)
-        (caches_of (map (λ s. state_of (held s) (rows s) (faults s)) shelves.new.items) places.new)) }
-    ensures again { AreStanding places.new (map (λ s. state_of (held s) (rows s) (faults s)) shelves.new.items) }
-    ensures count { IfOk result (λ after. length after.gone + length places.new
-        ≡ length restored.gone + length places.old) }
+        (world_and_caches (seen W.World world.old) (caches_seen ⟦<dyn Shelf as Shelf>⟧ caches.old)) result
+        (world_and_caches (seen W.World world.new) (caches_seen ⟦<dyn Shelf as Shelf>⟧ caches.new)) }
+    ensures count { IfOk result (λ after. length after.gone + length caches.new.places
+        ≡ length restored.gone + length caches.old.places) }
 {
     let mut so_far = restored;
     for name in names {
-        so_far = restore_layer(
-            alloc, world, shelves, places, folder, app, cache, name, so_far,
-        )?;
+        so_far = restore_layer(alloc, world, caches, folder, app, cache, name, so_far)?;
     }
     Ok(so_far)
 }
@@ -229,28 +199,21 @@ fn restore_each<W: World>(
 pub(crate) fn restore_layers<W: World>(
     alloc: Global,
     world: &mut W,
-    shelves: &mut Shelves,
-    places: &mut List<u32>,
+    caches: &mut Caches,
     folder: &Path,
     app: &[&LayerRow],
     cache: &[&LayerRow],
     restored: Restored,
 ) -> Result<Restored, RestoreFault>
     requires short { length folder.now ≤ 4352 }
-    requires standing { AreStanding places.old (map (λ s. state_of (held s) (rows s) (faults s)) shelves.old.items) }
-    requires few { length restored.gone + length places.old < 2 ^ 32 }
+    requires few { length restored.gone + length caches.old.places < 2 ^ 32 }
     ensures step { restores_layers folder.now (map (λ row. row.now) app.now) (map (λ row. row.now) cache.now)
         restored
-        (world_and_caches (seen W.World world.old)
-        (caches_of (map (λ s. state_of (held s) (rows s) (faults s)) shelves.old.items) places.old)) result
-        (world_and_caches (seen W.World world.new)
-        (caches_of (map (λ s. state_of (held s) (rows s) (faults s)) shelves.new.items) places.new)) }
-    ensures again { AreStanding places.new (map (λ s. state_of (held s) (rows s) (faults s)) shelves.new.items) }
-    ensures count { IfOk result (λ after. length after.gone + length places.new
-        ≡ length restored.gone + length places.old) }
+        (world_and_caches (seen W.World world.old) (caches_seen ⟦<dyn Shelf as Shelf>⟧ caches.old)) result
+        (world_and_caches (seen W.World world.new) (caches_seen ⟦<dyn Shelf as Shelf>⟧ caches.new)) }
+    ensures count { IfOk result (λ after. length after.gone + length caches.new.places
+        ≡ length restored.gone + length caches.old.places) }
 {
     let names = layer_names(alloc, app, cache)?;
-    restore_each(
-        alloc, world, shelves, places, folder, app, cache, &names, restored,
-    )
+    restore_each(alloc, world, caches, folder, app, cache, &names, restored)
 }

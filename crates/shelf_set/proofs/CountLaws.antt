@@ -1,5 +1,5 @@
 -- Steps over a world and its caches: what holds of what is seen of the world, by what ended them.
-use Rattle.std.proofs.Common.{◌≡◌, refl, sym, ap, subst, ℕ, Bool, List, Option, Some, None, Result, Ok, Err}
+use Rattle.std.proofs.Common.{◌≡◌, sym, subst, ℕ, Bool, List, Option, Some, None, Result, Ok, Err}
 use Rattle.tree_canon.specs.declared.node.Node.{Node}
 use Rattle.image_docs.specs.declared.layer_row.LayerRow.{LayerRow}
 use Rattle.steps.specs.Causes.{Cause, FileFailed, ChildFailed, OutOfMemory, Decided}

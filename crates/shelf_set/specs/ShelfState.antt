@@ -1,6 +1,8 @@
 -- What contracts see of a shelf.
-use Rattle.std.specs.Prelude.{ℕ, List, Option}
+use Rattle.std.specs.Prelude.{ℕ, List, Option, map}
+use Rattle.std.specs.declared.dyn_box.DynBox.{DynBox}
 use Rattle.cnb_world.specs.Shelf.{Held}
+use Rattle.cnb_world.specs.declared.shelf.Shelf as shelf
 
 -- what it tells, and its count of faults
 pub record ShelfState : Type 0 where
@@ -10,3 +12,11 @@ pub record ShelfState : Type 0 where
 
 abbrev pub state_of : Option Held → Option (List ℕ) → ℕ → ShelfState
 state_of h r f = record { held = h; rows = r; faults = f }
+
+-- what contracts see of a shelf
+abbrev pub shelf_seen : {H : Type 0} → shelf.Ghosts H → H → ShelfState
+shelf_seen ghosts h = state_of (ghosts.held h) (ghosts.rows h) (ghosts.faults h)
+
+-- of boxed shelves, each with its own calls
+abbrev pub shelves_seen : {X Z : Type 0} {F : X → Type 0} → ((x : X) → shelf.Ghosts (F x)) → List (DynBox X Z F) → List ShelfState
+shelves_seen ghosts boxes = map (λ box. shelf_seen (ghosts box.vtable) box.value) boxes

@@ -1,6 +1,6 @@
 // One shelf is asked.
-ghost use Rattle.std.specs.Prelude.{◌<◌, length, map};
-ghost use Rattle.shelf_set.specs.ShelfState.{ShelfState, state_of};
+ghost use Rattle.std.specs.Prelude.{◌<◌, length};
+ghost use Rattle.shelf_set.specs.ShelfState.{ShelfState, state_of, shelves_seen};
 ghost use Rattle.shelf_set.specs.Turns.{Replaces};
 ghost use Rattle.shelf_set.specs.Searching.{Asks};
 
@@ -22,8 +22,8 @@ pub(crate) fn ask_at(
 ) -> Result<Option<Bytes>, ShelfFault>
     requires { at < length shelves.old.items }
     ensures { (before : ShelfState) × (after : ShelfState)
-        × Replaces (map (λ s. state_of (held s) (rows s) (faults s)) shelves.old.items) at before after
-        (map (λ s. state_of (held s) (rows s) (faults s)) shelves.new.items)
+        × Replaces (shelves_seen ⟦<dyn Shelf as Shelf>⟧ shelves.old.items) at before after
+        (shelves_seen ⟦<dyn Shelf as Shelf>⟧ shelves.new.items)
         × Asks digest.now result before after }
 {
     ask(&mut shelves[at], digest)

@@ -3,11 +3,11 @@ ghost use Rattle.std.specs.Prelude.{◌≡◌, IfOk, OnErr, map};
 ghost use Rattle.image_docs.specs.CacheRows.{is_cache_doc};
 ghost use Rattle.shelf_set.specs.Caching.{digest_of_row, digest_of_tree, spelled, StoresRows, StoresSomeRows};
 ghost use Rattle.shelf_set.specs.Dropping.{AreStanding};
-ghost use Rattle.shelf_set.specs.ShelfState.{state_of};
+ghost use Rattle.shelf_set.specs.ShelfState.{shelves_seen};
 
 use crate::storing::{TreeBytes, put_all};
 use crate::turns::Shelves;
-use cnb_world::{List, Memory};
+use cnb_world::{List, Memory, Shelf};
 use image_docs::{CacheDoc, LayerRow, write_cache};
 use std::alloc::Global;
 use tree_canon::{Tree, encode};
@@ -37,16 +37,15 @@ pub fn store_all(
     layers: &CacheDoc,
     trees: &List<Tree>,
 ) -> Result<List<u32>, Memory>
-    requires standing { AreStanding places.old
-        (map (λ s. state_of (held s) (rows s) (faults s)) shelves.old.items) }
+    requires standing { AreStanding places.old (shelves_seen ⟦<dyn Shelf as Shelf>⟧ shelves.old.items) }
     requires trees { map digest_of_row layers.now ≡ map digest_of_tree trees.now }
     ensures stores { IfOk result (λ gone. StoresRows (is_cache_doc layers.now) layers.now trees.now
-        (map (λ s. state_of (held s) (rows s) (faults s)) shelves.old.items) places.old
-        (map (λ s. state_of (held s) (rows s) (faults s)) shelves.new.items) places.new gone) }
+        (shelves_seen ⟦<dyn Shelf as Shelf>⟧ shelves.old.items) places.old
+        (shelves_seen ⟦<dyn Shelf as Shelf>⟧ shelves.new.items) places.new gone) }
     ensures memory { OnErr result (StoresSomeRows (is_cache_doc layers.now) layers.now trees.now
-        (map (λ s. state_of (held s) (rows s) (faults s)) shelves.old.items) places.old
-        (map (λ s. state_of (held s) (rows s) (faults s)) shelves.new.items) places.new) }
-    ensures again { AreStanding places.new (map (λ s. state_of (held s) (rows s) (faults s)) shelves.new.items) }
+        (shelves_seen ⟦<dyn Shelf as Shelf>⟧ shelves.old.items) places.old
+        (shelves_seen ⟦<dyn Shelf as Shelf>⟧ shelves.new.items) places.new) }
+    ensures again { AreStanding places.new (shelves_seen ⟦<dyn Shelf as Shelf>⟧ shelves.new.items) }
 {
     let document = write_cache(alloc, layers)?;
     let spelled = spell(alloc, layers.as_slice(), trees.as_slice())?;

@@ -1,6 +1,6 @@
 // Finding a tree.
-ghost use Rattle.std.specs.Prelude.{IfOk, OnErr, map};
-ghost use Rattle.shelf_set.specs.ShelfState.{state_of};
+ghost use Rattle.std.specs.Prelude.{IfOk, OnErr};
+ghost use Rattle.shelf_set.specs.ShelfState.{shelves_seen};
 ghost use Rattle.shelf_set.specs.Dropping.{AreStanding};
 ghost use Rattle.shelf_set.specs.Finding.{IsFound, Finds, LeavesSearched};
 
@@ -53,15 +53,15 @@ pub fn find(
     places: &mut List<u32>,
     digest: &Digest,
 ) -> Result<Search, Memory>
-    requires { AreStanding places.old (map (λ s. state_of (held s) (rows s) (faults s)) shelves.old.items) }
+    requires { AreStanding places.old (shelves_seen ⟦<dyn Shelf as Shelf>⟧ shelves.old.items) }
     ensures finds { IfOk result (λ search. Finds
-        (map (λ s. state_of (held s) (rows s) (faults s)) shelves.old.items) places.old
+        (shelves_seen ⟦<dyn Shelf as Shelf>⟧ shelves.old.items) places.old
         digest.now search.found
-        (map (λ s. state_of (held s) (rows s) (faults s)) shelves.new.items) places.new search.gone) }
+        (shelves_seen ⟦<dyn Shelf as Shelf>⟧ shelves.new.items) places.new search.gone) }
     ensures memory { OnErr result (LeavesSearched
-        (map (λ s. state_of (held s) (rows s) (faults s)) shelves.old.items) places.old digest.now
-        (map (λ s. state_of (held s) (rows s) (faults s)) shelves.new.items) places.new) }
-    ensures again { AreStanding places.new (map (λ s. state_of (held s) (rows s) (faults s)) shelves.new.items) }
+        (shelves_seen ⟦<dyn Shelf as Shelf>⟧ shelves.old.items) places.old digest.now
+        (shelves_seen ⟦<dyn Shelf as Shelf>⟧ shelves.new.items) places.new) }
+    ensures again { AreStanding places.new (shelves_seen ⟦<dyn Shelf as Shelf>⟧ shelves.new.items) }
 {
     let mut numbers = mem::replace(places, List::new(alloc)).into_vec();
     let Searched { found, standing } = search(shelves, &mut numbers, digest.bytes());

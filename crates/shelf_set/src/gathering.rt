@@ -1,10 +1,10 @@
 // Gathering rows.
-ghost use Rattle.std.specs.Prelude.{◌≡◌, ◌++◌, ◌∷◌, [], IfOk, List, OnErr, OnOk, fold, map, not, unwrap_or};
+ghost use Rattle.std.specs.Prelude.{◌≡◌, ◌++◌, ◌∷◌, [], IfOk, List, OnErr, OnOk, fold, not, unwrap_or};
 ghost use Rattle.std.specs.HashSet.{contains};
 ghost use Rattle.cnb_toml.specs.Distinct.{HasKeysOf};
 ghost use Rattle.image_docs.specs.LayerRow.{layer_key, same_layer};
 ghost use Rattle.image_docs.specs.declared.layer_row.LayerRow.{LayerRow};
-ghost use Rattle.shelf_set.specs.ShelfState.{state_of};
+ghost use Rattle.shelf_set.specs.ShelfState.{shelves_seen};
 ghost use Rattle.shelf_set.specs.Dropping.{AreStanding};
 ghost use Rattle.shelf_set.specs.Finding.{LeavesSame};
 ghost use Rattle.shelf_set.specs.Gathering.{Gathers, all_rows, first_rows, unread_of, with_row};
@@ -118,15 +118,15 @@ pub fn gather(
     shelves: &mut Shelves,
     places: &mut List<u32>,
 ) -> Result<Gathered, Memory>
-    requires { AreStanding places.old (map (λ s. state_of (held s) (rows s) (faults s)) shelves.old.items) }
+    requires { AreStanding places.old (shelves_seen ⟦<dyn Shelf as Shelf>⟧ shelves.old.items) }
     ensures gathers { IfOk result (λ gathered. Gathers
-        (map (λ s. state_of (held s) (rows s) (faults s)) shelves.old.items) places.old
+        (shelves_seen ⟦<dyn Shelf as Shelf>⟧ shelves.old.items) places.old
         gathered
-        (map (λ s. state_of (held s) (rows s) (faults s)) shelves.new.items) places.new) }
+        (shelves_seen ⟦<dyn Shelf as Shelf>⟧ shelves.new.items) places.new) }
     ensures memory { OnErr result (LeavesSame
-        (map (λ s. state_of (held s) (rows s) (faults s)) shelves.old.items) places.old
-        (map (λ s. state_of (held s) (rows s) (faults s)) shelves.new.items) places.new) }
-    ensures again { AreStanding places.new (map (λ s. state_of (held s) (rows s) (faults s)) shelves.new.items) }
+        (shelves_seen ⟦<dyn Shelf as Shelf>⟧ shelves.old.items) places.old
+        (shelves_seen ⟦<dyn Shelf as Shelf>⟧ shelves.new.items) places.new) }
+    ensures again { AreStanding places.new (shelves_seen ⟦<dyn Shelf as Shelf>⟧ shelves.new.items) }
 {
     let mut numbers = mem::replace(places, List::new(alloc)).into_vec();
     let GivenEach { given, standing } = give_each(alloc, shelves, &mut numbers);

@@ -1,6 +1,6 @@
 // The rows that one shelf after another gives.
-ghost use Rattle.std.specs.Prelude.{◌≡◌, ◌<◌, IfOk, length, map, slice_index};
-ghost use Rattle.shelf_set.specs.ShelfState.{ShelfState, state_of};
+ghost use Rattle.std.specs.Prelude.{◌≡◌, ◌<◌, IfOk, length, slice_index};
+ghost use Rattle.shelf_set.specs.ShelfState.{ShelfState, state_of, shelves_seen};
 ghost use Rattle.shelf_set.specs.Dropping.{AreStanding};
 ghost use Rattle.shelf_set.specs.Turns.{Replaces, TakesTurn, is_failed};
 ghost use Rattle.shelf_set.specs.Gathering.{document_rows};
@@ -116,8 +116,8 @@ fn give_at(
 ) -> Result<(), ShelfFault>
     requires { at < length shelves.old.items }
     ensures { (before : ShelfState) × (after : ShelfState)
-        × Replaces (map (λ s. state_of (held s) (rows s) (faults s)) shelves.old.items) at before after
-        (map (λ s. state_of (held s) (rows s) (faults s)) shelves.new.items)
+        × Replaces (shelves_seen ⟦<dyn Shelf as Shelf>⟧ shelves.old.items) at before after
+        (shelves_seen ⟦<dyn Shelf as Shelf>⟧ shelves.new.items)
         × GivesMore number given.old result given.new before after }
 {
     give_more(alloc, &mut shelves[at], number, given)
@@ -133,9 +133,9 @@ fn take_turn(
     requires within { at.old < length shelves.old.items }
     requires numbered { at.old < length numbers.old.items }
     ensures { TakesTurn
-        (map (λ s. state_of (held s) (rows s) (faults s)) shelves.old.items) numbers.old.items at.old
+        (shelves_seen ⟦<dyn Shelf as Shelf>⟧ shelves.old.items) numbers.old.items at.old
         (GivesMore (slice_index numbers.old.items at.old) given.old result given.new) (is_failed result)
-        (map (λ s. state_of (held s) (rows s) (faults s)) shelves.new.items) numbers.new.items at.new }
+        (shelves_seen ⟦<dyn Shelf as Shelf>⟧ shelves.new.items) numbers.new.items at.new }
 {
     let number = numbers[*at];
     let answer = give_at(alloc, shelves, *at, number, given);
@@ -152,11 +152,11 @@ pub(crate) struct GivenEach {
 
 /// Asks one shelf after another for its rows, until memory runs out.
 pub(crate) fn give_each(alloc: Global, shelves: &mut Shelves, numbers: &mut Vec<u32>) -> GivenEach
-    requires { AreStanding numbers.old.items (map (λ s. state_of (held s) (rows s) (faults s)) shelves.old.items) }
+    requires { AreStanding numbers.old.items (shelves_seen ⟦<dyn Shelf as Shelf>⟧ shelves.old.items) }
     ensures { GivesEach
-        (map (λ s. state_of (held s) (rows s) (faults s)) shelves.old.items) numbers.old.items
+        (shelves_seen ⟦<dyn Shelf as Shelf>⟧ shelves.old.items) numbers.old.items
         result.given
-        (map (λ s. state_of (held s) (rows s) (faults s)) shelves.new.items) numbers.new.items result.standing }
+        (shelves_seen ⟦<dyn Shelf as Shelf>⟧ shelves.new.items) numbers.new.items result.standing }
 {
     let count = numbers.len();
     let mut given = List::new(alloc);

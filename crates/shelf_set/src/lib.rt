@@ -4,6 +4,7 @@
 #![tactic(auto)]
 
 mod ask;
+mod caches;
 mod caching;
 mod finding;
 mod gathering;
@@ -12,6 +13,7 @@ mod searching;
 mod storing;
 mod turns;
 
+pub use caches::Caches;
 pub use caching::store_all;
 pub use finding::{Found, Search, find};
 pub use gathering::{Gathered, gather};

@@ -1,6 +1,6 @@
 // Searching the shelves that stand for bytes.
-ghost use Rattle.std.specs.Prelude.{◌<◌, length, map};
-ghost use Rattle.shelf_set.specs.ShelfState.{state_of};
+ghost use Rattle.std.specs.Prelude.{◌<◌, length};
+ghost use Rattle.shelf_set.specs.ShelfState.{shelves_seen};
 ghost use Rattle.shelf_set.specs.Dropping.{AreStanding};
 ghost use Rattle.shelf_set.specs.Turns.{TakesTurn, is_failed};
 ghost use Rattle.shelf_set.specs.Searching.{Asks, Searches};
@@ -18,9 +18,9 @@ fn take_turn(
     requires within { at.old < length shelves.old.items }
     requires numbered { at.old < length numbers.old.items }
     ensures { TakesTurn
-        (map (λ s. state_of (held s) (rows s) (faults s)) shelves.old.items) numbers.old.items at.old
+        (shelves_seen ⟦<dyn Shelf as Shelf>⟧ shelves.old.items) numbers.old.items at.old
         (Asks digest.now result) (is_failed result)
-        (map (λ s. state_of (held s) (rows s) (faults s)) shelves.new.items) numbers.new.items at.new }
+        (shelves_seen ⟦<dyn Shelf as Shelf>⟧ shelves.new.items) numbers.new.items at.new }
 {
     let answer = ask_at(shelves, *at, digest);
     let failed = has_failed(&answer);
@@ -36,11 +36,11 @@ pub(crate) struct Searched {
 
 /// Asks one shelf after another, until one holds the digest or memory runs out.
 pub(crate) fn search(shelves: &mut Shelves, numbers: &mut Vec<u32>, digest: &[u8; 32]) -> Searched
-    requires { AreStanding numbers.old.items (map (λ s. state_of (held s) (rows s) (faults s)) shelves.old.items) }
+    requires { AreStanding numbers.old.items (shelves_seen ⟦<dyn Shelf as Shelf>⟧ shelves.old.items) }
     ensures { Searches
-        (map (λ s. state_of (held s) (rows s) (faults s)) shelves.old.items) numbers.old.items
+        (shelves_seen ⟦<dyn Shelf as Shelf>⟧ shelves.old.items) numbers.old.items
         digest.now result.found
-        (map (λ s. state_of (held s) (rows s) (faults s)) shelves.new.items) numbers.new.items result.standing }
+        (shelves_seen ⟦<dyn Shelf as Shelf>⟧ shelves.new.items) numbers.new.items result.standing }
 {
     let count = numbers.len();
     let mut at = 0usize;

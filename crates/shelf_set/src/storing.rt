@@ -1,6 +1,6 @@
 // Storing trees.
-ghost use Rattle.std.specs.Prelude.{◌<◌, IfOk, OnErr, length, map};
-ghost use Rattle.shelf_set.specs.ShelfState.{ShelfState, state_of};
+ghost use Rattle.std.specs.Prelude.{◌<◌, IfOk, OnErr, length};
+ghost use Rattle.shelf_set.specs.ShelfState.{ShelfState, state_of, shelves_seen};
 ghost use Rattle.shelf_set.specs.Dropping.{AreStanding};
 ghost use Rattle.shelf_set.specs.Turns.{Replaces, TakesTurn, is_failed};
 ghost use Rattle.shelf_set.specs.Storing.{StoresAll, StoresSome};
@@ -54,8 +54,8 @@ fn store_at(
 ) -> Result<(), ShelfFault>
     requires { at < length shelves.old.items }
     ensures { (before : ShelfState) × (after : ShelfState)
-        × Replaces (map (λ s. state_of (held s) (rows s) (faults s)) shelves.old.items) at before after
-        (map (λ s. state_of (held s) (rows s) (faults s)) shelves.new.items)
+        × Replaces (shelves_seen ⟦<dyn Shelf as Shelf>⟧ shelves.old.items) at before after
+        (shelves_seen ⟦<dyn Shelf as Shelf>⟧ shelves.new.items)
         × Stores trees.now document.now result before after }
 {
     store(&mut shelves[at], trees, document)
@@ -71,9 +71,9 @@ fn take_turn(
     requires within { at.old < length shelves.old.items }
     requires numbered { at.old < length numbers.old.items }
     ensures { TakesTurn
-        (map (λ s. state_of (held s) (rows s) (faults s)) shelves.old.items) numbers.old.items at.old
+        (shelves_seen ⟦<dyn Shelf as Shelf>⟧ shelves.old.items) numbers.old.items at.old
         (Stores trees.now document.now result) (is_failed result)
-        (map (λ s. state_of (held s) (rows s) (faults s)) shelves.new.items) numbers.new.items at.new }
+        (shelves_seen ⟦<dyn Shelf as Shelf>⟧ shelves.new.items) numbers.new.items at.new }
 {
     let answer = store_at(shelves, *at, trees, document);
     let failed = has_failed(&answer);
@@ -94,11 +94,11 @@ fn store_each(
     trees: &[TreeBytes],
     document: &[u8],
 ) -> Stored
-    requires { AreStanding numbers.old.items (map (λ s. state_of (held s) (rows s) (faults s)) shelves.old.items) }
+    requires { AreStanding numbers.old.items (shelves_seen ⟦<dyn Shelf as Shelf>⟧ shelves.old.items) }
     ensures { StoresEach trees.now document.now
-        (map (λ s. state_of (held s) (rows s) (faults s)) shelves.old.items) numbers.old.items
+        (shelves_seen ⟦<dyn Shelf as Shelf>⟧ shelves.old.items) numbers.old.items
         result.memory
-        (map (λ s. state_of (held s) (rows s) (faults s)) shelves.new.items) numbers.new.items result.standing }
+        (shelves_seen ⟦<dyn Shelf as Shelf>⟧ shelves.new.items) numbers.new.items result.standing }
 {
     let count = numbers.len();
     let mut at = 0usize;
@@ -129,14 +129,14 @@ pub(crate) fn put_all(
     trees: &[TreeBytes],
     document: &[u8],
 ) -> Result<List<u32>, Memory>
-    requires { AreStanding places.old (map (λ s. state_of (held s) (rows s) (faults s)) shelves.old.items) }
+    requires { AreStanding places.old (shelves_seen ⟦<dyn Shelf as Shelf>⟧ shelves.old.items) }
     ensures stores { IfOk result (λ gone. StoresAll trees.now document.now
-        (map (λ s. state_of (held s) (rows s) (faults s)) shelves.old.items) places.old
-        (map (λ s. state_of (held s) (rows s) (faults s)) shelves.new.items) places.new gone) }
+        (shelves_seen ⟦<dyn Shelf as Shelf>⟧ shelves.old.items) places.old
+        (shelves_seen ⟦<dyn Shelf as Shelf>⟧ shelves.new.items) places.new gone) }
     ensures memory { OnErr result (StoresSome trees.now document.now
-        (map (λ s. state_of (held s) (rows s) (faults s)) shelves.old.items) places.old
-        (map (λ s. state_of (held s) (rows s) (faults s)) shelves.new.items) places.new) }
-    ensures again { AreStanding places.new (map (λ s. state_of (held s) (rows s) (faults s)) shelves.new.items) }
+        (shelves_seen ⟦<dyn Shelf as Shelf>⟧ shelves.old.items) places.old
+        (shelves_seen ⟦<dyn Shelf as Shelf>⟧ shelves.new.items) places.new) }
+    ensures again { AreStanding places.new (shelves_seen ⟦<dyn Shelf as Shelf>⟧ shelves.new.items) }
 {
     let mut numbers = mem::replace(places, List::new(alloc)).into_vec();
     let Stored { memory, standing } = store_each(shelves, &mut numbers, trees, document);

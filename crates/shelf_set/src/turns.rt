@@ -1,6 +1,6 @@
 // Shelves one after another.
-ghost use Rattle.std.specs.Prelude.{◌≡◌, ◌<◌, ◌≤◌, IfOk, drop, length, map, take};
-ghost use Rattle.shelf_set.specs.ShelfState.{state_of};
+ghost use Rattle.std.specs.Prelude.{◌≡◌, ◌<◌, ◌≤◌, IfOk, drop, length, take};
+ghost use Rattle.shelf_set.specs.ShelfState.{shelves_seen};
 ghost use Rattle.shelf_set.specs.Turns.{MovesLast, Settles, is_failed};
 
 use cnb_world::{List, Memory, Shelf, ShelfFault};
@@ -30,8 +30,8 @@ pub(crate) fn settle(shelves: &mut Shelves, numbers: &mut Vec<u32>, at: &mut usi
     requires within { at.old < length shelves.old.items }
     requires numbered { at.old < length numbers.old.items }
     ensures { Settles failed
-        (map (λ s. state_of (held s) (rows s) (faults s)) shelves.old.items) numbers.old.items at.old
-        (map (λ s. state_of (held s) (rows s) (faults s)) shelves.new.items) numbers.new.items at.new }
+        (shelves_seen ⟦<dyn Shelf as Shelf>⟧ shelves.old.items) numbers.old.items at.old
+        (shelves_seen ⟦<dyn Shelf as Shelf>⟧ shelves.new.items) numbers.new.items at.new }
 {
     if failed {
         move_last(shelves, *at);

@@ -2,7 +2,7 @@ use Rattle.std.proofs.Common.{ap, refl, sym, Ok}
 use Rattle.std.proofs.lemmas.Result.{err_from_is_err_and}
 use Rattle.steps.proofs.StepLemmas.{ended, given, no_memory, went}
 use Rattle.tree_store.specs.declared.fault.StoreFault.TheVariants as stored
-use Rattle.cnb_export.specs.declared.fault.ExportFault.TheVariants.{Store}
+use Rattle.cnb_layers.specs.declared.fault.ExportFault.TheVariants.{Store}
 use Rattle.cnb_create.specs.Creates.{exports_image}
 use Rattle.cnb_create.proofs.exporting.export_image.Goals as goal
 

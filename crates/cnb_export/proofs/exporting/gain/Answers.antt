@@ -1,7 +1,7 @@
 use Rattle.std.proofs.lemmas.Result.{err_from_is_err_and}
 use Rattle.steps.proofs.StepLemmas.{ended, went}
 use Rattle.cnb_export.specs.Exports.{gains, gains_over}
-use Rattle.cnb_export.proofs.ReadSteps.{same_for}
+use Rattle.cnb_layers.proofs.ReadSteps.{same_for}
 use Rattle.cnb_export.proofs.exporting.gain.Goals as goal
 
 pub returns-in_err-run-clause-step : goal.returns-in_err-run-clause-step

@@ -2,9 +2,9 @@ use Rattle.std.proofs.Common.{ap, refl, sym, Ok}
 use Rattle.std.proofs.lemmas.Result.{err_from_is_err_and}
 use Rattle.steps.proofs.StepLemmas.{ended, given, no_memory, went}
 use Rattle.tree_store.specs.declared.fault.StoreFault.TheVariants as stored
-use Rattle.cnb_export.specs.declared.fault.ExportFault.TheVariants.{Store}
+use Rattle.cnb_layers.specs.declared.fault.ExportFault.TheVariants.{Store}
 use Rattle.cnb_export.specs.Given.{reads_needed}
-use Rattle.cnb_export.proofs.ReadSteps.{given_answer}
+use Rattle.cnb_layers.proofs.ReadSteps.{given_answer}
 use Rattle.cnb_export.proofs.given.find_analyzed.Goals as goal
 
 pub returns-in_err-path : goal.returns-in_err-path

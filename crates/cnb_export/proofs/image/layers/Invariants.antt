@@ -1,5 +1,5 @@
 use Rattle.std.proofs.Common.{◌≡◌, map, take}
-use Rattle.cnb_export.specs.Image.{layer_of}
+use Rattle.cnb_layers.specs.Gathering.{layer_of}
 use Rattle.cnb_export.proofs.image.layers.Given as goal
 
 abbrev pub invariant-loop-layer : goal.invariant-loop-layer

@@ -1,7 +1,7 @@
 use Rattle.std.proofs.lemmas.Result.{err_from_is_err_and}
 use Rattle.steps.proofs.StepLemmas.{ended, mapped, mapped_fault, went, yielded}
-use Rattle.cnb_export.specs.declared.fault.ExportFault.{ExportFault}
-use Rattle.cnb_export.specs.Refusals.{of_image_fault}
+use Rattle.cnb_layers.specs.declared.fault.ExportFault.{ExportFault}
+use Rattle.cnb_layers.specs.Refusals.{of_image_fault}
 use Rattle.cnb_export.specs.Images.{reads_layers}
 use Rattle.cnb_export.proofs.images.read_layers.Goals as goal
 

@@ -1,6 +1,6 @@
 use Rattle.std.proofs.lemmas.Result.{err_from_is_err_and}
 use Rattle.steps.proofs.StepLemmas.{mapped, mapped_fault}
-use Rattle.cnb_export.specs.Refusals.{of_image_fault}
+use Rattle.cnb_layers.specs.Refusals.{of_image_fault}
 use Rattle.cnb_export.proofs.images.read_run_image.Goals as goal
 
 pub returns-in_err-run-clause-step : goal.returns-in_err-run-clause-step

@@ -1,7 +1,7 @@
 use Rattle.std.proofs.Common.{ℕ, List, [], drop, length, Result}
 use Rattle.steps.specs.Each.{for_each}
 use Rattle.steps.specs.Outside.{Seen, seen}
-use Rattle.cnb_export.specs.declared.fault.ExportFault.{ExportFault}
+use Rattle.cnb_layers.specs.declared.fault.ExportFault.{ExportFault}
 use Rattle.cnb_export.specs.Trees.{puts_part}
 use Rattle.cnb_export.proofs.trees.put_each.Given as goal
 

@@ -1,7 +1,7 @@
 use Rattle.std.proofs.lemmas.Result.{err_from_is_err_and}
 use Rattle.steps.proofs.StepLemmas.{ended, given, given_fault, mapped, mapped_fault, went, yielded}
-use Rattle.cnb_export.specs.declared.fault.ExportFault.{ExportFault}
-use Rattle.cnb_export.specs.declared.fault.ExportFault.TheVariants.{Store}
+use Rattle.cnb_layers.specs.declared.fault.ExportFault.{ExportFault}
+use Rattle.cnb_layers.specs.declared.fault.ExportFault.TheVariants.{Store}
 use Rattle.cnb_export.specs.Trees.{puts_links}
 use Rattle.cnb_export.proofs.trees.put_links.Goals as goal
 

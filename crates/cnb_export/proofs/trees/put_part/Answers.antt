@@ -2,7 +2,7 @@ use Rattle.std.proofs.Common.{ap, refl, sym, Ok}
 use Rattle.std.proofs.lemmas.Result.{err_from_is_err_and}
 use Rattle.steps.proofs.StepLemmas.{ended, given, mapped, mapped_fault, no_memory, went}
 use Rattle.tree_store.specs.declared.fault.StoreFault.TheVariants as stored
-use Rattle.cnb_export.specs.declared.fault.ExportFault.TheVariants.{Store}
+use Rattle.cnb_layers.specs.declared.fault.ExportFault.TheVariants.{Store}
 use Rattle.cnb_export.specs.Trees.{puts_part}
 use Rattle.cnb_export.proofs.trees.put_part.Goals as goal
 

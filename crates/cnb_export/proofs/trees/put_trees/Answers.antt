@@ -2,10 +2,10 @@ use Rattle.std.proofs.Common.{ap, refl, sym, Ok}
 use Rattle.std.proofs.lemmas.Result.{err_from_is_err_and}
 use Rattle.steps.proofs.StepLemmas.{ended, given, mapped, mapped_fault, no_memory, went, yielded}
 use Rattle.tree_store.specs.declared.fault.StoreFault.TheVariants as stored
-use Rattle.cnb_export.specs.declared.fault.ExportFault.TheVariants.{Store}
+use Rattle.cnb_layers.specs.declared.fault.ExportFault.TheVariants.{Store}
 use Rattle.cnb_export.specs.Trees.{puts_process, puts_trees}
-use Rattle.cnb_export.specs.declared.fault.ExportFault.{ExportFault}
-use Rattle.cnb_export.proofs.ReadSteps.{same_for}
+use Rattle.cnb_layers.specs.declared.fault.ExportFault.{ExportFault}
+use Rattle.cnb_layers.proofs.ReadSteps.{same_for}
 use Rattle.cnb_export.proofs.trees.put_trees.Goals as goal
 
 pub returns-in_err-app : goal.returns-in_err-app

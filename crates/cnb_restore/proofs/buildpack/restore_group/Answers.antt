@@ -14,7 +14,6 @@ pub loop-row-preserved : goal.loop-row-preserved
 unfolding restores_group
 loop-row-preserved g c = record {
   step = λ result new h. c.loop-row.invariant.step result new (goes_on _ _ _ c.row-item.result _ _ _ _ c.loop-row-test.true c.row-item.is c.in_ok-so_far.ensures.step result new h);
-  standing = c.in_ok-so_far.ensures.again;
   count = c.in_ok-so_far.ensures.count ∙ c.loop-row.invariant.count;
 }
 

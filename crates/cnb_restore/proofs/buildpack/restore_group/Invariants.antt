@@ -1,7 +1,6 @@
 use Rattle.std.proofs.Common.{◌≡◌, ◌+◌, drop, length, map, Result}
 use Rattle.shelf_set.specs.Caches.{WorldAndCaches, caches_of, world_and_caches}
-use Rattle.shelf_set.specs.Dropping.{AreStanding}
-use Rattle.shelf_set.specs.ShelfState.{state_of}
+use Rattle.shelf_set.specs.ShelfState.{shelf_seen}
 use Rattle.steps.specs.Outside.{seen}
 use Rattle.cnb_restore.specs.declared.fault.RestoreFault.{RestoreFault}
 use Rattle.cnb_restore.specs.declared.restored.Restored.{Restored}
@@ -13,9 +12,8 @@ abbrev pub invariant-loop-row : goal.invariant-loop-row
 invariant-loop-row g l = record {
   step : (result : Result Restored RestoreFault) (new : WorldAndCaches)
       → restores_group l.layers l.sources (drop l.row-index l.group) l.so_far
-      (world_and_caches (seen g.W.World l.world) (caches_of (map (λ b. state_of ((goal.Shelf-dyn g (b.vtable, b.value)).held b.value) ((goal.Shelf-dyn g (b.vtable, b.value)).rows b.value) ((goal.Shelf-dyn g (b.vtable, b.value)).faults b.value)) l.shelves.items) l.places)) result new
+      (world_and_caches (seen g.W.World l.world) (caches_of (map (λ b. shelf_seen (goal.Shelf-dyn g (b.vtable, b.value)) b.value) l.caches.shelves.items) l.caches.places)) result new
       → restores_group l.layers l.sources l.group l.fn.restored
-      (world_and_caches (seen g.W.World l.fn.world) (caches_of (map (λ b. state_of ((goal.Shelf-dyn g (b.vtable, b.value)).held b.value) ((goal.Shelf-dyn g (b.vtable, b.value)).rows b.value) ((goal.Shelf-dyn g (b.vtable, b.value)).faults b.value)) l.fn.shelves.items) l.fn.places)) result new;
-  standing : AreStanding l.places (map (λ b. state_of ((goal.Shelf-dyn g (b.vtable, b.value)).held b.value) ((goal.Shelf-dyn g (b.vtable, b.value)).rows b.value) ((goal.Shelf-dyn g (b.vtable, b.value)).faults b.value)) l.shelves.items);
-  count : length l.so_far.gone + length l.places ≡ length l.fn.restored.gone + length l.fn.places;
+      (world_and_caches (seen g.W.World l.fn.world) (caches_of (map (λ b. shelf_seen (goal.Shelf-dyn g (b.vtable, b.value)) b.value) l.fn.caches.shelves.items) l.fn.caches.places)) result new;
+  count : length l.so_far.gone + length l.caches.places ≡ length l.fn.restored.gone + length l.fn.caches.places;
 }

@@ -15,7 +15,6 @@ pub loop-name-preserved : goal.loop-name-preserved
 unfolding restores_each
 loop-name-preserved g c = record {
   step = λ result new h. c.loop-name.invariant.step result new (goes_on _ _ _ _ _ _ _ _ (text_below _ _ c.loop-name-test.true) (text_at c.args.names.now _ _ c.loop-name-test.true) c.in_ok-so_far.ensures.step result new h);
-  standing = c.in_ok-so_far.ensures.again;
   count = c.in_ok-so_far.ensures.count ∙ c.loop-name.invariant.count;
 }
 

@@ -1,0 +1,10 @@
+pub mod CountLaws
+pub mod DecidedLaws
+pub mod DistinctLaws
+pub mod FormLaws
+pub mod GatherLaws
+pub mod GroupLaws
+pub mod LeftLaws
+pub mod MatchLaws
+pub mod PatternLaws
+pub mod ReadSteps

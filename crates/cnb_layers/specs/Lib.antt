@@ -1,0 +1,9 @@
+pub mod Buildpack
+pub mod Frame
+pub mod Gathering
+pub mod Layer
+pub mod Names
+pub mod Patterns
+pub mod Reading
+pub mod Refusals
+pub mod Settling
