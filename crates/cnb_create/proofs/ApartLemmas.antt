@@ -19,8 +19,9 @@ abbrev pub Below : List ℕ → List ℕ → Type 0
 Below folder path = (rest : List ℕ) × (path ≡ folder ++ rest) × (is_slashed rest ≡ true)
 
 -- so the one lies within the other
-under : (folder path : List ℕ) → Below folder path → is_within folder path ≡ true
-under folder path (rest, is, slashed) = by (is_root folder) (ap (is_under folder) is ∙ within_more folder rest ∙ slashed)
+pub under : (folder path : List ℕ) → Below folder path → is_within folder path ≡ true
+under folder path (rest, is, slashed) = by (is_root folder)
+    (ap (is_under folder) is ∙ within_more folder rest ∙ slashed)
   where
     by : (root : Bool) → is_under folder path ≡ true → (root || is_under folder path) ≡ true
     by true h = refl
@@ -36,17 +37,34 @@ within_so folder path h = by (or_cases (is_root folder) (is_under folder path) h
   where
     begun : (bytes_eq path folder ≡ true) ⊎ (starts_with nat_eq path (folder ++ 47 ∷ []) ≡ true) → Below folder path
     begun (inl same) = ([], same_path path folder same ∙ sym (append-nil folder), refl)
-    begun (inr begins) = (47 ∷ drop (length (folder ++ 47 ∷ [])) path, (starts_is Decides-eqb path (folder ++ 47 ∷ []) _ refl).0 begins ∙ append_assoc folder (47 ∷ []) _, refl)
+    begun (inr begins) = (
+      47 ∷ drop (length (folder ++ 47 ∷ [])) path,
+      (starts_is Decides-eqb path (folder ++ 47 ∷ []) _ refl).0 begins ∙ append_assoc folder (47 ∷ []) _,
+      refl,
+    )
 
     by : (is_root folder ≡ true) ⊎ (is_under folder path ≡ true) → (is_root folder ≡ true) ⊎ Below folder path
     by (inl root) = inl root
     by (inr below) = inr (begun (or_cases (bytes_eq path folder) (starts_with nat_eq path (folder ++ 47 ∷ [])) below))
 
-never : (a : Bool) → not a ≡ true → a ≡ true → ⊥
+-- nor does the one lie within the other where it isn't below and the other isn't `/`
+pub unless_within : (folder path : List ℕ) → is_root folder ≡ false → (Below folder path → ⊥)
+    → not (is_within folder path) ≡ true
+unless_within folder path no_root lacks = by (is_within folder path) refl
+  where
+    either : (is_root folder ≡ true) ⊎ Below folder path → ⊥
+    either (inl root) = let e : true ≡ false = sym root ∙ no_root in absurd (cc)
+    either (inr below) = lacks below
+
+    by : (v : Bool) → is_within folder path ≡ v → not v ≡ true
+    by true is = absurd (either (within_so folder path is))
+    by false is = refl
+
+pub never : (a : Bool) → not a ≡ true → a ≡ true → ⊥
 never true h e = false≢true h
 never false h e = false≢true e
 
-no_root : (root rest : Bool) → not (root || rest) ≡ true → root ≡ false
+pub no_root : (root rest : Bool) → not (root || rest) ≡ true → root ≡ false
 no_root true rest h = absurd (cc)
 no_root false rest h = refl
 
@@ -89,10 +107,10 @@ one_first (x ∷ a) (y ∷ b) s t same hs ht =
     by first (inl h) = inl (longer x y a b first h)
     by first (inr h) = inr (longer y x b a (sym first) h)
 
-one_in_other : (a b path : List ℕ) → Below a path → Below b path → Below a b ⊎ Below b a
+pub one_in_other : (a b path : List ℕ) → Below a path → Below b path → Below a b ⊎ Below b a
 one_in_other a b path (s, is, hs) (t, also, ht) = one_first a b s t (sym is ∙ also) hs ht
 
-below_below : (a b path : List ℕ) → Below a b → Below b path → Below a path
+pub below_below : (a b path : List ℕ) → Below a b → Below b path → Below a path
 below_below a b path (s, is, hs) (t, also, ht) = (s ++ t, also ∙ ap (λ v. v ++ t) is ∙ append_assoc a s t, by s hs)
   where
     by : (s : List ℕ) → is_slashed s ≡ true → is_slashed (s ++ t) ≡ true
@@ -101,17 +119,25 @@ below_below a b path (s, is, hs) (t, also, ht) = (s ++ t, also ∙ ap (λ v. v +
 
 -- ---- the folders above a path
 
-above_from : (front cs path : List ℕ) → list_any (bytes_eq path) (folders_from front cs) ≡ true → Below path (front ++ cs)
+above_from : (front cs path : List ℕ) → list_any (bytes_eq path) (folders_from front cs) ≡ true
+    → Below path (front ++ cs)
 above_from front [] path h = absurd (cc)
-above_from front (c ∷ cs) path h = by (λ later. subst (Below path) (append_assoc front (c ∷ []) cs) (above_from (front ++ c ∷ []) cs path later)) (c == 47) refl (bytes_eq front []) h
+above_from front (c ∷ cs) path h = by (λ later. subst (Below path) (append_assoc front (c ∷ []) cs)
+    (above_from (front ++ c ∷ []) cs path later)) (c == 47) refl (bytes_eq front []) h
   where
-    either : (list_any (bytes_eq path) (folders_from (front ++ c ∷ []) cs) ≡ true → Below path (front ++ c ∷ cs)) → (c == 47) ≡ true → (bytes_eq path front ≡ true) ⊎ (list_any (bytes_eq path) (folders_from (front ++ c ∷ []) cs) ≡ true) → Below path (front ++ c ∷ cs)
+    either : (list_any (bytes_eq path) (folders_from (front ++ c ∷ []) cs) ≡ true → Below path (front ++ c ∷ cs))
+        → (c == 47) ≡ true → (bytes_eq path front ≡ true)
+        ⊎ (list_any (bytes_eq path) (folders_from (front ++ c ∷ []) cs) ≡ true) → Below path (front ++ c ∷ cs)
     either further slash (inl same) = (c ∷ cs, ap (λ v. v ++ c ∷ cs) (sym (same_path path front same)), slash)
     either further slash (inr h) = further h
 
-    by : (list_any (bytes_eq path) (folders_from (front ++ c ∷ []) cs) ≡ true → Below path (front ++ c ∷ cs)) → (slash : Bool) → (c == 47) ≡ slash → (none : Bool) → list_any (bytes_eq path) (cond (slash && not none) (front ∷ folders_from (front ++ c ∷ []) cs) (folders_from (front ++ c ∷ []) cs)) ≡ true → Below path (front ++ c ∷ cs)
+    by : (list_any (bytes_eq path) (folders_from (front ++ c ∷ []) cs) ≡ true → Below path (front ++ c ∷ cs))
+        → (slash : Bool) → (c == 47) ≡ slash → (none : Bool) → list_any (bytes_eq path)
+        (cond (slash && not none) (front ∷ folders_from (front ++ c ∷ []) cs) (folders_from (front ++ c ∷ []) cs))
+        ≡ true → Below path (front ++ c ∷ cs)
     by further true is true h = further h
-    by further true is false h = either further is (or_cases (bytes_eq path front) (list_any (bytes_eq path) (folders_from (front ++ c ∷ []) cs)) h)
+    by further true is false h = either further is
+        (or_cases (bytes_eq path front) (list_any (bytes_eq path) (folders_from (front ++ c ∷ []) cs)) h)
     by further false is none h = further h
 
 pub above : (path folder : List ℕ) → list_any (bytes_eq path) (folders_above folder) ≡ true → Below path folder
@@ -119,13 +145,16 @@ above path folder h = above_from [] folder path h
 
 -- one of the folders that are made for a folder
 above_or_same : (path folder : List ℕ) → list_any (bytes_eq path) (folder_paths folder) ≡ true → Below path folder
-above_or_same path folder h = by (or_cases (list_any (bytes_eq path) (folders_above folder)) (list_any (bytes_eq path) (folder ∷ [])) (sym (list_any-append (bytes_eq path) (folders_above folder) (folder ∷ [])) ∙ h))
+above_or_same path folder h = by (or_cases (list_any (bytes_eq path) (folders_above folder))
+    (list_any (bytes_eq path) (folder ∷ [])) (sym
+    (list_any-append (bytes_eq path) (folders_above folder) (folder ∷ [])) ∙ h))
   where
     same : (bytes_eq path folder ≡ true) ⊎ (list_any (bytes_eq path) [] ≡ true) → Below path folder
     same (inl e) = ([], sym (same_path path folder e) ∙ sym (append-nil path), refl)
     same (inr e) = absurd (cc)
 
-    by : (list_any (bytes_eq path) (folders_above folder) ≡ true) ⊎ (list_any (bytes_eq path) (folder ∷ []) ≡ true) → Below path folder
+    by : (list_any (bytes_eq path) (folders_above folder) ≡ true)
+        ⊎ (list_any (bytes_eq path) (folder ∷ []) ≡ true) → Below path folder
     by (inl h) = above path folder h
     by (inr h) = same (or_cases (bytes_eq path folder) (list_any (bytes_eq path) []) h)
 
@@ -138,7 +167,9 @@ front_rest (c ∷ cs) h = by (front_rest cs) (list_any (λ b. b == 47) cs) refl 
     longer : Below (front_of cs) cs → Below (c ∷ front_of cs) (c ∷ cs)
     longer (rest, is, slashed) = (rest, ap (λ v. c ∷ v) is, slashed)
 
-    by : (list_any (λ b. b == 47) cs ≡ true → Below (front_of cs) cs) → (later : Bool) → list_any (λ b. b == 47) cs ≡ later → (slash : Bool) → (c == 47) ≡ slash → (slash || later) ≡ true → Below (cond later (c ∷ front_of cs) []) (c ∷ cs)
+    by : (list_any (λ b. b == 47) cs ≡ true → Below (front_of cs) cs) → (later : Bool)
+        → list_any (λ b. b == 47) cs ≡ later → (slash : Bool) → (c == 47) ≡ slash → (slash || later) ≡ true
+        → Below (cond later (c ∷ front_of cs) []) (c ∷ cs)
     by rest true is slash at h = longer (rest is)
     by rest false is true at h = (c ∷ cs, refl, at)
     by rest false is false at h = absurd (cc)
@@ -156,7 +187,8 @@ no_front (c ∷ cs) h = by (list_any (λ b. b == 47) cs) (c == 47) h
 parent_above : (path : List ℕ) → (parent_of path ≡ 47 ∷ []) ⊎ Below (parent_of path) path
 parent_above path = by (list_any (λ b. b == 47) path) refl
   where
-    filled : (none : Bool) → Below (front_of path) path → (cond none (47 ∷ []) (front_of path) ≡ 47 ∷ []) ⊎ Below (cond none (47 ∷ []) (front_of path)) path
+    filled : (none : Bool) → Below (front_of path) path → (cond none (47 ∷ []) (front_of path) ≡ 47 ∷ [])
+        ⊎ Below (cond none (47 ∷ []) (front_of path)) path
     filled true h = inl refl
     filled false h = inr h
 
@@ -170,33 +202,77 @@ abbrev pub Inside : List ℕ → List ℕ → Type 0
 Inside folder path = (rest : List ℕ) × (path ≡ folder ++ 47 ∷ rest)
 
 pub inside_joined : (folder name : List ℕ) → is_root folder ≡ false → Inside folder (joined folder name)
-inside_joined folder name below = (name, ap (λ b. cond b folder (folder ++ 47 ∷ []) ++ name) below ∙ append_assoc folder (47 ∷ []) name)
+inside_joined folder name below = (
+  name,
+  ap (λ b. cond b folder (folder ++ 47 ∷ []) ++ name) below
+      ∙ append_assoc folder (47 ∷ []) name,
+)
 
 pub inside_deeper : (folder path name : List ℕ) → Inside folder path → Inside folder (joined path name)
 inside_deeper folder path name (rest, is) = by (bytes_eq path (47 ∷ []))
   where
     by : (root : Bool) → Inside folder (cond root path (path ++ 47 ∷ []) ++ name)
     by true = (rest ++ name, ap (λ v. v ++ name) is ∙ append_assoc folder (47 ∷ rest) name)
-    by false = (rest ++ 47 ∷ name, append_assoc path (47 ∷ []) name ∙ ap (λ v. v ++ 47 ∷ name) is ∙ append_assoc folder (47 ∷ rest) (47 ∷ name))
+    by false = (
+      rest ++ 47 ∷ name,
+      append_assoc path (47 ∷ []) name ∙ ap (λ v. v ++ 47 ∷ name) is
+          ∙ append_assoc folder (47 ∷ rest) (47 ∷ name),
+    )
 
 inside_beside : (folder path : List ℕ) → Inside folder path → Inside folder (beside path)
-inside_beside folder path (rest, is) = (rest ++ 46 ∷ 110 ∷ 101 ∷ 119 ∷ [], ap (λ v. v ++ 46 ∷ 110 ∷ 101 ∷ 119 ∷ []) is ∙ append_assoc folder (47 ∷ rest) (46 ∷ 110 ∷ 101 ∷ 119 ∷ []))
+inside_beside folder path (rest, is) = (
+  rest ++ 46 ∷ 110 ∷ 101 ∷ 119
+      ∷ [],
+  ap (λ v. v ++ 46 ∷ 110 ∷ 101 ∷ 119 ∷ []) is ∙ append_assoc folder (47 ∷ rest)
+      (46 ∷ 110 ∷ 101 ∷ 119 ∷ []),
+)
 
-inside_below : (folder path : List ℕ) → Inside folder path → Below folder path
+pub inside_below : (folder path : List ℕ) → Inside folder path → Below folder path
 inside_below folder path (rest, is) = (47 ∷ rest, is, refl)
 
-none_free : (paths : List (List ℕ)) (path : List ℕ) → (list_any (bytes_eq path) paths ≡ true → ⊥) → is_free paths path ≡ true
+none_free : (paths : List (List ℕ)) (path : List ℕ) → (list_any (bytes_eq path) paths ≡ true → ⊥)
+    → is_free paths path ≡ true
 none_free paths path h = by (list_any (bytes_eq path) paths) h
   where
     by : (any : Bool) → (any ≡ true → ⊥) → not any ≡ true
     by true h = absurd (h refl)
     by false h = refl
 
+-- a path is touched by no write of a document where neither the document nor what is written beside it is the path or
+-- below it
+pub untouched : (document path : List ℕ) → is_root path ≡ false → (Below path document → ⊥)
+    → (Below path (beside document) → ⊥) → is_free (touched document) path ≡ true
+untouched document path no_root not_above not_beside = none_free (touched document) path
+    (λ h. first (or_cases (bytes_eq path document)
+    (list_any (bytes_eq path) (beside document ∷ folder_paths (parent_of document))) h))
+  where
+    same : (other : List ℕ) → bytes_eq path other ≡ true → Below path other
+    same other is = ([], sym (same_path path other is) ∙ sym (append-nil path), refl)
+
+    in_root : (is_root path ≡ true) ⊎ (false ≡ true) → ⊥
+    in_root (inl root) = false≢true (sym no_root ∙ root)
+    in_root (inr e) = false≢true e
+
+    in_parent : list_any (bytes_eq path) (folder_paths (parent_of document)) ≡ true
+        → (parent_of document ≡ 47 ∷ []) ⊎ Below (parent_of document) document → ⊥
+    in_parent h (inl root) = in_root (or_cases (is_root path) false
+        (subst (λ p. list_any (bytes_eq path) (folder_paths p) ≡ true) root h))
+    in_parent h (inr below) = not_above (below_below path (parent_of document) document
+        (above_or_same path (parent_of document) h) below)
+
+    second : (bytes_eq path (beside document) ≡ true)
+        ⊎ (list_any (bytes_eq path) (folder_paths (parent_of document)) ≡ true) → ⊥
+    second (inl is) = not_beside (same (beside document) is)
+    second (inr h) = in_parent h (parent_above document)
+
+    first : (bytes_eq path document ≡ true) ⊎ (list_any (bytes_eq path)
+        (beside document ∷ folder_paths (parent_of document)) ≡ true) → ⊥
+    first (inl is) = not_above (same document is)
+    first (inr h) = second (or_cases (bytes_eq path (beside document))
+        (list_any (bytes_eq path) (folder_paths (parent_of document))) h)
+
 module _ (folder path : List ℕ) (apart : are_apart folder path ≡ true) where
   -- a path that is apart from a folder is nothing in it, and nothing above what is in it
-  not_inside : (other : List ℕ) → Inside folder other → path ≡ other → ⊥
-  not_inside other inside same = not_in folder path apart (subst (Below folder) (sym same) (inside_below folder other inside))
-
   pub not_above : (other : List ℕ) → Inside folder other → Below path other → ⊥
   not_above other inside below = by (one_in_other folder path other (inside_below folder other inside) below)
     where
@@ -215,41 +291,23 @@ module _ (folder path : List ℕ) (apart : are_apart folder path ≡ true) where
 
       either : (is_root other ≡ true) ⊎ Below other path → ⊥
       either (inl root) = shorter inside.0 inside.1 (same_path other (47 ∷ []) root)
-      either (inr below) = not_in folder path apart (below_below folder other path (inside_below folder other inside) below)
+      either (inr below) = not_in folder path apart
+          (below_below folder other path (inside_below folder other inside) below)
 
       by : (v : Bool) → is_within other path ≡ v → v ≡ false
       by true is = absurd (either (within_so other path is))
       by false is = refl
 
-  -- so neither the folder where it is made touches the path, nor a folder that is made in it, nor a document that is written
-  -- in it
+  -- so neither the folder where it is made touches the path, nor a folder that is made in it, nor a document that is
+  -- written in it
   pub free_itself : is_free (folder_paths folder) path ≡ true
   free_itself = none_free (folder_paths folder) path (λ h. not_around folder path apart (above_or_same path folder h))
 
   pub free_folder : (other : List ℕ) → Inside folder other → is_free (folder_paths other) path ≡ true
-  free_folder other inside = none_free (folder_paths other) path (λ h. not_above other inside (above_or_same path other h))
-
-  in_root : list_any (bytes_eq path) (folder_paths (47 ∷ [])) ≡ true → ⊥
-  in_root h = by (or_cases (is_root path) false h)
-    where
-      by : (is_root path ≡ true) ⊎ (false ≡ true) → ⊥
-      by (inl root) = false≢true (sym (path_not_root folder path apart) ∙ root)
-      by (inr e) = false≢true e
-
-  in_parent : (other : List ℕ) → Inside folder other → list_any (bytes_eq path) (folder_paths (parent_of other)) ≡ true → ⊥
-  in_parent other inside h = by (parent_above other)
-    where
-      by : (parent_of other ≡ 47 ∷ []) ⊎ Below (parent_of other) other → ⊥
-      by (inl root) = in_root (subst (λ p. list_any (bytes_eq path) (folder_paths p) ≡ true) root h)
-      by (inr below) = not_above other inside (below_below path (parent_of other) other (above_or_same path (parent_of other) h) below)
+  free_folder other inside = none_free (folder_paths other) path
+      (λ h. not_above other inside (above_or_same path other h))
 
   pub free_document : (other : List ℕ) → Inside folder other → is_free (touched other) path ≡ true
-  free_document other inside = none_free (touched other) path (λ h. first (or_cases (bytes_eq path other) (list_any (bytes_eq path) (beside other ∷ folder_paths (parent_of other))) h))
-    where
-      second : (bytes_eq path (beside other) ≡ true) ⊎ (list_any (bytes_eq path) (folder_paths (parent_of other)) ≡ true) → ⊥
-      second (inl same) = not_inside (beside other) (inside_beside folder other inside) (same_path path (beside other) same)
-      second (inr h) = in_parent other inside h
-
-      first : (bytes_eq path other ≡ true) ⊎ (list_any (bytes_eq path) (beside other ∷ folder_paths (parent_of other)) ≡ true) → ⊥
-      first (inl same) = not_inside other inside (same_path path other same)
-      first (inr h) = second (or_cases (bytes_eq path (beside other)) (list_any (bytes_eq path) (folder_paths (parent_of other))) h)
+  free_document other inside =
+      untouched other path (path_not_root folder path apart) (not_above other inside)
+      (not_above (beside other) (inside_beside folder other inside))

@@ -46,17 +46,22 @@ every_rest = record {
 }
 
 module _ {E A : Type 0} (cause : E → Cause) where
-  pub obeys_world : (step : Seen → Result A E → Seen → Type 0) → Obeys AllCounts cause step → Obeys every_count cause (over_world step)
+  pub obeys_world : (step : Seen → Result A E → Seen → Type 0) → Obeys AllCounts cause step
+      → Obeys every_count cause (over_world step)
   unfolding over_world
-  obeys_world step p old new result h = world_counts _ (outside_of old) (outside_of new) h.1 (p old.world new.world result h.0)
+  obeys_world step p old new result h = world_counts _ (outside_of old) (outside_of new) h.1
+      (p old.world new.world result h.0)
 
-  pub obeys_outside : (step : Outside → Result A E → Outside → Type 0) → Obeys OutsideCounts cause step → Obeys every_count cause (over_outside step)
+  pub obeys_outside : (step : Outside → Result A E → Outside → Type 0) → Obeys OutsideCounts cause step
+      → Obeys every_count cause (over_outside step)
   unfolding over_outside
   obeys_outside step p old new result h = p (outside_of old) (outside_of new) result h.0
 
-  pub obeys_caches : (step : WorldAndCaches → Result A E → WorldAndCaches → Type 0) → Obeys (BesideCaches FileCounts) cause step → Obeys every_count cause (over_caches step)
+  pub obeys_caches : (step : WorldAndCaches → Result A E → WorldAndCaches → Type 0)
+      → Obeys (BesideCaches FileCounts) cause step → Obeys every_count cause (over_caches step)
   unfolding over_caches
-  obeys_caches step p old new result h = world_counts _ (outside_of old) (outside_of new) h.1 (all_of_files _ old.world new.world (p (caches_beside old) (caches_beside new) result h.0))
+  obeys_caches step p old new result h = world_counts _ (outside_of old) (outside_of new) h.1
+      (all_of_files _ old.world new.world (p (caches_beside old) (caches_beside new) result h.0))
 
 -- ---- the phases
 
@@ -64,39 +69,59 @@ looked_counts : (words : CreateWords) → Obeys FileCounts restoring.cause_of (l
 unfolding looks_at_images
 looked_counts words =
     obeys_bind _ _ _ _ files_link (analyzes_counts words.store words.run _)
-    (λ analyzed. obeys_bind _ _ _ _ files_link (writes_counts restoring.cause_of _ _) (λ written. obeys_yields _ _ _ files_rest))
+    (λ analyzed. obeys_bind _ _ _ _ files_link (writes_counts restoring.cause_of _ _)
+    (λ written. obeys_yields _ _ _ files_rest))
 
-chosen_counts : (target : Target) (words : ChoiceWords) (env : List Variable) → Obeys OutsideCounts detection.cause_of (chooses_group target words env)
+chosen_counts : (target : Target) (words : ChoiceWords) (env : List Variable)
+    → Obeys OutsideCounts detection.cause_of (chooses_group target words env)
 unfolding chooses_group
 chosen_counts target words env =
     obeys_bind _ _ _ _ outside_link (choice_counts (Given target) words env)
-    (λ choice. obeys_bind _ _ _ _ outside_link (obeys_over_world detection.cause_of _ (files_among detection.cause_of _ (written_choice_counts words.work choice)))
+    (λ choice. obeys_bind _ _ _ _ outside_link (obeys_over_world detection.cause_of _
+    (files_among detection.cause_of _ (written_choice_counts words.work choice)))
     (λ written. obeys_yields _ _ _ outside_rest))
 
-built_counts : (target : Target) (words : CreateWords) (env : List Variable) (choice : Choice) → Obeys AllCounts building.cause_of (builds_group target words env choice)
+built_counts : (target : Target) (words : CreateWords) (env : List Variable) (choice : Choice)
+    → Obeys AllCounts building.cause_of (builds_group target words env choice)
 unfolding builds_group
 built_counts target words env choice =
     obeys_bind _ _ _ _ all_link (files_among building.cause_of _ (reads_counts building.cause_of _ _))
-    (λ files. obeys_bind _ _ _ _ all_link (obeys_gives _ _ _ all_rest) (λ frame. builds_counts frame choice.plan choice.group))
+    (λ files. obeys_bind _ _ _ _ all_link (obeys_gives _ _ _ all_rest)
+    (λ frame. builds_counts frame choice.plan choice.group))
 
-exported_counts : (readable : Bool) (words : CreateWords) (analyzed : Analyzed) (group : List GroupRow) → Obeys (BesideCaches FileCounts) exporting.cause_of (exports_image readable words analyzed group)
+exported_counts : (readable : Bool) (words : CreateWords) (analyzed : Analyzed) (group : List GroupRow)
+    → Obeys (BesideCaches FileCounts) exporting.cause_of (exports_image readable words analyzed group)
 unfolding exports_image
 exported_counts readable words analyzed group =
-    obeys_bind _ _ _ _ (beside_link _ files_link) (obeys_gives _ _ _ (beside_rest _ files_rest)) (λ frame. exports_counts readable frame group analyzed)
+    obeys_bind _ _ _ _ (beside_link _ files_link) (obeys_gives _ _ _ (beside_rest _ files_rest))
+    (λ frame. exports_counts readable frame group analyzed)
 
-left_counts : (words : CreateWords) (phases : Phases) → Obeys (BesideCaches FileCounts) cause_of (leaves_image words phases)
+left_counts : (words : CreateWords) (phases : Phases) → Obeys (BesideCaches FileCounts) cause_of
+    (leaves_image words phases)
 unfolding leaves_image
 left_counts words phases =
-    obeys_bind _ _ _ _ (beside_link _ files_link) (obeys_told (BesideCaches FileCounts) exporting.cause_of cause_of Export _ (λ fault. refl) (exported_counts _ words phases.analyzed phases.group))
+    obeys_bind _ _ _ _ (beside_link _ files_link)
+    (obeys_told (BesideCaches FileCounts) exporting.cause_of cause_of Export _ (λ fault. refl)
+    (exported_counts _ words phases.analyzed phases.group))
     (λ exported. obeys_bind _ _ _ _ (beside_link _ files_link) (obeys_gives _ _ _ (beside_rest _ files_rest))
-    (λ text. obeys_bind _ _ _ _ (beside_link _ files_link) (obeys_in_world FileCounts cause_of _ (obeys_told FileCounts exporting.cause_of cause_of Export _ (λ fault. refl) (saved_readable_image_counts _ _ _)))
+    (λ text. obeys_bind _ _ _ _ (beside_link _ files_link)
+    (obeys_in_world FileCounts cause_of _ (obeys_told FileCounts exporting.cause_of cause_of Export _
+    (λ fault. refl) (saved_readable_image_counts _ _ _)))
     (λ saved. obeys_yields _ _ _ (beside_rest _ files_rest))))
 
 pub create_counts : (words : CreateWords) (env : List Variable) → Obeys every_count cause_of (creates words env)
 unfolding creates
 create_counts words env =
-    obeys_bind _ _ _ _ every_link (obeys_world cause_of _ (files_among cause_of _ (obeys_told FileCounts restoring.cause_of cause_of Restore _ (λ fault. refl) (looked_counts words))))
-    (λ analyzed. obeys_bind _ _ _ _ every_link (obeys_outside cause_of _ (obeys_told OutsideCounts detection.cause_of cause_of Detect _ (λ fault. refl) (chosen_counts (target_of analyzed) words.detect env)))
-    (λ choice. obeys_bind _ _ _ _ every_link (obeys_caches cause_of _ (obeys_told (BesideCaches FileCounts) restoring.cause_of cause_of Restore _ (λ fault. refl) (restores_counts _ _ _ _)))
-    (λ restored. obeys_bind _ _ _ _ every_link (obeys_world cause_of _ (obeys_told AllCounts building.cause_of cause_of Build _ (λ fault. refl) (built_counts (target_of analyzed) words env choice)))
+    obeys_bind _ _ _ _ every_link (obeys_world cause_of _
+    (files_among cause_of _ (obeys_told FileCounts restoring.cause_of cause_of Restore _ (λ fault. refl)
+    (looked_counts words))))
+    (λ analyzed. obeys_bind _ _ _ _ every_link (obeys_outside cause_of _
+    (obeys_told OutsideCounts detection.cause_of cause_of Detect _ (λ fault. refl)
+    (chosen_counts (target_of analyzed) words.detect env)))
+    (λ choice. obeys_bind _ _ _ _ every_link (obeys_caches cause_of _
+    (obeys_told (BesideCaches FileCounts) restoring.cause_of cause_of Restore _ (λ fault. refl)
+    (restores_counts _ _ _ _)))
+    (λ restored. obeys_bind _ _ _ _ every_link (obeys_world cause_of _
+    (obeys_told AllCounts building.cause_of cause_of Build _ (λ fault. refl)
+    (built_counts (target_of analyzed) words env choice)))
     (λ built. obeys_caches cause_of _ (left_counts words _)))))

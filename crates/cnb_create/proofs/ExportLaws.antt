@@ -67,7 +67,8 @@ module _ (path : List ℕ) where
 
   kept_rows : (store name : List ℕ) → Preserves path (reads_layers store name)
   unfolding reads_layers
-  kept_rows store name = keeps_bind path _ _ (keeps_told path of_image_fault _ (kept_image store name)) (λ image. keeps_yields path image.layers)
+  kept_rows store name = keeps_bind path _ _ (keeps_told path of_image_fault _ (kept_image store name))
+      (λ image. keeps_yields path image.layers)
 
   kept_previous : (store : List ℕ) (name : Option (List ℕ)) → Preserves path (reads_previous store name)
   kept_previous store None = keeps_yields path _
@@ -75,7 +76,9 @@ module _ (path : List ℕ) where
 
   kept_launch : (folder id : List ℕ) → Preserves path (reads_launch folder id)
   unfolding reads_launch
-  kept_launch folder id = keeps_bind path _ _ (keeps_gives path cause_of _) (λ at. keeps_bind path _ _ (kept_as launch_in at) (λ launch. keeps_gives path cause_of (one_default id launch)))
+  kept_launch folder id = keeps_bind path _ _ (keeps_gives path cause_of _)
+      (λ at. keeps_bind path _ _ (kept_as launch_in at)
+      (λ launch. keeps_gives path cause_of (one_default id launch)))
 
   kept_store : (folder : List ℕ) → Preserves path (reads_store_document folder)
   unfolding reads_store_document
@@ -83,7 +86,8 @@ module _ (path : List ℕ) where
 
   kept_pattern : (id text : List ℕ) → Preserves path (reads_pattern id text)
   unfolding reads_pattern
-  kept_pattern id text old new result h = keeps_same path old new (ap (λ (s : Seen). s.runs) h.0) (ap (λ (s : Seen). standing s.files path) h.0)
+  kept_pattern id text old new result h = keeps_same path old new (ap (λ (s : Seen). s.runs) h.0)
+      (ap (λ (s : Seen). standing s.files path) h.0)
 
   kept_more : (id text : List ℕ) (patterns : List (List Item)) → Preserves path (adds_pattern id text patterns)
   unfolding adds_pattern
@@ -92,20 +96,24 @@ module _ (path : List ℕ) where
   kept_slice : (id : List ℕ) (texts : List (List ℕ)) (slices : Slices) → Preserves path (adds_slice id texts slices)
   unfolding adds_slice
   kept_slice id texts slices =
-      keeps_bind path _ _ (in_each (λ (s : Seen). s) path (adds_pattern id) texts [] (λ text patterns. kept_more id text patterns)) (λ patterns. keeps_gives path cause_of _)
+      keeps_bind path _ _ (in_each (λ (s : Seen). s) path (adds_pattern id) texts []
+      (λ text patterns. kept_more id text patterns)) (λ patterns. keeps_gives path cause_of _)
 
   kept_slices : (id : List ℕ) (slices : List (List (List ℕ))) → Preserves path (reads_slices id slices)
-  kept_slices id slices = in_each (λ (s : Seen). s) path (adds_slice id) slices [] (λ texts so_far. kept_slice id texts so_far)
+  kept_slices id slices = in_each (λ (s : Seen). s) path (adds_slice id) slices []
+      (λ texts so_far. kept_slice id texts so_far)
 
   kept_cut : (app : List ℕ) (slices : Slices) → Preserves path (cuts_app app slices)
   unfolding cuts_app
-  kept_cut app slices = keeps_bind path _ _ (keeps_told path Store _ (keeps_reads_tree path app)) (λ tree. keeps_gives path cause_of _)
+  kept_cut app slices = keeps_bind path _ _ (keeps_told path Store _ (keeps_reads_tree path app))
+      (λ tree. keeps_gives path cause_of _)
 
   kept_documents : (folder id : List ℕ) → KeepsEach path (exports_documents folder id)
   unfolding exports_documents exports_store_document
   kept_documents folder id gathered =
       keeps_bind path _ _ (kept_launch folder id)
-      (λ launch. keeps_bind path _ _ (kept_slices id launch.slices) (λ slices. keeps_bind path _ _ (kept_store folder) (λ store. keeps_gives path cause_of _)))
+      (λ launch. keeps_bind path _ _ (kept_slices id launch.slices)
+      (λ slices. keeps_bind path _ _ (kept_store folder) (λ store. keeps_gives path cause_of _)))
 
   kept_listing : (absent : Bool) (folder : List ℕ) → Preserves path (lists_unless absent folder)
   kept_listing true folder = keeps_yields path _
@@ -117,7 +125,8 @@ module _ (path : List ℕ) where
 
   kept_layer_names : (folder : List ℕ) → Preserves path (reads_layer_names folder)
   unfolding reads_layer_names
-  kept_layer_names folder = keeps_bind path _ _ (kept_names folder) (λ names. keeps_gives path cause_of (Ok (layers_among names)))
+  kept_layer_names folder = keeps_bind path _ _ (kept_names folder)
+      (λ names. keeps_gives path cause_of (Ok (layers_among names)))
 
   kept_layer_document : (at : List ℕ) → Preserves path (reads_layer at)
   unfolding reads_layer
@@ -125,7 +134,8 @@ module _ (path : List ℕ) where
 
   kept_look : (at : List ℕ) → Preserves path (looks_for_contents at)
   unfolding looks_for_contents
-  kept_look at = keeps_bind path _ _ (keeps_reads path cause_of _ _) (λ kind. keeps_gives path cause_of (there_by at kind))
+  kept_look at = keeps_bind path _ _ (keeps_reads path cause_of _ _)
+      (λ kind. keeps_gives path cause_of (there_by at kind))
 
   kept_tree_look : (store digest : List ℕ) → Preserves path (looks_for_tree store digest)
   unfolding looks_for_tree
@@ -133,7 +143,8 @@ module _ (path : List ℕ) where
 
   kept_stored : (store digest : List ℕ) → Preserves path (looks_for_stored store digest)
   unfolding looks_for_stored
-  kept_stored store digest = keeps_bind path _ _ (keeps_told path Store _ (kept_tree_look store digest)) (λ stored. keeps_gives path cause_of _)
+  kept_stored store digest = keeps_bind path _ _ (keeps_told path Store _ (kept_tree_look store digest))
+      (λ stored. keeps_gives path cause_of _)
 
   kept_check : (store : List ℕ) → KeepsBoth path (checks_reused store)
   kept_check store (Some digest) before = keeps_yields path tt
@@ -144,7 +155,8 @@ module _ (path : List ℕ) where
   unfolding reuses
   kept_settled table.Skip store id layer digest before = keeps_yields path _
   kept_settled table.Add store id layer digest before = keeps_yields path _
-  kept_settled table.Reuse store id layer digest before = keeps_bind path _ _ (kept_check store digest before) (λ checked. keeps_yields path _)
+  kept_settled table.Reuse store id layer digest before = keeps_bind path _ _ (kept_check store digest before)
+      (λ checked. keeps_yields path _)
   kept_settled table.NoContents store id layer digest before = keeps_gives path cause_of _
   kept_settled table.NoPrevious store id layer digest before = keeps_gives path cause_of _
 
@@ -157,8 +169,10 @@ module _ (store path : List ℕ) (apart : are_apart (trees_of store) path ≡ tr
 
   kept_there : (cache launch : Bool) (at : List ℕ) → Preserves path (takes_there store cache launch at)
   unfolding takes_whole puts_contents
-  kept_there true launch at = keeps_bind path _ _ (keeps_told path Store _ (keeps_reads_tree path at)) (λ tree. keeps_bind path _ _ (kept_tree launch tree) (λ digest. keeps_yields path _))
-  kept_there false true at = keeps_bind path _ _ (keeps_told path Store _ (keeps_puts_folder store path apart at)) (λ digest. keeps_yields path _)
+  kept_there true launch at = keeps_bind path _ _ (keeps_told path Store _ (keeps_reads_tree path at))
+      (λ tree. keeps_bind path _ _ (kept_tree launch tree) (λ digest. keeps_yields path _))
+  kept_there false true at = keeps_bind path _ _ (keeps_told path Store _ (keeps_puts_folder store path apart at))
+      (λ digest. keeps_yields path _)
   kept_there false false at = keeps_yields path _
 
   kept_taken : (flags : Flags) (at : List ℕ) (there : Bool) → Preserves path (takes_contents store flags at there)
@@ -167,46 +181,64 @@ module _ (store path : List ℕ) (apart : are_apart (trees_of store) path ≡ tr
 
   kept_contents : (folder layer : List ℕ) (flags : Flags) → Preserves path (finds_contents store folder layer flags)
   unfolding finds_contents
-  kept_contents folder layer flags = keeps_bind path _ _ (keeps_gives path cause_of _) (λ at. keeps_bind path _ _ (kept_look path at) (λ there. kept_taken flags at there))
+  kept_contents folder layer flags = keeps_bind path _ _ (keeps_gives path cause_of _)
+      (λ at. keeps_bind path _ _ (kept_look path at) (λ there. kept_taken flags at there))
 
-  kept_found : (previous : List LayerRow) (id folder layer : List ℕ) (doc : Option LayerDoc) → Preserves path (keeps_found store previous id folder layer doc)
+  kept_found : (previous : List LayerRow) (id folder layer : List ℕ) (doc : Option LayerDoc)
+      → Preserves path (keeps_found store previous id folder layer doc)
   unfolding keeps_documented
   kept_found previous id folder layer None = keeps_yields path None
   kept_found previous id folder layer (Some doc) =
       keeps_bind path _ _ (kept_contents folder layer (flags_of doc))
-      (λ contents. keeps_bind path _ _ (kept_settled path (decision_of (flags_of doc) contents (row_of previous id layer)) store id layer contents.digest (row_of previous id layer))
+      (λ contents. keeps_bind path _ _ (kept_settled path
+      (decision_of (flags_of doc) contents (row_of previous id layer)) store id layer contents.digest
+      (row_of previous id layer))
       (λ settled. keeps_gives path cause_of _))
 
-  kept_layer : (previous : List LayerRow) (id folder layer : List ℕ) → Preserves path (keeps_layer store previous id folder layer)
+  kept_layer : (previous : List LayerRow) (id folder layer : List ℕ)
+      → Preserves path (keeps_layer store previous id folder layer)
   unfolding keeps_layer
-  kept_layer previous id folder layer = keeps_bind path _ _ (keeps_gives path cause_of _) (λ document. keeps_bind path _ _ (kept_layer_document path document) (λ doc. kept_found previous id folder layer doc))
+  kept_layer previous id folder layer = keeps_bind path _ _ (keeps_gives path cause_of _)
+      (λ document. keeps_bind path _ _ (kept_layer_document path document)
+      (λ doc. kept_found previous id folder layer doc))
 
-  kept_one : (previous : List LayerRow) (id folder layer : List ℕ) → KeepsEach path (exports_layer store previous id folder layer)
+  kept_one : (previous : List LayerRow) (id folder layer : List ℕ)
+      → KeepsEach path (exports_layer store previous id folder layer)
   unfolding exports_layer
-  kept_one previous id folder layer gathered = keeps_bind path _ _ (kept_layer previous id folder layer) (λ kept. keeps_gives path cause_of _)
+  kept_one previous id folder layer gathered = keeps_bind path _ _ (kept_layer previous id folder layer)
+      (λ kept. keeps_gives path cause_of _)
 
-  kept_layers : (previous : List LayerRow) (id folder : List ℕ) → KeepsEach path (exports_layers store previous id folder)
+  kept_layers : (previous : List LayerRow) (id folder : List ℕ)
+      → KeepsEach path (exports_layers store previous id folder)
   unfolding exports_layers
   kept_layers previous id folder gathered =
-      keeps_bind path _ _ (kept_layer_names path folder) (λ names. in_each (λ (s : Seen). s) path (exports_layer store previous id folder) names gathered (λ layer so_far. kept_one previous id folder layer so_far))
+      keeps_bind path _ _ (kept_layer_names path folder)
+      (λ names. in_each (λ (s : Seen). s) path (exports_layer store previous id folder) names gathered
+      (λ layer so_far. kept_one previous id folder layer so_far))
 
   kept_links : (processes : List Process) → Preserves path (puts_links store processes)
   unfolding puts_links
-  kept_links processes = keeps_bind path _ _ (keeps_gives path cause_of _) (λ tree. keeps_bind path _ _ (keeps_told path Store _ (keeps_puts path store tree (free_of_trees store path apart))) (λ digest. keeps_yields path (Some digest)))
+  kept_links processes = keeps_bind path _ _ (keeps_gives path cause_of _)
+      (λ tree. keeps_bind path _ _ (keeps_told path Store _
+      (keeps_puts path store tree (free_of_trees store path apart))) (λ digest. keeps_yields path (Some digest)))
 
   kept_whole : (app : List ℕ) → Preserves path (puts_whole store app)
   unfolding puts_whole
-  kept_whole app = keeps_bind path _ _ (keeps_told path Store _ (keeps_puts_folder store path apart app)) (λ digest. keeps_gives path cause_of _)
+  kept_whole app = keeps_bind path _ _ (keeps_told path Store _ (keeps_puts_folder store path apart app))
+      (λ digest. keeps_gives path cause_of _)
 
   kept_part : (tree : Node) (digests : List (List ℕ)) → Preserves path (puts_part store tree digests)
   unfolding puts_part
-  kept_part tree digests = keeps_bind path _ _ (keeps_told path Store _ (keeps_puts path store tree (free_of_trees store path apart))) (λ digest. keeps_gives path cause_of _)
+  kept_part tree digests = keeps_bind path _ _ (keeps_told path Store _
+      (keeps_puts path store tree (free_of_trees store path apart))) (λ digest. keeps_gives path cause_of _)
 
   kept_app : (app : List ℕ) (slices : Slices) → Preserves path (puts_app store app slices)
   unfolding puts_parts
   kept_app app [] = kept_whole app
   kept_app app (slice ∷ slices) =
-      keeps_bind path _ _ (kept_cut path app (slice ∷ slices)) (λ parts. in_each (λ (s : Seen). s) path (puts_part store) parts [] (λ tree digests. kept_part tree digests))
+      keeps_bind path _ _ (kept_cut path app (slice ∷ slices))
+      (λ parts. in_each (λ (s : Seen). s) path (puts_part store) parts []
+      (λ tree digests. kept_part tree digests))
 
   kept_process : (processes : List Process) → Preserves path (puts_process store processes)
   kept_process [] = keeps_yields path None
@@ -217,7 +249,8 @@ module _ (frame : ExportFrame) (path : List ℕ) (apart : are_apart (trees_of fr
   unfolding exports_buildpack
   kept_buildpack previous row gathered =
       keeps_bind path _ _ (keeps_gives path cause_of _)
-      (λ folder. keeps_bind path _ _ (kept_documents path folder row.key.id gathered) (λ documents. kept_layers frame.store path apart previous row.key.id folder documents))
+      (λ folder. keeps_bind path _ _ (kept_documents path folder row.key.id gathered)
+      (λ documents. kept_layers frame.store path apart previous row.key.id folder documents))
 
   kept_trees : (slices : Slices) (processes : List Process) → Preserves path (puts_trees frame slices processes)
   unfolding puts_trees
@@ -232,11 +265,15 @@ module _ (frame : ExportFrame) (path : List ℕ) (apart : are_apart (trees_of fr
   kept_gained group analyzed =
       keeps_bind path _ _ (keeps_told path of_image_fault _ (kept_run path frame.store analyzed.run))
       (λ run. keeps_bind path _ _ (kept_previous path frame.store analyzed.previous)
-      (λ previous. keeps_bind path _ _ (in_each (λ (s : Seen). s) path (exports_buildpack frame previous) group nothing_gathered (λ row so_far. kept_buildpack previous row so_far))
+      (λ previous. keeps_bind path _ _ (in_each (λ (s : Seen). s) path
+      (exports_buildpack frame previous) group nothing_gathered
+      (λ row so_far. kept_buildpack previous row so_far))
       (λ gathered. keeps_bind path _ _ (kept_trees _ _)
-      (λ digests. keeps_bind path _ _ (keeps_gives path cause_of _) (λ image. keeps_bind path _ _ (keeps_gives path cause_of _) (λ rows. keeps_yields path _))))))
+      (λ digests. keeps_bind path _ _ (keeps_gives path cause_of _)
+      (λ image. keeps_bind path _ _ (keeps_gives path cause_of _) (λ rows. keeps_yields path _))))))
 
-  pub keeps_exports : (readable : Bool) (group : List GroupRow) (analyzed : Analyzed) → KeepsIn cached_world path (exports readable frame group analyzed)
+  pub keeps_exports : (readable : Bool) (group : List GroupRow) (analyzed : Analyzed)
+      → KeepsIn cached_world path (exports readable frame group analyzed)
   unfolding exports
   keeps_exports readable group analyzed =
       in_bind cached_world path _ _ (cached_in_world path _ (kept_gained group analyzed))

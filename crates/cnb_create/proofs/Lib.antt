@@ -1,4 +1,5 @@
 pub mod ApartLemmas
+pub mod ChoiceLaws
 pub mod CountLaws
 pub mod CreateLaws
 pub mod ExportLaws
@@ -9,3 +10,4 @@ pub mod RestoreLaws
 pub mod StandLaws
 pub mod SurroundingLemmas
 pub mod TargetLemmas
+pub mod WorkLemmas

@@ -26,7 +26,8 @@ not_first true b h = absurd (cc)
 not_first false b h = refl
 
 not_one : (one path : List ℕ) → is_free (touched one) path ≡ true → bytes_eq path one ≡ false
-not_one one path free = not_first (bytes_eq path one) (list_any (bytes_eq path) (beside one ∷ folder_paths (parent_of one))) free
+not_one one path free = not_first (bytes_eq path one)
+    (list_any (bytes_eq path) (beside one ∷ folder_paths (parent_of one))) free
 
 long_trees : (store : List ℕ) → 0 < length (trees_of store)
 long_trees store = let long = long_by store (codes "trees") (omega arith) in omega (arith, long)
@@ -47,23 +48,30 @@ module _ (store path : List ℕ) (apart : are_apart (trees_of store) path ≡ tr
   made : (t : Tree) → item_at (folder_made (trees_of store) t) path ≡ item_at t path
   made t = made_free t (trees_of store) path (free_itself (trees_of store) path apart)
 
-  put_apart : (found : Option Item) (digest bytes : List ℕ) (t : Tree) → item_at (named_or_left found (new_path store) (tree_path store digest) bytes (folder_made (trees_of store) t)) path ≡ item_at t path
+  put_apart : (found : Option Item) (digest bytes : List ℕ) (t : Tree)
+      → item_at (named_or_left found (new_path store) (tree_path store digest) bytes
+      (folder_made (trees_of store) t)) path ≡ item_at t path
   put_apart None digest bytes t =
       let folders : Tree = folder_made (trees_of store) t in
       let cleared : Tree = remove folders (new_path store) in
       at_get _ folders path (get-insert_bytes cleared (tree_path store digest) (File false bytes) path
-      ∙ ap (λ b. cond b (Some (File false bytes)) (get cleared path)) (not_one (tree_path store digest) path (free_of_trees digest))
+      ∙ ap (λ b. cond b (Some (File false bytes)) (get cleared path))
+      (not_one (tree_path store digest) path (free_of_trees digest))
       ∙ get-remove_bytes folders (new_path store) path
       ∙ ap (λ b. cond b None (get folders path)) (not_one (new_path store) path (free_of (codes "new"))))
       ∙ made t
   put_apart (Some item) digest bytes t =
       let folders : Tree = folder_made (trees_of store) t in
-      at_get (without (new_path store) folders) folders path (emptied_elsewhere folders (new_path store) path away) ∙ made t
+      at_get (without (new_path store) folders) folders path
+      (emptied_elsewhere folders (new_path store) path away) ∙ made t
 
-  left_apart : (folder : List ℕ) (old new : Seen) (result : Result (List ℕ) StoreFault) → LeavesFolder store folder old result new → standing new.files path ≡ standing old.files path
-  left_apart folder old new (Ok digest) (tree, is, read, files) = step_at old.files new.files (folder_put store tree) path (λ t. put_apart (item_at t (tree_path store _)) _ _ t) files
+  left_apart : (folder : List ℕ) (old new : Seen) (result : Result (List ℕ) StoreFault)
+      → LeavesFolder store folder old result new → standing new.files path ≡ standing old.files path
+  left_apart folder old new (Ok digest) (tree, is, read, files) = step_at old.files new.files
+      (folder_put store tree) path (λ t. put_apart (item_at t (tree_path store _)) _ _ t) files
   left_apart folder old new (Err fault) (kept, cleared) =
-      kept_around (new_path store) path old.files new.files away (not_above (trees_of store) path apart (new_path store) (inside (codes "new"))) kept
+      kept_around (new_path store) path old.files new.files away
+      (not_above (trees_of store) path apart (new_path store) (inside (codes "new"))) kept
 
   pub keeps_puts_folder : (folder : List ℕ) → Preserves path (puts_folder store folder)
   unfolding puts_folder

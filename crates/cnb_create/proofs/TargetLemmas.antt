@@ -14,10 +14,12 @@ use Rattle.image_files.specs.Target.{target_of}
 use Rattle.steps.specs.Outside.{Outside}
 
 -- two spellings of the target that is chosen for
-pub chooses_as : (target want : Target) (words : ChoiceWords) (env : List Variable) (old new : Outside) (result : Result Choice DetectRefusal) → target ≡ want
+pub chooses_as : (target want : Target) (words : ChoiceWords) (env : List Variable) (old new : Outside)
+    (result : Result Choice DetectRefusal) → target ≡ want
     → chooses (Given target) words env old result new → chooses (Given want) words env old result new
 chooses_as target want words env old new result same h = subst (λ t. chooses (Given t) words env old result new) same h
 
 -- its texts are names, as those of what was analyzed are
-pub target_named : (target : Target) (analyzed : Analyzed) → target ≡ target_of analyzed → IsTrue (is_analyzed analyzed) → IsTrue (is_named_target (Some target))
+pub target_named : (target : Target) (analyzed : Analyzed) → target ≡ target_of analyzed
+    → IsTrue (is_analyzed analyzed) → IsTrue (is_named_target (Some target))
 target_named target analyzed is named = subst (λ t. IsTrue (is_named_target (Some t))) (sym is) named

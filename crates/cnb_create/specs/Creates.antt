@@ -54,14 +54,16 @@ looks_at_images words = do
   yields analyzed
 
 -- a group and its plan are chosen for a target, and they are written
-unfoldable pub chooses_group : Target → ChoiceWords → List Variable → Outside → Result Choice DetectRefusal → Outside → Type 0
+unfoldable pub chooses_group : Target → ChoiceWords → List Variable → Outside → Result Choice DetectRefusal
+    → Outside → Type 0
 chooses_group target words env = do
   choice ← chooses (Given target) words env
   written ← steps.in_world (writes_choice words.work choice)
   yields choice
 
 -- the layers of the group's buildpacks are restored from the previous image and the caches
-abbrev pub restores_layers : CreateWords → Analyzed → List GroupRow → WorldAndCaches → Result Restored RestoreFault → WorldAndCaches → Type 0
+abbrev pub restores_layers : CreateWords → Analyzed → List GroupRow → WorldAndCaches
+    → Result Restored RestoreFault → WorldAndCaches → Type 0
 restores_layers words analyzed group = restores words.store analyzed.previous group words.layers
 
 -- what all builds have in common
@@ -78,7 +80,8 @@ build_frame target words env files = record {
 }
 
 -- the platform's environment files are read, and the group is built
-unfoldable pub builds_group : Target → CreateWords → List Variable → Choice → Seen → Result (Unit {0}) BuildFault → Seen → Type 0
+unfoldable pub builds_group : Target → CreateWords → List Variable → Choice → Seen → Result (Unit {0}) BuildFault
+    → Seen → Type 0
 builds_group target words env choice = do
   files ← reads_files (is_fit_platform words.detect.platform) (platform_files_in words.detect.platform)
   frame ← gives building.cause_of (Ok (build_frame target words env files))
@@ -86,17 +89,25 @@ builds_group target words env choice = do
 
 -- the folders of the export
 abbrev pub export_frame : CreateWords → ExportFrame
-export_frame words = record { store = words.store; layers = words.layers; app = words.detect.app; launcher = words.launcher }
+export_frame words = record {
+  store = words.store;
+  layers = words.layers;
+  app = words.detect.app;
+  launcher =
+      words.launcher;
+}
 
 -- trees go into the store and the caches, whose documents read as their rows where this is told, and make the image
-unfoldable pub exports_image : Bool → CreateWords → Analyzed → List GroupRow → WorldAndCaches → Result Exported ExportFault → WorldAndCaches → Type 0
+unfoldable pub exports_image : Bool → CreateWords → Analyzed → List GroupRow → WorldAndCaches
+    → Result Exported ExportFault → WorldAndCaches → Type 0
 exports_image readable words analyzed group = do
   frame ← gives exporting.cause_of (Ok (export_frame words))
   exports readable frame group analyzed
 
--- the image is exported, with documents of the caches that read as their rows, the text is made, and the image's document is
--- written last, with bytes that read as the image
-unfoldable pub leaves_image : CreateWords → Phases → WorldAndCaches → Result (List ℕ) CreateRefusal → WorldAndCaches → Type 0
+-- the image is exported, with documents of the caches that read as their rows, the text is made, and the image's
+-- document is written last, with bytes that read as the image
+unfoldable pub leaves_image : CreateWords → Phases → WorldAndCaches → Result (List ℕ) CreateRefusal
+    → WorldAndCaches → Type 0
 leaves_image words phases = do
   exported ← map_err Export (exports_image true words phases.analyzed phases.group)
   text ← gives cause_of (Ok (created_text words.image phases exported))
@@ -104,10 +115,18 @@ leaves_image words phases = do
   yields text
 
 abbrev pub phases_of : Analyzed → Choice → Restored → Phases
-phases_of analyzed choice restored = record { analyzed = analyzed; group = choice.group; entries = length choice.plan; restored = restored }
+phases_of analyzed choice restored = record {
+  analyzed = analyzed;
+  group = choice.group;
+  entries = length
+      choice.plan;
+  restored = restored;
+}
 
--- The phases, one after another; what was analyzed, with the target of its run image, and the choice are handed on as values.
-unfoldable pub creates : CreateWords → List Variable → Surroundings → Result (List ℕ) CreateRefusal → Surroundings → Type 0
+-- The phases, one after another; what was analyzed, with the target of its run image, and the choice are handed on as
+-- values.
+unfoldable pub creates : CreateWords → List Variable → Surroundings → Result (List ℕ) CreateRefusal → Surroundings
+    → Type 0
 creates words env = do
   analyzed ← over_world (map_err Restore (looks_at_images words))
   choice ← over_outside (map_err Detect (chooses_group (target_of analyzed) words.detect env))

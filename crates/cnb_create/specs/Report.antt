@@ -10,7 +10,8 @@ use Rattle.cnb_create.specs.declared.phases.Phases.{Phases}
 -- the lines of each phase before the export
 abbrev pub phases_text : Phases → List ℕ
 phases_text phases =
-    analyzed_text phases.analyzed ++ choice_text phases.group phases.entries ++ restored_text phases.restored ++ built_text phases.group
+    analyzed_text phases.analyzed ++ choice_text phases.group phases.entries ++ restored_text phases.restored
+    ++ built_text phases.group
 
 -- the lines of all phases
 abbrev pub created_text : List ℕ → Phases → Exported → List ℕ

@@ -53,8 +53,8 @@ pub fn create_command<W: World, S: Spawner + Send, R: Threads + Sync>(
         result
         (surroundings (outside W.World S.Spawner world.new spawners.new.items)
         (caches_seen ⟦<dyn Shelf as Shelf>⟧ caches.new)) }
-    // Where it is refused, the image's document is as it was, if it stands apart from all else that is written and the
-    // build children left it.
+    // Where it is refused, the image's document is as it was, if the work folder isn't in the store and the layers folder is
+    // apart from it, or else the document is apart from all that is written, and the build children left it.
     ensures image { OnErr result (IsTrue (is_image_apart options.now) →
         Keeps (image_document options.now) (seen W.World world.old) (seen W.World world.new)) }
     // Where it isn't, the image's document stands and can be read.

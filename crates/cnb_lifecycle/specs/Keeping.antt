@@ -9,9 +9,9 @@ use Rattle.steps.specs.Outside.{Seen}
 use Rattle.cnb_lifecycle.specs.declared.status.Status.{Status}
 use Rattle.cnb_lifecycle.specs.declared.status.Status.TheVariants.{Refused}
 
--- The document of the image, or of the run image, that a command writes is as it was. `create` writes documents of the work
--- folder and layers too, and runs children: there this holds where the words keep the image's document apart from what is
--- written, and the build children left it.
+-- The document of the image, or of the run image, that a command writes is as it was. `create` writes documents of the
+-- work folder and layers too, and runs children: there this holds where these folders are apart from the store, or the
+-- document from all that is written, and the build children left the document.
 abbrev pub KeepsImage : Asked → Seen → Seen → Type 0
 KeepsImage (Export options) old new = Keeps (image_path options.store options.image) old new
 KeepsImage (Create options) old new = IsTrue (is_image_apart options) → Keeps (image_document options) old new

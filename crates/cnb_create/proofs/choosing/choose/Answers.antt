@@ -15,10 +15,14 @@ returns-in_err-chosen-clause-steps g c =
 pub returns-in_err-write_choice-clause-steps : goal.returns-in_err-write_choice-clause-steps
 unfolding chooses_group
 returns-in_err-write_choice-clause-steps g c =
-    let exit = err_from_is_err_and c.from_residual-in_err-write_choice.result c.from_residual-in_err-write_choice.ensures.1 in
-    rw (exit.1, exit.2) (mapped_fault Detect _ _ _ _ (went _ _ _ _ _ (choice_in c.in_ok-chosen.chosen) _ c.in_ok-chosen.ensures.steps (ended _ _ _ _ _ (within _ _ _ _ _ c.in_err-write_choice.ensures.step))))
+    let exit = err_from_is_err_and c.from_residual-in_err-write_choice.result
+    c.from_residual-in_err-write_choice.ensures.1 in
+    rw (exit.1, exit.2) (mapped_fault Detect _ _ _ _
+    (went _ _ _ _ _ (choice_in c.in_ok-chosen.chosen) _ c.in_ok-chosen.ensures.steps
+    (ended _ _ _ _ _ (within _ _ _ _ _ c.in_err-write_choice.ensures.step))))
 
 pub returns-clause-steps : goal.returns-clause-steps
 unfolding chooses_group
 returns-clause-steps g c =
-    mapped Detect _ _ _ _ (went _ _ _ _ _ (choice_in c.in_ok-chosen.chosen) _ c.in_ok-chosen.ensures.steps (went _ _ _ _ _ _ _ (within _ _ _ _ _ c.in_ok-write_choice.ensures.step) (yielded DetectRefusal _ _)))
+    mapped Detect _ _ _ _ (went _ _ _ _ _ (choice_in c.in_ok-chosen.chosen) _ c.in_ok-chosen.ensures.steps
+    (went _ _ _ _ _ _ _ (within _ _ _ _ _ c.in_ok-write_choice.ensures.step) (yielded DetectRefusal _ _)))

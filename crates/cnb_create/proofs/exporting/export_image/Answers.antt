@@ -16,8 +16,10 @@ pub returns-in_err-exported-clause-steps : goal.returns-in_err-exported-clause-s
 unfolding exports_image
 returns-in_err-exported-clause-steps g c =
     let exit = err_from_is_err_and c.from_residual-in_err-exported.result c.from_residual-in_err-exported.ensures.1 in
-    rw (exit.1, exit.2) (went _ _ _ _ _ _ _ (given _ _ _ _ (ap Ok (sym c.in_ok-frame.ensures.frame))) c.in_err-exported.ensures.steps)
+    rw (exit.1, exit.2) (went _ _ _ _ _ _ _ (given _ _ _ _ (ap Ok (sym c.in_ok-frame.ensures.frame)))
+    c.in_err-exported.ensures.steps)
 
 pub returns-clause-steps : goal.returns-clause-steps
 unfolding exports_image
-returns-clause-steps g c = went _ _ _ _ _ _ _ (given _ _ _ _ (ap Ok (sym c.in_ok-frame.ensures.frame))) c.in_ok-exported.ensures.steps
+returns-clause-steps g c = went _ _ _ _ _ _ _ (given _ _ _ _ (ap Ok (sym c.in_ok-frame.ensures.frame)))
+    c.in_ok-exported.ensures.steps

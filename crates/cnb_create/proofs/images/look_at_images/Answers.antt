@@ -11,14 +11,22 @@ pub returns-in_err-analyzed-clause-steps : goal.returns-in_err-analyzed-clause-s
 unfolding looks_at_images
 returns-in_err-analyzed-clause-steps g c =
     let exit = err_from_is_err_and c.from_residual.result c.from_residual.ensures.1 in
-    rw (exit.1, exit.2) (mapped_fault Restore _ _ _ _ (ended _ _ _ _ _ (analyzes_as _ _ _ _ _ _ _ (ap Some c.previous_name-previous.ensures) c.in_err-analyzed.ensures.steps)))
+    rw (exit.1, exit.2) (mapped_fault Restore _ _ _ _
+    (ended _ _ _ _ _ (analyzes_as _ _ _ _ _ _ _ (ap Some c.previous_name-previous.ensures)
+    c.in_err-analyzed.ensures.steps)))
 
 pub returns-in_err-write_analyzed_document-clause-steps : goal.returns-in_err-write_analyzed_document-clause-steps
 unfolding looks_at_images
 returns-in_err-write_analyzed_document-clause-steps g c =
-    let exit = err_from_is_err_and c.from_residual-in_err-write_analyzed_document.result c.from_residual-in_err-write_analyzed_document.ensures.1 in
-    rw (exit.1, exit.2) (mapped_fault Restore _ _ _ _ (went _ _ _ _ _ _ _ (analyzes_as _ _ _ _ _ _ _ (ap Some c.previous_name-previous.ensures) c.in_ok-analyzed.ensures.steps) (ended _ _ _ _ _ c.in_err-write_analyzed_document.ensures.step)))
+    let exit = err_from_is_err_and c.from_residual-in_err-write_analyzed_document.result
+    c.from_residual-in_err-write_analyzed_document.ensures.1 in
+    rw (exit.1, exit.2) (mapped_fault Restore _ _ _ _
+    (went _ _ _ _ _ _ _ (analyzes_as _ _ _ _ _ _ _ (ap Some c.previous_name-previous.ensures)
+    c.in_ok-analyzed.ensures.steps) (ended _ _ _ _ _ c.in_err-write_analyzed_document.ensures.step)))
 
 pub returns-clause-steps : goal.returns-clause-steps
 unfolding looks_at_images
-returns-clause-steps g c = mapped Restore _ _ _ _ (went _ _ _ _ _ _ _ (analyzes_as _ _ _ _ _ _ _ (ap Some c.previous_name-previous.ensures) c.in_ok-analyzed.ensures.steps) (went _ _ _ _ _ _ _ c.in_ok-write_analyzed_document.ensures.step (yielded RestoreFault _ _)))
+returns-clause-steps g c = mapped Restore _ _ _ _
+    (went _ _ _ _ _ _ _ (analyzes_as _ _ _ _ _ _ _ (ap Some c.previous_name-previous.ensures)
+    c.in_ok-analyzed.ensures.steps) (went _ _ _ _ _ _ _ c.in_ok-write_analyzed_document.ensures.step
+    (yielded RestoreFault _ _)))
