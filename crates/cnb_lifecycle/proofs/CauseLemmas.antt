@@ -35,7 +35,9 @@ files_later ChildFailed before now h = omega (arith, h)
 files_later OutOfMemory before now h = h
 files_later Decided before now h = omega (arith, h)
 
-pub cause_of_file : (end : Result Answer Refusal) (status : Status) (taken_old taken_new : Option (List ℕ)) (before now : ℕ) → Finishes end status taken_old taken_new → CountsFiles cause_of end before now → CauseOfFile status before now
+pub cause_of_file : (end : Result Answer Refusal) (status : Status) (taken_old taken_new : Option (List ℕ))
+    (before now : ℕ) → Finishes end status taken_old taken_new → CountsFiles cause_of end before now
+    → CauseOfFile status before now
 cause_of_file (Ok (answer.Printed text)) Done t0 t1 before now f h = h
 cause_of_file (Ok (answer.Printed text)) Output t0 t1 before now f h = omega (arith, h)
 cause_of_file (Ok (answer.Printed text)) (Refused told) t0 t1 before now f h = absurd f
@@ -48,7 +50,8 @@ cause_of_file (Err refusal) Done t0 t1 before now f h = absurd f
 cause_of_file (Err refusal) Output t0 t1 before now f h = files_later (cause_of refusal) before now h
 cause_of_file (Err refusal) (Launched code) t0 t1 before now f h = absurd f
 cause_of_file (Err refusal) (Refused Memory) t0 t1 before now f h = files_later (cause_of refusal) before now h
-cause_of_file (Err refusal) (Refused told) t0 t1 before now f h = subst (λ r. FilesBy (cause_of r) before now) (sym f.0) h
+cause_of_file (Err refusal) (Refused told) t0 t1 before now f h = subst (λ r. FilesBy (cause_of r) before now)
+    (sym f.0) h
 
 -- counts of spawners
 same_fell : (before now : List ℕ) → now ≡ before → NoneFell before now
@@ -61,17 +64,20 @@ rose_fell (b ∷ before) (n ∷ now) (inl (rose, rest)) = (rose.later, rest)
 rose_fell (b ∷ before) (n ∷ now) (inr (later, rest)) = (later, rose_fell before now rest)
 
 -- the counts of children
-child_later : (cause : Cause) (before now : ℕ) (befores nows : List ℕ) → EitherBy cause before now befores nows → (before ≤ now) × NoneFell befores nows
+child_later : (cause : Cause) (before now : ℕ) (befores nows : List ℕ) → EitherBy cause before now befores nows
+    → (before ≤ now) × NoneFell befores nows
 child_later (FileFailed path) before now befores nows h = (omega (arith, h.0), same_fell befores nows h.1)
 child_later ChildFailed before now befores nows (inl (rose, fell)) = (rose.later, fell)
 child_later ChildFailed before now befores nows (inr (later, rose)) = (later, rose_fell befores nows rose)
 child_later OutOfMemory before now befores nows h = h
 child_later Decided before now befores nows h = (omega (arith, h.0), same_fell befores nows h.1)
 
-pub cause_of_child : (end : Result Answer Refusal) (status : Status) (taken_old taken_new : Option (List ℕ)) (before now : ℕ) (befores nows : List ℕ) → Finishes end status taken_old taken_new
+pub cause_of_child : (end : Result Answer Refusal) (status : Status) (taken_old taken_new : Option (List ℕ))
+    (before now : ℕ) (befores nows : List ℕ) → Finishes end status taken_old taken_new
     → CountsChild end before now befores nows → CauseOfChild status before now befores nows
 cause_of_child (Ok (answer.Printed text)) Done t0 t1 before now befores nows f h = h
-cause_of_child (Ok (answer.Printed text)) Output t0 t1 before now befores nows f h = (omega (arith, h.0), same_fell befores nows h.1)
+cause_of_child (Ok (answer.Printed text)) Output t0 t1 before now befores nows f h =
+    (omega (arith, h.0), same_fell befores nows h.1)
 cause_of_child (Ok (answer.Printed text)) (Refused told) t0 t1 before now befores nows f h = absurd f
 cause_of_child (Ok (answer.Printed text)) (Launched code) t0 t1 before now befores nows f h = absurd f
 cause_of_child (Ok (answer.Launched code)) Done t0 t1 before now befores nows f h = absurd f
@@ -79,7 +85,10 @@ cause_of_child (Ok (answer.Launched code)) Output t0 t1 before now befores nows 
 cause_of_child (Ok (answer.Launched code)) (Refused told) t0 t1 before now befores nows f h = absurd f
 cause_of_child (Ok (answer.Launched code)) (Launched told) t0 t1 before now befores nows f h = h
 cause_of_child (Err refusal) Done t0 t1 before now befores nows f h = absurd f
-cause_of_child (Err refusal) Output t0 t1 before now befores nows f h = child_later (cause_of refusal) before now befores nows h
+cause_of_child (Err refusal) Output t0 t1 before now befores nows f h = child_later
+    (cause_of refusal) before now befores nows h
 cause_of_child (Err refusal) (Launched code) t0 t1 before now befores nows f h = absurd f
-cause_of_child (Err refusal) (Refused Memory) t0 t1 before now befores nows f h = child_later (cause_of refusal) before now befores nows h
-cause_of_child (Err refusal) (Refused told) t0 t1 before now befores nows f h = subst (λ r. EitherBy (cause_of r) before now befores nows) (sym f.0) h
+cause_of_child (Err refusal) (Refused Memory) t0 t1 before now befores nows f h = child_later
+    (cause_of refusal) before now befores nows h
+cause_of_child (Err refusal) (Refused told) t0 t1 before now befores nows f h = subst
+    (λ r. EitherBy (cause_of r) before now befores nows) (sym f.0) h

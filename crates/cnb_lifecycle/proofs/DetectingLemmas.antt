@@ -12,10 +12,14 @@ use Rattle.cnb_lifecycle.specs.declared.answer.Answer.{Answer}
 use Rattle.cnb_lifecycle.specs.declared.answer.Answer.TheVariants.{Printed}
 use Rattle.cnb_lifecycle.specs.declared.refusal.Refusal.{Refusal}
 
-pub detects_so : (asked path : Option (List ℕ)) (choice : ChoiceWords) (env : List Variable) (old new : Outside) (end : Result Answer Refusal)
-    → asked ≡ path → tells Printed of_detect (detects_into path choice env) old end new → tells Printed of_detect (detects_into asked choice env) old end new
-detects_so asked path choice env old new end is h = subst (λ o. tells Printed of_detect (detects_into o choice env) old end new) (sym is) h
+pub detects_so : (asked path : Option (List ℕ)) (choice : ChoiceWords) (env : List Variable) (old new : Outside)
+    (end : Result Answer Refusal)
+    → asked ≡ path → tells Printed of_detect (detects_into path choice env) old end new
+    → tells Printed of_detect (detects_into asked choice env) old end new
+detects_so asked path choice env old new end is h = subst
+    (λ o. tells Printed of_detect (detects_into o choice env) old end new) (sym is) h
 
 -- the path of a record that is asked for may be written
-pub free_so : (work path : List ℕ) (asked : Option (List ℕ)) → asked ≡ Some path → IfSome asked (λ p. IsTrue (is_record_path work p)) → IsTrue (is_record_path work path)
+pub free_so : (work path : List ℕ) (asked : Option (List ℕ)) → asked ≡ Some path
+    → IfSome asked (λ p. IsTrue (is_record_path work p)) → IsTrue (is_record_path work path)
 free_so work path asked is h = subst (λ o. IfSome o (λ p. IsTrue (is_record_path work p))) is h

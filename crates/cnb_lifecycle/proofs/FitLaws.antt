@@ -1,17 +1,15 @@
 -- Where the files fit a command, it makes no call on a path of the wrong kind.
 use Rattle.std.proofs.Common.{◌≡◌, ◌∙◌, refl, sym, ap, subst, arith, ℕ, ◌+◌, ◌<◌, ◌≤◌, nat_le, Bool, true, false, not, List, [], ◌∷◌, ◌++◌, codes, length, length-append, map, Option, Some, None, Result, Ok, Err, inl, inr}
 use Rattle.std.proofs.lemmas.Bool.{and_from, and_parts, leb-true}
-use Rattle.std.specs.Prelude.{◌||◌, IfOk, IfSome, IsTrue, OnOk, if◌then◌else◌, is_some}
+use Rattle.std.specs.Prelude.{◌||◌, IfOk, IsTrue, OnOk, if◌then◌else◌, is_some}
 use Rattle.std.specs.Option.{option_map}
 use Rattle.std.specs.Str.{bytes_eq}
-use Rattle.cnb_create.specs.Surroundings.{Surroundings, over_outside, over_world, surroundings}
-use Rattle.cnb_detect.proofs.OutcomeLaws.{comes_to}
-use Rattle.cnb_detect.specs.declared.target.TargetSource.TheVariants.{Document}
+use Rattle.cnb_create.specs.Surroundings.{Surroundings, over_outside, over_world, surroundings, caches_beside, over_caches}
 use Rattle.cnb_env.specs.Layers.{are_fit_launch_sets}
 use Rattle.cnb_launch.specs.Choosing.{chosen_in}
 use Rattle.cnb_launch.specs.Commands.{launches_command}
 use Rattle.cnb_launch.specs.Documents.{launch_doc_under}
-use Rattle.cnb_launch.specs.Exec.{exec_job, runs_exec, runs_execs}
+use Rattle.cnb_launch.specs.Exec.{runs_exec, runs_execs}
 use Rattle.cnb_launch.specs.Faults as launching
 use Rattle.cnb_launch.specs.Planning.{are_fit_execs, launches, plans, prepares, prepares_in, prepares_of, sets_in}
 use Rattle.cnb_record.specs.Checks.{checks, compares, compares_group, compares_plan, follows, matches, proves, reads_group, reads_ordered}
@@ -24,7 +22,6 @@ use Rattle.cnb_restore.specs.Commands.{analyzes_command}
 use Rattle.cnb_words.specs.declared.analyze.AnalyzeWords.{AnalyzeWords}
 use Rattle.cnb_words.specs.declared.base.BaseWords.{BaseWords}
 use Rattle.cnb_words.specs.declared.check.CheckWords.{CheckWords}
-use Rattle.cnb_words.specs.declared.detect.DetectWords.{DetectWords}
 use Rattle.cnb_words.specs.declared.launch.LaunchWords.{LaunchWords}
 use Rattle.cnb_words.specs.declared.prune.PruneWords.{PruneWords}
 use Rattle.cnb_words.specs.declared.rebase.RebaseWords.{RebaseWords}
@@ -36,8 +33,6 @@ use Rattle.cnb_world.proofs.Joins.{file_is_path, parent_of_file}
 use Rattle.cnb_world.specs.Calls.{MayMisuse}
 use Rattle.cnb_world.specs.Path.{is_path, is_short_path, joined, parent_of}
 use Rattle.cnb_world.specs.Tree.{Tree, is_file, is_file_or_absent, is_root, item_at}
-use Rattle.cnb_world.specs.Whole.{can_write}
-use Rattle.cnb_world.specs.declared.child.ChildJob.{ChildJob}
 use Rattle.cnb_world.specs.declared.env.Variable.{Variable}
 use Rattle.cnb_world.specs.declared.world.Item.{Item}
 use Rattle.cnb_toml.specs.Form.{TableForm}
@@ -55,7 +50,7 @@ use Rattle.shelf_set.specs.ShelfState.{ShelfState}
 use Rattle.steps.specs.Causes.{Cause}
 use Rattle.steps.specs.Each.{for_each}
 use Rattle.steps.specs.Outside.{Outside, Seen}
-use Rattle.steps.specs.Steps.{◌>>=◌, gives, map_err, reads, removes, runs_child, writes, yields}
+use Rattle.steps.specs.Steps.{◌>>=◌, gives, removes, yields}
 use Rattle.store_prune.specs.Digests.{tree_digest}
 use Rattle.store_prune.specs.Faults.{cause_of as prune_cause}
 use Rattle.store_prune.specs.Listing.{lists, lists_where, looks_for, looks_for_file}
@@ -77,104 +72,19 @@ use Rattle.cnb_lifecycle.specs.declared.answer.Answer.{Answer}
 use Rattle.cnb_lifecycle.specs.declared.refusal.Refusal.{Refusal}
 use Rattle.cnb_lifecycle.specs.declared.status.Status.{Status}
 use Rattle.cnb_lifecycle.specs.Commands.{On, after_words, does}
-use Rattle.cnb_lifecycle.specs.Detecting.{detects_into}
 use Rattle.cnb_lifecycle.specs.Ends.{Ends}
-use Rattle.cnb_lifecycle.specs.Fitting.{FitsAnalyze, FitsBase, FitsCheck, FitsDetect, FitsLaunch, FitsPrune, FitsRebase, FitsShow, FitsVerify, IsListed, NoMisuse, NoMisuseBy, NoMisuseUnless}
+use Rattle.cnb_lifecycle.specs.Fitting.{FitsAnalyze, FitsBase, FitsCheck, FitsLaunch, FitsPrune, FitsRebase, FitsShow, FitsVerify, IsListed, NoMisuseBy}
 use Rattle.cnb_lifecycle.specs.Telling.{tells}
+use Rattle.cnb_lifecycle.proofs.BuildFits.{build_idle, build_minds}
+use Rattle.cnb_lifecycle.proofs.CreateFits.{create_idle, create_minds}
+use Rattle.cnb_lifecycle.proofs.DetectFits.{detect_minds}
+use Rattle.cnb_lifecycle.proofs.FitPasses.{Goes, Passes, goes_bind, goes_each, goes_looks, goes_told, minds_behind}
+use Rattle.cnb_lifecycle.proofs.FitSteps.{by_allows, Counts, counts_bind, counts_child, counts_each, counts_exec, given_then, Looks, looks_bind, looks_each, looks_gives, looks_reads, looks_told, looks_yields, Minds, minds_bind, minds_counts, minds_looks, minds_told, minds_writes, minds_yields, narrow, reads_then, still, told_then, unmoved}
+use Rattle.cnb_lifecycle.proofs.ExportFits.{export_minds}
 use Rattle.cnb_lifecycle.proofs.PutFits.{begin_kept, child_longer, file_kept, joined_within, not_root, tree_longer, trees_long, write_kept}
+use Rattle.cnb_lifecycle.proofs.UnpackFits.{unpack_minds}
+use Rattle.cnb_lifecycle.proofs.RestoreFits.{restore_minds}
 use Rattle.cnb_lifecycle.proofs.WordLaws.{HasPaths}
-
--- ---- steps, one after another
-
--- steps that make no such call where the files fit
-abbrev Minds : {E A : Type 0} → (Tree → Type 0) → (Seen → Result A E → Seen → Type 0) → Type 0
-Minds {E} {A} Fit step = (old new : Seen) (result : Result A E) → step old result new → NoMisuse Fit old new
-
--- and leave the files
-abbrev Looks : {E A : Type 0} → (Tree → Type 0) → (Seen → Result A E → Seen → Type 0) → Type 0
-Looks {E} {A} Fit step = (old new : Seen) (result : Result A E) → step old result new → (new.files ≡ old.files) × NoMisuse Fit old new
-
-by_allows : (fits : Tree → Bool) (o : Option Tree) (a b : ℕ) → MayMisuse (option_map fits o) a b → IfSome o (λ files. IsTrue (fits files) → b ≡ a)
-by_allows fits None a b h = tt
-by_allows fits (Some t) a b h = λ fit. subst (λ v. MayMisuse (Some v) a b) fit h
-
-narrow : (P Q : Tree → Type 0) (o : Option Tree) (a b : ℕ) → ((t : Tree) → Q t → P t) → IfSome o (λ files. P files → b ≡ a) → IfSome o (λ files. Q files → b ≡ a)
-narrow P Q None a b so h = tt
-narrow P Q (Some t) a b so h = λ q. h (so t q)
-
-join : (P : Tree → Type 0) (o o1 : Option Tree) (a b c : ℕ) → o1 ≡ o → IfSome o (λ t. P t → b ≡ a) → IfSome o1 (λ t. P t → c ≡ b) → IfSome o (λ t. P t → c ≡ a)
-join P None o1 a b c same first second = tt
-join P (Some t) o1 a b c same first second = λ p. let next : IfSome (Some t) (λ t. P t → c ≡ b) = subst (λ v. IfSome v (λ t. P t → c ≡ b)) same second in next p ∙ first p
-
-minds_looks : {E A : Type 0} (Fit : Tree → Type 0) (step : Seen → Result A E → Seen → Type 0) → Looks Fit step → Minds Fit step
-minds_looks Fit step looks old new result h = (looks old new result h).1
-
-looks_bind : {E A B : Type 0} (Fit : Tree → Type 0) (first : Seen → Result A E → Seen → Type 0) (next : A → Seen → Result B E → Seen → Type 0) → Looks Fit first → ((a : A) → Looks Fit (next a)) → Looks Fit (first >>= next)
-unfolding ◌>>=◌
-looks_bind Fit first next p q old new (Ok value) (a, mid, h, k) =
-    let one = p old mid (Ok a) h in
-    let two = q a mid new (Ok value) k in
-    (two.0 ∙ one.0, join Fit old.files mid.files old.misused mid.misused new.misused one.0 one.1 two.1)
-looks_bind Fit first next p q old new (Err fault) (inl h) = p old new (Err fault) h
-looks_bind Fit first next p q old new (Err fault) (inr (a, mid, h, k)) =
-    let one = p old mid (Ok a) h in
-    let two = q a mid new (Err fault) k in
-    (two.0 ∙ one.0, join Fit old.files mid.files old.misused mid.misused new.misused one.0 one.1 two.1)
-
-minds_bind : {E A B : Type 0} (Fit : Tree → Type 0) (first : Seen → Result A E → Seen → Type 0) (next : A → Seen → Result B E → Seen → Type 0) → Looks Fit first → ((a : A) → Minds Fit (next a)) → Minds Fit (first >>= next)
-unfolding ◌>>=◌
-minds_bind Fit first next p q old new (Ok value) (a, mid, h, k) =
-    let one = p old mid (Ok a) h in join Fit old.files mid.files old.misused mid.misused new.misused one.0 one.1 (q a mid new (Ok value) k)
-minds_bind Fit first next p q old new (Err fault) (inl h) = (p old new (Err fault) h).1
-minds_bind Fit first next p q old new (Err fault) (inr (a, mid, h, k)) =
-    let one = p old mid (Ok a) h in join Fit old.files mid.files old.misused mid.misused new.misused one.0 one.1 (q a mid new (Err fault) k)
-
-looks_told : {E F A : Type 0} (Fit : Tree → Type 0) (of : E → F) (step : Seen → Result A E → Seen → Type 0) → Looks Fit step → Looks Fit (map_err of step)
-unfolding map_err
-looks_told Fit of step p old new (Ok value) h = p old new (Ok value) h
-looks_told Fit of step p old new (Err refusal) (fault, is, h) = p old new (Err fault) h
-
-minds_told : {E F A : Type 0} (Fit : Tree → Type 0) (of : E → F) (step : Seen → Result A E → Seen → Type 0) → Minds Fit step → Minds Fit (map_err of step)
-unfolding map_err
-minds_told Fit of step p old new (Ok value) h = p old new (Ok value) h
-minds_told Fit of step p old new (Err refusal) (fault, is, h) = p old new (Err fault) h
-
-looks_reads : {E A : Type 0} (Fit : Tree → Type 0) (cause : E → Cause) (fits : Tree → Bool) (want : Tree → Result A E) → ((t : Tree) → Fit t → IsTrue (fits t)) → Looks Fit (reads cause fits want)
-unfolding reads
-looks_reads Fit cause fits want so old new result h = (h.same.files, narrow (λ t. IsTrue (fits t)) Fit old.files old.misused new.misused so (by_allows fits old.files old.misused new.misused h.allows))
-
-still : (Fit : Tree → Type 0) (o : Option Tree) (a b : ℕ) → b ≡ a → IfSome o (λ files. Fit files → b ≡ a)
-still Fit None a b same = tt
-still Fit (Some t) a b same = λ fit. same
-
-unmoved : (Fit : Tree → Type 0) (old new : Seen) → new ≡ old → (new.files ≡ old.files) × NoMisuse Fit old new
-unmoved Fit old new same = (ap (λ (s : Seen). s.files) same, still Fit old.files old.misused new.misused (ap (λ (s : Seen). s.misused) same))
-
-looks_gives : {E A : Type 0} (Fit : Tree → Type 0) (cause : E → Cause) (want : Result A E) → Looks Fit (gives cause want)
-unfolding gives
-looks_gives Fit cause want old new result h = unmoved Fit old new h.0
-
-looks_yields : {E A : Type 0} (Fit : Tree → Type 0) (want : A) → Looks {E = E} {A = A} Fit (yields want)
-unfolding yields
-looks_yields Fit want old new (Ok value) h = unmoved Fit old new h.1
-looks_yields Fit want old new (Err fault) h = absurd h
-
-looks_each : {E A X : Type 0} (Fit : Tree → Type 0) (step : X → A → Seen → Result A E → Seen → Type 0) (xs : List X) (so_far : A) → ((x : X) (a : A) → Looks Fit (step x a)) → Looks Fit (for_each step xs so_far)
-unfolding for_each
-looks_each Fit step [] so_far p = looks_yields Fit so_far
-looks_each Fit step (x ∷ xs) so_far p = looks_bind Fit (step x so_far) (for_each step xs) (p x so_far) (λ a. looks_each Fit step xs a p)
-
-minds_writes : {E : Type 0} (Fit : Tree → Type 0) (cause : E → Cause) (path : List ℕ) (Says : List ℕ → Type 0) → ((t : Tree) → Fit t → IsTrue (can_write path t)) → Minds Fit (writes cause path Says)
-unfolding writes
-minds_writes Fit cause path Says so old new (Ok done) h = narrow (λ t. IsTrue (can_write path t)) Fit old.files old.misused new.misused so (by_allows (can_write path) old.files old.misused new.misused h.allows)
-minds_writes Fit cause path Says so old new (Err fault) h = narrow (λ t. IsTrue (can_write path t)) Fit old.files old.misused new.misused so (by_allows (can_write path) old.files old.misused new.misused h.1.allows)
-
--- a write, and a value that is known
-minds_yields : {E A B : Type 0} (Fit : Tree → Type 0) (first : Seen → Result A E → Seen → Type 0) (value : B) → Minds Fit first → Minds Fit (first >>= (λ done. yields value))
-unfolding ◌>>=◌ yields
-minds_yields Fit first value p old new (Ok told) (a, mid, h, k) = subst (λ (s : Seen). NoMisuse Fit old s) (sym k.1) (p old mid (Ok a) h)
-minds_yields Fit first value p old new (Err fault) (inl h) = p old new (Err fault) h
-minds_yields Fit first value p old new (Err fault) (inr (a, mid, h, k)) = absurd k
 
 -- ---- show, analyze, rebase
 
@@ -186,24 +96,38 @@ analyze_minds : (words : AnalyzeWords) → Minds (FitsAnalyze words) (analyzes_c
 unfolding analyzes_command analyzes
 analyze_minds words =
     minds_bind _ _ _
-    (looks_bind _ _ _ (looks_reads _ _ _ _ (λ t (fit : FitsAnalyze words t). fit.run)) (λ image. looks_bind _ _ _ (looks_reads _ _ _ _ (λ t (fit : FitsAnalyze words t). fit.previous)) (λ known. looks_gives _ _ _)))
-    (λ analyzed. minds_bind _ _ _ (looks_gives _ _ _) (λ text. minds_yields _ _ _ (minds_writes _ _ _ _ (λ t (fit : FitsAnalyze words t). fit.written))))
+    (looks_bind _ _ _ (looks_reads _ _ _ _ (λ t (fit : FitsAnalyze words t). fit.run))
+    (λ image. looks_bind _ _ _ (looks_reads _ _ _ _ (λ t (fit : FitsAnalyze words t). fit.previous))
+    (λ known. looks_gives _ _ _)))
+    (λ analyzed. minds_bind _ _ _ (looks_gives _ _ _)
+    (λ text. minds_yields _ _ _ (minds_writes _ _ _ _ (λ t (fit : FitsAnalyze words t). fit.written))))
 
 rebase_minds : (words : RebaseWords) → Minds (FitsRebase words) (rebases_command words)
 unfolding rebases_command rebases rebases_on saves_rebased reads_image reads_run_image writes_readable_image
 rebase_minds words =
     minds_bind _ _ _
     (looks_bind _ _ _ (looks_told _ _ _ (looks_reads _ _ _ _ (λ t (fit : FitsRebase words t). fit.image)))
-    (λ image. looks_bind _ _ _ (looks_told _ _ _ (looks_reads _ _ _ _ (λ t (fit : FitsRebase words t). fit.run))) (λ base. looks_gives _ _ _)))
-    (λ image. minds_bind _ _ _ (looks_gives _ _ _) (λ text. minds_yields _ _ _ (minds_told _ _ _ (minds_writes _ _ _ _ (λ t (fit : FitsRebase words t). fit.written)))))
+    (λ image. looks_bind _ _ _ (looks_told _ _ _ (looks_reads _ _ _ _ (λ t (fit : FitsRebase words t). fit.run)))
+    (λ base. looks_gives _ _ _)))
+    (λ image. minds_bind _ _ _ (looks_gives _ _ _)
+    (λ text. minds_yields _ _ _ (minds_told _ _ _
+    (minds_writes _ _ _ _ (λ t (fit : FitsRebase words t). fit.written)))))
 
 -- ---- verify
 
-looks_for_tree : (store digest : List ℕ) (Fit : Tree → Type 0) → ((t : Tree) → Fit t → IsTrue (is_file_or_absent (item_at t (tree_path store digest)))) → Looks Fit (checks_tree store digest)
+looks_for_tree : (store digest : List ℕ) (Fit : Tree → Type 0)
+    → ((t : Tree) → Fit t → IsTrue (is_file_or_absent (item_at t (tree_path store digest))))
+    → Looks Fit (checks_tree store digest)
 unfolding checks_tree gets_tree
 looks_for_tree store digest Fit so =
     looks_bind Fit (gets_tree store digest) _
-    (λ old new result h. (h.same.files, narrow (λ t. IsTrue (is_file_or_absent (item_at t (tree_path store digest)))) Fit old.files old.misused new.misused so (by_allows (λ t. is_file_or_absent (item_at t (tree_path store digest))) old.files old.misused new.misused h.allows)))
+    (λ old new result h. (
+      h.same.files,
+      narrow (λ t. IsTrue
+          (is_file_or_absent (item_at t (tree_path store digest)))) Fit old.files old.misused new.misused so
+          (by_allows (λ t. is_file_or_absent (item_at t (tree_path store digest))) old.files old.misused new.misused
+          h.allows),
+    ))
     (λ tree. looks_yields Fit tt)
 
 verify_minds : (words : VerifyWords) → Minds (FitsVerify words) (verifies_command words)
@@ -213,12 +137,15 @@ verify_minds words =
     (looks_bind _ _ _
     (looks_bind _ _ _ (looks_told _ _ _ (looks_reads _ _ _ _ (λ t (fit : FitsVerify words t). fit.image)))
     (λ image. looks_bind _ _ _ (looks_gives _ _ _)
-    (λ digests. looks_bind _ _ _ (looks_each _ (checks_next words.store) digests tt (λ digest done. looks_told _ _ _ (looks_for_tree words.store digest _ (λ t (fit : FitsVerify words t). fit.trees digest)))) (λ checked. looks_yields _ _))))
+    (λ digests. looks_bind _ _ _ (looks_each _ (checks_next words.store) digests tt
+    (λ digest done. looks_told _ _ _ (looks_for_tree words.store digest _
+    (λ t (fit : FitsVerify words t). fit.trees digest)))) (λ checked. looks_yields _ _))))
     (λ count. looks_gives _ _ _))
 
 -- ---- check
 
-looks_matched : {A : Type 0} (Fit : Tree → Type 0) (path : List ℕ) (proved found : A) → Looks Fit (matches path proved found)
+looks_matched : {A : Type 0} (Fit : Tree → Type 0) (path : List ℕ) (proved found : A)
+    → Looks Fit (matches path proved found)
 unfolding matches
 looks_matched Fit path proved found old new result h = unmoved Fit old new h.0
 
@@ -231,96 +158,17 @@ check_minds words =
     (looks_bind _ _ _ (looks_told _ _ _ (looks_reads _ _ _ _ (λ t (fit : FitsCheck words t). fit.order)))
     (λ order. looks_bind _ _ _ (looks_told _ _ _ (looks_reads _ _ _ _ (λ t (fit : FitsCheck words t). fit.buildpacks)))
     (λ catalog. looks_bind _ _ _ (looks_told _ _ _ (looks_gives _ _ _)) (λ groups. looks_yields _ _))))
-    (λ ordered. looks_bind _ _ _ (looks_told _ _ _ (looks_reads _ _ _ _ (λ t (fit : FitsCheck words t). fit.record_file))) (λ bytes. looks_told _ _ _ (looks_gives _ _ _))))
+    (λ ordered. looks_bind _ _ _ (looks_told _ _ _
+    (looks_reads _ _ _ _ (λ t (fit : FitsCheck words t). fit.record_file)))
+    (λ bytes. looks_told _ _ _ (looks_gives _ _ _))))
     (λ proved. looks_bind _ _ _
-    (looks_bind _ _ _ (looks_bind _ _ _ (looks_told _ _ _ (looks_reads _ _ _ _ (λ t (fit : FitsCheck words t). fit.group))) (λ group. looks_bind _ _ _ (looks_gives _ _ _) (λ known. looks_yields _ _))) (λ group. looks_matched _ _ _ _))
-    (λ group. looks_bind _ _ _ (looks_bind _ _ _ (looks_told _ _ _ (looks_reads _ _ _ _ (λ t (fit : FitsCheck words t). fit.plan))) (λ plan. looks_matched _ _ _ _)) (λ plan. looks_gives _ _ _))))
-
--- ---- steps of which the next ones know what was read
-
--- where what was read is known of the files
-with_known : (P Q : Tree → Type 0) (o o1 : Option Tree) (b c : ℕ) → o1 ≡ o → IfSome o Q → IfSome o1 (λ t. P t × Q t → c ≡ b) → IfSome o1 (λ t. P t → c ≡ b)
-with_known P Q None o1 b c same q h = subst (λ v. IfSome v (λ t. P t → c ≡ b)) (sym same) tt
-with_known P Q (Some t) o1 b c same q h =
-    let at : IfSome (Some t) (λ t. P t × Q t → c ≡ b) = subst (λ v. IfSome v (λ t. P t × Q t → c ≡ b)) same h in
-    subst (λ v. IfSome v (λ t. P t → c ≡ b)) (sym same) (λ p. at (p, q))
-
-reads_then : {E A B : Type 0} (Fit : Tree → Type 0) (cause : E → Cause) (fits : Tree → Bool) (want : Tree → Result A E) (next : A → Seen → Result B E → Seen → Type 0) → ((t : Tree) → Fit t → IsTrue (fits t))
-    → ((a : A) → Looks (λ t. Fit t × (want t ≡ Ok a)) (next a)) → Looks Fit (reads cause fits want >>= next)
-unfolding ◌>>=◌ reads
-reads_then {E = E} {A = A} {B = B} Fit cause fits want next so later old new result h = by result h
-  where
-    behind : (result : Result B E) (a : A) (mid : Seen) → reads cause fits want old (Ok a) mid → next a mid result new → (new.files ≡ old.files) × NoMisuse Fit old new
-    behind result a mid h k =
-        let one = looks_reads Fit cause fits want so old mid (Ok a) h in
-        let two = later a mid new result k in
-        (two.0 ∙ one.0, join Fit old.files mid.files old.misused mid.misused new.misused one.0 one.1 (with_known Fit (λ t. want t ≡ Ok a) old.files mid.files mid.misused new.misused one.0 h.answer two.1))
-
-    by : (result : Result B E) → (reads cause fits want >>= next) old result new → (new.files ≡ old.files) × NoMisuse Fit old new
-    by (Ok value) (a, mid, h, k) = behind (Ok value) a mid h k
-    by (Err fault) (inl h) = looks_reads Fit cause fits want so old new (Err fault) h
-    by (Err fault) (inr (a, mid, h, k)) = behind (Err fault) a mid h k
-
--- the same where the fault is told as another
-told_then : {E F A B : Type 0} (Fit : Tree → Type 0) (of : E → F) (cause : E → Cause) (fits : Tree → Bool) (want : Tree → Result A E) (next : A → Seen → Result B F → Seen → Type 0) → ((t : Tree) → Fit t → IsTrue (fits t))
-    → ((a : A) → Looks (λ t. Fit t × (want t ≡ Ok a)) (next a)) → Looks Fit (map_err of (reads cause fits want) >>= next)
-unfolding ◌>>=◌ map_err reads
-told_then {F = F} {A = A} {B = B} Fit of cause fits want next so later old new result h = by result h
-  where
-    behind : (result : Result B F) (a : A) (mid : Seen) → reads cause fits want old (Ok a) mid → next a mid result new → (new.files ≡ old.files) × NoMisuse Fit old new
-    behind result a mid h k =
-        let one = looks_reads Fit cause fits want so old mid (Ok a) h in
-        let two = later a mid new result k in
-        (two.0 ∙ one.0, join Fit old.files mid.files old.misused mid.misused new.misused one.0 one.1 (with_known Fit (λ t. want t ≡ Ok a) old.files mid.files mid.misused new.misused one.0 h.answer two.1))
-
-    by : (result : Result B F) → (map_err of (reads cause fits want) >>= next) old result new → (new.files ≡ old.files) × NoMisuse Fit old new
-    by (Ok value) (a, mid, h, k) = behind (Ok value) a mid h k
-    by (Err refusal) (inl (fault, is, h)) = looks_reads Fit cause fits want so old new (Err fault) h
-    by (Err refusal) (inr (a, mid, h, k)) = behind (Err refusal) a mid h k
-
-given_then : {E A B : Type 0} (Fit : Tree → Type 0) (cause : E → Cause) (want : Result A E) (next : A → Seen → Result B E → Seen → Type 0) → ((a : A) → want ≡ Ok a → Looks Fit (next a)) → Looks Fit (gives cause want >>= next)
-unfolding ◌>>=◌ gives
-given_then Fit cause want next later old new (Ok value) (a, mid, h, k) =
-    let one = unmoved Fit old mid h.0 in
-    let two = later a h.1 mid new (Ok value) k in
-    (two.0 ∙ one.0, join Fit old.files mid.files old.misused mid.misused new.misused one.0 one.1 two.1)
-given_then Fit cause want next later old new (Err fault) (inl h) = unmoved Fit old new h.0
-given_then Fit cause want next later old new (Err fault) (inr (a, mid, h, k)) =
-    let one = unmoved Fit old mid h.0 in
-    let two = later a h.1 mid new (Err fault) k in
-    (two.0 ∙ one.0, join Fit old.files mid.files old.misused mid.misused new.misused one.0 one.1 two.1)
-
--- steps that count none, whatever the files are
-abbrev Counts : {E A : Type 0} → (Seen → Result A E → Seen → Type 0) → Type 0
-Counts {E} {A} step = (old new : Seen) (result : Result A E) → step old result new → new.misused ≡ old.misused
-
-counts_bind : {E A B : Type 0} (first : Seen → Result A E → Seen → Type 0) (next : A → Seen → Result B E → Seen → Type 0) → Counts first → ((a : A) → Counts (next a)) → Counts (first >>= next)
-unfolding ◌>>=◌
-counts_bind first next p q old new (Ok value) (a, mid, h, k) = q a mid new (Ok value) k ∙ p old mid (Ok a) h
-counts_bind first next p q old new (Err fault) (inl h) = p old new (Err fault) h
-counts_bind first next p q old new (Err fault) (inr (a, mid, h, k)) = q a mid new (Err fault) k ∙ p old mid (Ok a) h
-
-counts_each : {E A X : Type 0} (step : X → A → Seen → Result A E → Seen → Type 0) (xs : List X) (so_far : A) → ((x : X) (a : A) → Counts (step x a)) → Counts (for_each step xs so_far)
-unfolding for_each yields
-counts_each step [] so_far p old new (Ok value) h = ap (λ (s : Seen). s.misused) h.1
-counts_each step [] so_far p old new (Err fault) h = absurd h
-counts_each step (x ∷ xs) so_far p old new result h = counts_bind (step x so_far) (for_each step xs) (p x so_far) (λ a. counts_each step xs a p) old new result h
-
-counts_child : {E : Type 0} (cause : E → Cause) (job : ChildJob) → Counts (runs_child cause job)
-unfolding runs_child
-counts_child cause job old new (Ok end) h = h.0
-counts_child cause job old new (Err fault) h = h.2
-
-counts_exec : (dir path : List ℕ) (env : List Variable) → Counts (runs_exec dir path env)
-unfolding runs_exec gives
-counts_exec dir path env = counts_bind _ _ (counts_child launching.cause_of (exec_job dir path env)) (λ end old new result h. ap (λ (s : Seen). s.misused) h.0)
-
--- what is looked at, and steps that count none
-minds_counts : {E A B : Type 0} (Fit : Tree → Type 0) (first : Seen → Result A E → Seen → Type 0) (next : A → Seen → Result B E → Seen → Type 0) → Minds Fit first → ((a : A) → Counts (next a)) → Minds Fit (first >>= next)
-unfolding ◌>>=◌
-minds_counts Fit first next p q old new (Ok value) (a, mid, h, k) = subst (λ n. IfSome old.files (λ t. Fit t → n ≡ old.misused)) (sym (q a mid new (Ok value) k)) (p old mid (Ok a) h)
-minds_counts Fit first next p q old new (Err fault) (inl h) = p old new (Err fault) h
-minds_counts Fit first next p q old new (Err fault) (inr (a, mid, h, k)) = subst (λ n. IfSome old.files (λ t. Fit t → n ≡ old.misused)) (sym (q a mid new (Err fault) k)) (p old mid (Ok a) h)
+    (looks_bind _ _ _ (looks_bind _ _ _ (looks_told _ _ _
+    (looks_reads _ _ _ _ (λ t (fit : FitsCheck words t). fit.group)))
+    (λ group. looks_bind _ _ _ (looks_gives _ _ _) (λ known. looks_yields _ _)))
+    (λ group. looks_matched _ _ _ _))
+    (λ group. looks_bind _ _ _ (looks_bind _ _ _ (looks_told _ _ _
+    (looks_reads _ _ _ _ (λ t (fit : FitsCheck words t). fit.plan))) (λ plan. looks_matched _ _ _ _))
+    (λ plan. looks_gives _ _ _))))
 
 -- ---- prune
 
@@ -339,11 +187,14 @@ counts_removal cause path is old new result h = by result h
     by (Ok done) h = none old.files old.misused new.misused h.1
     by (Err fault) h = none old.files old.misused new.misused h.2
 
-looks_lists : (Fit : Tree → Type 0) (folder : List ℕ) → ((t : Tree) → Fit t → IsListed folder t) → Looks Fit (lists folder)
+looks_lists : (Fit : Tree → Type 0) (folder : List ℕ) → ((t : Tree) → Fit t → IsListed folder t)
+    → Looks Fit (lists folder)
 unfolding lists looks_for lists_where
-looks_lists Fit folder so = reads_then Fit prune_cause _ (λ files. Ok (is_some (item_at files folder))) _ (λ t fit. refl) by
+looks_lists Fit folder so = reads_then Fit prune_cause _ (λ files. Ok (is_some (item_at files folder))) _
+    (λ t fit. refl) by
   where
-    by : (there : Bool) → Looks (λ t. Fit t × (◌≡◌ {A = Result Bool PruneFault} (Ok (is_some (item_at t folder))) (Ok there))) (lists_where folder there)
+    by : (there : Bool) → Looks (λ t. Fit t × (◌≡◌ {A = Result Bool PruneFault} (Ok (is_some (item_at t folder)))
+        (Ok there))) (lists_where folder there)
     by true = looks_reads _ prune_cause _ _ (λ t fit. so t fit.0 (ok_is (is_some (item_at t folder)) true fit.1))
     by false = looks_yields _ []
 
@@ -353,10 +204,14 @@ file_fits found is = subst (λ v. (v || not (is_some found)) ≡ true) (sym is) 
 module _ {A : Type 0} (form : TableForm A) (digests : A → List (List ℕ)) (Fit : Tree → Type 0) where
   looks_document : (path : List ℕ) (named : List (List ℕ)) → Looks Fit (adds_document form digests path named)
   unfolding adds_document adds_where looks_for_file reads_names
-  looks_document path named = reads_then Fit prune_cause _ (λ files. Ok (is_file (item_at files path))) _ (λ t fit. refl) by
+  looks_document path named = reads_then Fit prune_cause _ (λ files. Ok (is_file (item_at files path))) _
+      (λ t fit. refl) by
     where
-      by : (there : Bool) → Looks (λ t. Fit t × (◌≡◌ {A = Result Bool PruneFault} (Ok (is_file (item_at t path))) (Ok there))) (adds_where form digests path named there)
-      by true = looks_bind _ _ _ (looks_reads _ prune_cause _ _ (λ t fit. file_fits (item_at t path) (ok_is (is_file (item_at t path)) true fit.1))) (λ more. looks_gives _ _ _)
+      by : (there : Bool) → Looks (λ t. Fit t × (◌≡◌ {A = Result Bool PruneFault} (Ok (is_file (item_at t path)))
+          (Ok there))) (adds_where form digests path named there)
+      by true = looks_bind _ _ _ (looks_reads _ prune_cause _ _
+          (λ t fit. file_fits (item_at t path) (ok_is (is_file (item_at t path)) true fit.1)))
+          (λ more. looks_gives _ _ _)
       by false = looks_yields _ named
 
   looks_name : (folder name : List ℕ) (named : List (List ℕ)) → Looks Fit (adds_name form digests folder name named)
@@ -367,40 +222,56 @@ module _ {A : Type 0} (form : TableForm A) (digests : A → List (List ℕ)) (Fi
       by true = looks_document (joined folder name) named
       by false = looks_yields Fit named
 
-  looks_folder : (folder : List ℕ) (named : List (List ℕ)) → ((t : Tree) → Fit t → IsListed folder t) → Looks Fit (adds_folder form digests folder named)
+  looks_folder : (folder : List ℕ) (named : List (List ℕ)) → ((t : Tree) → Fit t → IsListed folder t)
+      → Looks Fit (adds_folder form digests folder named)
   unfolding adds_folder
-  looks_folder folder named so = looks_bind Fit _ _ (looks_lists Fit folder so) (λ names. looks_each Fit (adds_name form digests folder) names named (λ name before. looks_name folder name before))
+  looks_folder folder named so = looks_bind Fit _ _ (looks_lists Fit folder so)
+      (λ names. looks_each Fit (adds_name form digests folder) names named
+      (λ name before. looks_name folder name before))
 
-looks_digest : (Fit : Tree → Type 0) (store : List ℕ) (digest : Option (List ℕ)) (trees : List (List ℕ)) → Looks Fit (adds_digest store digest trees)
+looks_digest : (Fit : Tree → Type 0) (store : List ℕ) (digest : Option (List ℕ)) (trees : List (List ℕ))
+    → Looks Fit (adds_digest store digest trees)
 unfolding adds_digest looks_for_file
 looks_digest Fit store None trees = looks_yields Fit trees
-looks_digest Fit store (Some digest) trees = looks_bind Fit _ _ (looks_reads Fit prune_cause _ _ (λ t fit. refl)) (λ there. looks_gives Fit prune_cause _)
+looks_digest Fit store (Some digest) trees = looks_bind Fit _ _ (looks_reads Fit prune_cause _ _ (λ t fit. refl))
+    (λ there. looks_gives Fit prune_cause _)
 
 looks_survey : (words : PruneWords) → Looks (FitsPrune words) (surveys words.store)
 unfolding surveys reads_named reads_trees adds_tree
 looks_survey words =
     let Fit : Tree → Type 0 = FitsPrune words in
     looks_bind Fit _ _
-    (looks_bind Fit _ _ (looks_folder image_table_in digests_of_image Fit (images_folder words.store) [] (λ t fit. fit.images)) (λ named. looks_folder table_in digests_of_run Fit (runs_folder words.store) named (λ t fit. fit.runs)))
+    (looks_bind Fit _ _ (looks_folder image_table_in digests_of_image Fit (images_folder words.store) []
+    (λ t fit. fit.images)) (λ named. looks_folder table_in digests_of_run Fit (runs_folder words.store) named
+    (λ t fit. fit.runs)))
     (λ named. looks_bind Fit _ _
-    (looks_bind Fit _ _ (looks_lists Fit (trees_of words.store) (λ t fit. fit.trees)) (λ names. looks_each Fit (adds_tree words.store) names [] (λ name before. looks_digest Fit words.store (tree_digest name) before)))
+    (looks_bind Fit _ _ (looks_lists Fit (trees_of words.store) (λ t fit. fit.trees))
+    (λ names. looks_each Fit (adds_tree words.store) names []
+    (λ name before. looks_digest Fit words.store (tree_digest name) before)))
     (λ trees. looks_gives Fit prune_cause _))
 
-removal_counts : (store : List ℕ) (digests : List (List ℕ)) → Counts (for_each removes_next (map (tree_path store) digests) tt)
+removal_counts : (store : List ℕ) (digests : List (List ℕ))
+    → Counts (for_each removes_next (map (tree_path store) digests) tt)
 unfolding for_each yields
 removal_counts store [] old new (Ok value) h = ap (λ (s : Seen). s.misused) h.1
 removal_counts store [] old new (Err fault) h = absurd h
 removal_counts store (digest ∷ digests) old new result h =
-    counts_bind (removes prune_cause (tree_path store digest)) (for_each removes_next (map (tree_path store) digests)) (counts_removal prune_cause (tree_path store digest) (not_root (tree_path store digest) (omega (arith, trees_long store, tree_longer store digest)))) (λ done. removal_counts store digests) old new result h
+    counts_bind (removes prune_cause (tree_path store digest))
+    (for_each removes_next (map (tree_path store) digests))
+    (counts_removal prune_cause (tree_path store digest)
+    (not_root (tree_path store digest) (omega (arith, trees_long store, tree_longer store digest))))
+    (λ done. removal_counts store digests) old new result h
 
 removing_counts : (store : List ℕ) (digests : List (List ℕ)) → Counts (removes_trees store digests)
 unfolding removes_trees removes_all ◌>>=◌ gives
 removing_counts store digests old new (Ok value) (paths, mid, given, gone) =
-    subst (λ (ps : List (List ℕ)). for_each removes_next ps tt mid (Ok value) new → new.misused ≡ old.misused) (ok_is (map (tree_path store) digests) paths given.1)
+    subst (λ (ps : List (List ℕ)). for_each removes_next ps tt mid (Ok value) new → new.misused ≡ old.misused)
+    (ok_is (map (tree_path store) digests) paths given.1)
     (λ gone. removal_counts store digests mid new (Ok value) gone ∙ ap (λ (s : Seen). s.misused) given.0) gone
 removing_counts store digests old new (Err fault) (inl given) = ap (λ (s : Seen). s.misused) given.0
 removing_counts store digests old new (Err fault) (inr (paths, mid, given, gone)) =
-    subst (λ (ps : List (List ℕ)). for_each removes_next ps tt mid (Err fault) new → new.misused ≡ old.misused) (ok_is (map (tree_path store) digests) paths given.1)
+    subst (λ (ps : List (List ℕ)). for_each removes_next ps tt mid (Err fault) new → new.misused ≡ old.misused)
+    (ok_is (map (tree_path store) digests) paths given.1)
     (λ gone. removal_counts store digests mid new (Err fault) gone ∙ ap (λ (s : Seen). s.misused) given.0) gone
 
 counts_yields : {E A : Type 0} (value : A) → Counts {E = E} {A = A} (yields value)
@@ -416,82 +287,46 @@ prune_minds : (words : PruneWords) → Minds (FitsPrune words) (prunes_command w
 unfolding prunes_command
 prune_minds words =
     minds_counts _ _ _ (minds_looks _ _ (looks_survey words))
-    (λ pruned. counts_bind _ _ (counts_gives _ _) (λ text. counts_bind _ _ (removing_counts words.store pruned.removed) (λ gone. counts_yields _)))
+    (λ pruned. counts_bind _ _ (counts_gives _ _)
+    (λ text. counts_bind _ _ (removing_counts words.store pruned.removed) (λ gone. counts_yields _)))
 
 -- ---- base
-
--- files that fit, where these did
-abbrev Passes : (Tree → Type 0) → Option Tree → Option Tree → Type 0
-Passes Fit None new = Unit {0}
-Passes Fit (Some files) new = Fit files → (after : Tree) × (new ≡ Some after) × Fit after
-
--- steps that make no such call where the files fit, and leave files that fit where they went well
-abbrev Goes : {E A : Type 0} → (Tree → Type 0) → (Seen → Result A E → Seen → Type 0) → Type 0
-Goes {E} {A} Fit step = (old new : Seen) (result : Result A E) → step old result new → NoMisuse Fit old new × OnOk result (Passes Fit old.files new.files)
-
-behind_passed : (Fit : Tree → Type 0) (o o1 : Option Tree) (a b c : ℕ) → Passes Fit o o1 → IfSome o (λ t. Fit t → b ≡ a) → IfSome o1 (λ t. Fit t → c ≡ b) → IfSome o (λ t. Fit t → c ≡ a)
-behind_passed Fit None o1 a b c passed first second = tt
-behind_passed Fit (Some t) o1 a b c passed first second = λ fit.
-    let (after, is, fits) = passed fit in
-    let later : IfSome (Some after) (λ t. Fit t → c ≡ b) = subst (λ v. IfSome v (λ t. Fit t → c ≡ b)) is second in
-    later fits ∙ first fit
-
-passes_on : (Fit : Tree → Type 0) (o o1 o2 : Option Tree) → Passes Fit o o1 → Passes Fit o1 o2 → Passes Fit o o2
-passes_on Fit None o1 o2 first second = tt
-passes_on Fit (Some t) o1 o2 first second = λ fit. let (after, is, fits) = first fit in let later : Passes Fit (Some after) o2 = subst (λ v. Passes Fit v o2) is second in later fits
-
-passes_same : (Fit : Tree → Type 0) (o o1 : Option Tree) → o1 ≡ o → Passes Fit o o1
-passes_same Fit None o1 same = tt
-passes_same Fit (Some t) o1 same = λ fit. (t, same, fit)
-
-goes_looks : {E A : Type 0} (Fit : Tree → Type 0) (step : Seen → Result A E → Seen → Type 0) → Looks Fit step → Goes Fit step
-goes_looks Fit step looks old new (Ok value) h = let one = looks old new (Ok value) h in (one.1, passes_same Fit old.files new.files one.0)
-goes_looks Fit step looks old new (Err fault) h = ((looks old new (Err fault) h).1, tt)
-
-goes_bind : {E A B : Type 0} (Fit : Tree → Type 0) (first : Seen → Result A E → Seen → Type 0) (next : A → Seen → Result B E → Seen → Type 0) → Goes Fit first → ((a : A) → Goes Fit (next a)) → Goes Fit (first >>= next)
-unfolding ◌>>=◌
-goes_bind Fit first next p q old new (Ok value) (a, mid, h, k) =
-    let one = p old mid (Ok a) h in
-    let two = q a mid new (Ok value) k in
-    (behind_passed Fit old.files mid.files old.misused mid.misused new.misused one.1 one.0 two.0, passes_on Fit old.files mid.files new.files one.1 two.1)
-goes_bind Fit first next p q old new (Err fault) (inl h) = ((p old new (Err fault) h).0, tt)
-goes_bind Fit first next p q old new (Err fault) (inr (a, mid, h, k)) =
-    let one = p old mid (Ok a) h in
-    (behind_passed Fit old.files mid.files old.misused mid.misused new.misused one.1 one.0 (q a mid new (Err fault) k).0, tt)
-
-goes_each : {E A X : Type 0} (Fit : Tree → Type 0) (step : X → A → Seen → Result A E → Seen → Type 0) (xs : List X) (so_far : A) → ((x : X) (a : A) → Goes Fit (step x a)) → Goes Fit (for_each step xs so_far)
-unfolding for_each
-goes_each Fit step [] so_far p = goes_looks Fit _ (looks_yields Fit so_far)
-goes_each Fit step (x ∷ xs) so_far p = goes_bind Fit (step x so_far) (for_each step xs) (p x so_far) (λ a. goes_each Fit step xs a p)
-
-goes_told : {E F A : Type 0} (Fit : Tree → Type 0) (of : E → F) (step : Seen → Result A E → Seen → Type 0) → Goes Fit step → Goes Fit (map_err of step)
-unfolding map_err
-goes_told Fit of step p old new (Ok value) h = p old new (Ok value) h
-goes_told Fit of step p old new (Err refusal) (fault, is, h) = p old new (Err fault) h
-
-minds_behind : {E A B : Type 0} (Fit : Tree → Type 0) (first : Seen → Result A E → Seen → Type 0) (next : A → Seen → Result B E → Seen → Type 0) → Goes Fit first → ((a : A) → Minds Fit (next a)) → Minds Fit (first >>= next)
-unfolding ◌>>=◌
-minds_behind Fit first next p q old new (Ok value) (a, mid, h, k) = let one = p old mid (Ok a) h in behind_passed Fit old.files mid.files old.misused mid.misused new.misused one.1 one.0 (q a mid new (Ok value) k)
-minds_behind Fit first next p q old new (Err fault) (inl h) = (p old new (Err fault) h).0
-minds_behind Fit first next p q old new (Err fault) (inr (a, mid, h, k)) = let one = p old mid (Ok a) h in behind_passed Fit old.files mid.files old.misused mid.misused new.misused one.1 one.0 (q a mid new (Err fault) k)
 
 module _ (words : BaseWords) (path : IsTrue (is_short_path words.store)) (name : IsTrue (is_image_name words.run)) where
   runs_length : length (runs_folder words.store) ≤ length (trees_of words.store)
   runs_length = by (bytes_eq words.store (47 ∷ []))
     where
-      by : (root : Bool) → length ((if root then words.store else words.store ++ 47 ∷ []) ++ codes "runs") ≤ length ((if root then words.store else words.store ++ 47 ∷ []) ++ codes "trees")
+      by : (root : Bool) → length ((if root then words.store else words.store ++ 47 ∷ []) ++ codes "runs")
+          ≤ length ((if root then words.store else words.store ++ 47 ∷ []) ++ codes "trees")
       by true = omega (arith, length-append words.store (codes "runs"), length-append words.store (codes "trees"))
-      by false = omega (arith, length-append (words.store ++ 47 ∷ []) (codes "runs"), length-append (words.store ++ 47 ∷ []) (codes "trees"))
+      by false = omega (
+        arith,
+        length-append (words.store ++ 47 ∷ []) (codes "runs"),
+        length-append
+            (words.store ++ 47 ∷ []) (codes "trees"),
+      )
 
   trees_length : length (trees_of words.store) ≤ length (runs_folder words.store) + 1
   trees_length = by (bytes_eq words.store (47 ∷ []))
     where
-      by : (root : Bool) → length ((if root then words.store else words.store ++ 47 ∷ []) ++ codes "trees") ≤ length ((if root then words.store else words.store ++ 47 ∷ []) ++ codes "runs") + 1
+      by : (root : Bool) → length ((if root then words.store else words.store ++ 47 ∷ []) ++ codes "trees")
+          ≤ length ((if root then words.store else words.store ++ 47 ∷ []) ++ codes "runs") + 1
       by true = omega (arith, length-append words.store (codes "runs"), length-append words.store (codes "trees"))
-      by false = omega (arith, length-append (words.store ++ 47 ∷ []) (codes "runs"), length-append (words.store ++ 47 ∷ []) (codes "trees"))
+      by false = omega (
+        arith,
+        length-append (words.store ++ 47 ∷ []) (codes "runs"),
+        length-append
+            (words.store ++ 47 ∷ []) (codes "trees"),
+      )
 
   document_longer : length (trees_of words.store) < length (run_path words.store words.run)
-  document_longer = omega (arith, trees_length, child_longer (runs_folder words.store) (document_name words.run), document_length words.run)
+  document_longer = omega (
+    arith,
+    trees_length,
+    child_longer (runs_folder words.store)
+        (document_name words.run),
+    document_length words.run,
+  )
 
   parent_is : parent_of (run_path words.store words.run) ≡ runs_folder words.store
   parent_is =
@@ -499,14 +334,17 @@ module _ (words : BaseWords) (path : IsTrue (is_short_path words.store)) (name :
       let few : length words.store ≤ 4096 = leb-true (length words.store) 4096 short.0 in
       let part = image_name_fits words.run name in
       parent_of_file (runs_folder words.store) (document_name words.run)
-      (file_is_path words.store (codes "runs") short.1 refl (omega (arith, few, joined_within words.store (codes "runs"))))
+      (file_is_path words.store (codes "runs") short.1 refl
+      (omega (arith, few, joined_within words.store (codes "runs"))))
       (document_name_is_part words.run part.part (omega (arith, part.short)))
 
   put_fits : (tree : Node) (t : Tree) → FitsBase words t → FitsBase words (folder_put words.store tree t)
   put_fits tree t fit = record {
     begun = begin_kept words.store (spelling_of tree) t fit.begun;
-    trees = λ digest. file_kept words.store (spelling_of tree) t (tree_path words.store digest) (tree_longer words.store digest) (fit.trees digest);
-    written = write_kept words.store (spelling_of tree) t (run_path words.store words.run) document_longer (subst (λ p. length p ≤ length (trees_of words.store)) (sym parent_is) runs_length) fit.written;
+    trees = λ digest. file_kept words.store (spelling_of tree) t (tree_path words.store digest)
+        (tree_longer words.store digest) (fit.trees digest);
+    written = write_kept words.store (spelling_of tree) t (run_path words.store words.run) document_longer
+        (subst (λ p. length p ≤ length (trees_of words.store)) (sym parent_is) runs_length) fit.written;
   }
 
   may_put : (folder : List ℕ) (t : Tree) → FitsBase words t → can_put_folder words.store folder t ≡ true
@@ -516,15 +354,23 @@ module _ (words : BaseWords) (path : IsTrue (is_short_path words.store)) (name :
       named (Ok tree) = fit.trees (sha256 (spelling_of tree))
       named (Err fault) = refl
 
-  passes_put : (o o1 : Option Tree) (tree : Node) → o1 ≡ option_map (folder_put words.store tree) o → Passes (FitsBase words) o o1
+  passes_put : (o o1 : Option Tree) (tree : Node) → o1 ≡ option_map (folder_put words.store tree) o
+      → Passes (FitsBase words) o o1
   passes_put None o1 tree is = tt
   passes_put (Some t) o1 tree is = λ fit. (folder_put words.store tree t, is, put_fits tree t fit)
 
   goes_put : (folder : List ℕ) → Goes (FitsBase words) (puts_folder words.store folder)
   unfolding puts_folder
-  goes_put folder old new result h = (narrow (λ t. IsTrue (can_put_folder words.store folder t)) (FitsBase words) old.files old.misused new.misused (may_put folder) (by_allows (can_put_folder words.store folder) old.files old.misused new.misused h.allows), kept result h.leaves)
+  goes_put folder old new result h = (
+    narrow (λ t. IsTrue (can_put_folder words.store folder t))
+        (FitsBase words) old.files old.misused new.misused (may_put folder)
+        (by_allows (can_put_folder words.store folder) old.files old.misused new.misused h.allows),
+    kept result
+        h.leaves,
+  )
     where
-      kept : (result : Result (List ℕ) StoreFault) → LeavesFolder words.store folder old result new → OnOk result (Passes (FitsBase words) old.files new.files)
+      kept : (result : Result (List ℕ) StoreFault) → LeavesFolder words.store folder old result new
+          → OnOk result (Passes (FitsBase words) old.files new.files)
       kept (Ok digest) (tree, is, told, files) = passes_put old.files new.files tree files
       kept (Err fault) leaves = tt
 
@@ -535,9 +381,12 @@ module _ (words : BaseWords) (path : IsTrue (is_short_path words.store)) (name :
       minds_behind Fit _ _
       (goes_told Fit _ _
       (goes_bind Fit _ _
-      (goes_each Fit (puts_next words.store) words.trees [] (λ folder digests. goes_bind Fit _ _ (goes_put folder) (λ digest. goes_looks Fit _ (looks_gives Fit tree_cause _))))
+      (goes_each Fit (puts_next words.store) words.trees []
+      (λ folder digests. goes_bind Fit _ _ (goes_put folder)
+      (λ digest. goes_looks Fit _ (looks_gives Fit tree_cause _))))
       (λ rows. goes_looks Fit _ (looks_gives Fit tree_cause _))))
-      (λ image. minds_bind Fit _ _ (looks_gives Fit base_cause _) (λ text. minds_yields Fit _ _ (minds_told Fit _ _ (minds_writes Fit _ _ _ (λ t fit. fit.written)))))
+      (λ image. minds_bind Fit _ _ (looks_gives Fit base_cause _)
+      (λ text. minds_yields Fit _ _ (minds_told Fit _ _ (minds_writes Fit _ _ _ (λ t fit. fit.written)))))
 
 -- ---- launch
 
@@ -560,10 +409,16 @@ module _ (words : LaunchWords) (env : List Variable) where
       told_then (FitsLaunch words) _ read_cause _ (launch_doc_under words.root) _ (λ t fit. fit.document)
       (λ doc. given_then (Known doc) launching.cause_of (chosen_in doc words.call) _
       (λ chosen is.
-      let layered : (sets : List (List (List ℕ))) (t : Tree) → KnownSets doc sets t → Layered chosen.kind sets t = λ sets t fit. of_ok _ sets _ fit.1 (of_ok _ chosen _ is (of_ok _ doc _ fit.0.1 fit.0.0.process)) in
-      told_then (Known doc) _ read_cause _ (sets_in words.root doc.buildpacks) _ (λ t (fit : Known doc t). of_ok _ doc _ fit.1 fit.0.layers)
-      (λ sets. looks_bind (KnownSets doc sets) _ _ (looks_told _ _ _ (looks_reads _ read_cause _ _ (λ t fit. (layered sets t fit).0)))
-      (λ start. looks_bind (KnownSets doc sets) _ _ (looks_told _ _ _ (looks_reads _ read_cause _ _ (λ t fit. (layered sets t fit).1))) (λ execs. looks_gives _ _ _)))))
+      let layered : (sets : List (List (List ℕ))) (t : Tree) → KnownSets doc sets t
+      → Layered chosen.kind sets t = λ sets t fit. of_ok _ sets _ fit.1
+      (of_ok _ chosen _ is (of_ok _ doc _ fit.0.1 fit.0.0.process)) in
+      told_then (Known doc) _ read_cause _ (sets_in words.root doc.buildpacks) _
+      (λ t (fit : Known doc t). of_ok _ doc _ fit.1 fit.0.layers)
+      (λ sets. looks_bind (KnownSets doc sets) _ _ (looks_told _ _ _
+      (looks_reads _ read_cause _ _ (λ t fit. (layered sets t fit).0)))
+      (λ start. looks_bind (KnownSets doc sets) _ _
+      (looks_told _ _ _ (looks_reads _ read_cause _ _ (λ t fit. (layered sets t fit).1)))
+      (λ execs. looks_gives _ _ _)))))
 
   launch_minds : Minds (FitsLaunch words) (launches_command words env)
   unfolding launches_command launches plans
@@ -571,77 +426,114 @@ module _ (words : LaunchWords) (env : List Variable) where
       minds_counts _ _ _
       (minds_counts _ _ _
       (minds_counts _ _ _ (minds_looks _ _ launch_looks)
-      (λ prepared. counts_bind _ _ (counts_each (runs_execs prepared.workspace) prepared.execs prepared.env (λ folder before. counts_each (runs_exec prepared.workspace) folder before (λ path before. counts_exec prepared.workspace path before))) (λ ready. counts_yields _)))
+      (λ prepared. counts_bind _ _ (counts_each (runs_execs prepared.workspace) prepared.execs prepared.env
+      (λ folder before. counts_each (runs_exec prepared.workspace) folder before
+      (λ path before. counts_exec prepared.workspace path before))) (λ ready. counts_yields _)))
       (λ plan. counts_child launching.cause_of _))
       (λ end. counts_yields _)
 
--- ---- detect
-
-detect_minds : (proof_path : Option (List ℕ)) (words : DetectWords) (env : List Variable) (old new : Outside) (result : _) → HasPaths (Detect words) → words.proof_path ≡ proof_path → detects_into proof_path words.choice env old result new
-    → NoMisuseUnless proof_path (FitsDetect words) old.world new.world
-detect_minds None words env old new result paths is did = by_allows _ old.world.files old.world.misused new.world.misused (comes_to Document words.choice env paths.0 old new result did).misused
-detect_minds (Some path) words env old new result paths is did = tt
-
 -- ---- each command
 
-minds_asked : (asked : Asked) (env : List Variable) (old new : Surroundings) (result : Result Answer Refusal) → HasPaths asked → does asked env old result new → NoMisuseBy asked old.world new.world
-unfolding over_outside over_world tells gives
-minds_asked (Show options) env old new (Ok answer) paths ((value, is, h), spawners, caches) = show_minds options old.world new.world (Ok value) h
-minds_asked (Show options) env old new (Err refusal) paths ((fault, is, h), spawners, caches) = show_minds options old.world new.world (Err fault) h
-minds_asked (Analyze options) env old new (Ok answer) paths ((value, is, h), spawners, caches) = analyze_minds options old.world new.world (Ok value) h
-minds_asked (Analyze options) env old new (Err refusal) paths ((fault, is, h), spawners, caches) = analyze_minds options old.world new.world (Err fault) h
-minds_asked (Rebase options) env old new (Ok answer) paths ((value, is, h), spawners, caches) = rebase_minds options old.world new.world (Ok value) h
-minds_asked (Rebase options) env old new (Err refusal) paths ((fault, is, h), spawners, caches) = rebase_minds options old.world new.world (Err fault) h
-minds_asked (Verify options) env old new (Ok answer) paths ((value, is, h), spawners, caches) = verify_minds options old.world new.world (Ok value) h
-minds_asked (Verify options) env old new (Err refusal) paths ((fault, is, h), spawners, caches) = verify_minds options old.world new.world (Err fault) h
-minds_asked (Check options) env old new (Ok answer) paths ((value, is, h), spawners, caches) = check_minds options old.world new.world (Ok value) h
-minds_asked (Check options) env old new (Err refusal) paths ((fault, is, h), spawners, caches) = check_minds options old.world new.world (Err fault) h
-minds_asked (Launch options) env old new (Ok answer) paths ((value, is, h), spawners, caches) = launch_minds options env old.world new.world (Ok value) h
-minds_asked (Launch options) env old new (Err refusal) paths ((fault, is, h), spawners, caches) = launch_minds options env old.world new.world (Err fault) h
+minds_asked : (asked : Asked) (env : List Variable) (old new : Surroundings) (result : Result Answer Refusal)
+    → HasPaths asked → does asked env old result new → NoMisuseBy asked old.caches.shelves old.world new.world
+unfolding over_caches over_outside over_world tells gives
+minds_asked (Show options) env old new (Ok answer) paths
+    ((value, is, h), spawners, caches) = show_minds options old.world new.world (Ok value) h
+minds_asked (Show options) env old new (Err refusal) paths
+    ((fault, is, h), spawners, caches) = show_minds options old.world new.world (Err fault) h
+minds_asked (Analyze options) env old new (Ok answer) paths
+    ((value, is, h), spawners, caches) = analyze_minds options old.world new.world (Ok value) h
+minds_asked (Analyze options) env old new (Err refusal) paths
+    ((fault, is, h), spawners, caches) = analyze_minds options old.world new.world (Err fault) h
+minds_asked (Rebase options) env old new (Ok answer) paths
+    ((value, is, h), spawners, caches) = rebase_minds options old.world new.world (Ok value) h
+minds_asked (Rebase options) env old new (Err refusal) paths
+    ((fault, is, h), spawners, caches) = rebase_minds options old.world new.world (Err fault) h
+minds_asked (Verify options) env old new (Ok answer) paths
+    ((value, is, h), spawners, caches) = verify_minds options old.world new.world (Ok value) h
+minds_asked (Verify options) env old new (Err refusal) paths
+    ((fault, is, h), spawners, caches) = verify_minds options old.world new.world (Err fault) h
+minds_asked (Check options) env old new (Ok answer) paths
+    ((value, is, h), spawners, caches) = check_minds options old.world new.world (Ok value) h
+minds_asked (Check options) env old new (Err refusal) paths
+    ((fault, is, h), spawners, caches) = check_minds options old.world new.world (Err fault) h
+minds_asked (Launch options) env old new (Ok answer) paths
+    ((value, is, h), spawners, caches) = launch_minds options env old.world new.world (Ok value) h
+minds_asked (Launch options) env old new (Err refusal) paths
+    ((fault, is, h), spawners, caches) = launch_minds options env old.world new.world (Err fault) h
 minds_asked (Drill options) env old new result paths h = ap (λ (s : Surroundings). s.world.misused) h.0
-minds_asked (Detect options) env old new (Ok answer) paths ((value, is, h), caches) = detect_minds options.proof_path options env _ _ (Ok value) paths refl h
-minds_asked (Detect options) env old new (Err refusal) paths ((fault, is, h), caches) = detect_minds options.proof_path options env _ _ (Err fault) paths refl h
-minds_asked (Restore options) env old new result paths h = tt
-minds_asked (Build options) env old new result paths h = tt
-minds_asked (Export options) env old new result paths h = tt
-minds_asked (Create options) env old new result paths h = tt
-minds_asked (Base options) env old new (Ok answer) paths ((value, is, h), spawners, caches) = base_minds options paths.0 paths.1 old.world new.world (Ok value) h
-minds_asked (Base options) env old new (Err refusal) paths ((fault, is, h), spawners, caches) = base_minds options paths.0 paths.1 old.world new.world (Err fault) h
-minds_asked (Unpack options) env old new result paths h = tt
-minds_asked (Prune options) env old new (Ok answer) paths ((value, is, h), spawners, caches) = prune_minds options old.world new.world (Ok value) h
-minds_asked (Prune options) env old new (Err refusal) paths ((fault, is, h), spawners, caches) = prune_minds options old.world new.world (Err fault) h
+minds_asked (Detect options) env old new (Ok answer) paths
+    ((value, is, h), caches) = detect_minds options.proof_path options env _ _ (Ok value) paths refl h
+minds_asked (Detect options) env old new (Err refusal) paths
+    ((fault, is, h), caches) = detect_minds options.proof_path options env _ _ (Err fault) paths refl h
+minds_asked (Restore options) env old new (Ok answer) paths
+    ((value, is, h), spawners) = restore_minds options paths (caches_beside old) (caches_beside new) (Ok value) h
+minds_asked (Restore options) env old new (Err refusal) paths
+    ((fault, is, h), spawners) = restore_minds options paths (caches_beside old) (caches_beside new) (Err fault) h
+minds_asked (Build options) env old new (Ok answer) paths
+    ((value, is, h), spawners, caches) = build_minds options env old.world new.world (Ok value) h
+minds_asked (Build options) env old new (Err refusal) paths
+    ((fault, is, h), spawners, caches) = build_minds options env old.world new.world (Err fault) h
+minds_asked (Export options) env old new (Ok answer) paths
+    ((value, is, h), spawners) = export_minds options paths.0 paths.1 paths.2 (caches_beside old)
+    (caches_beside new) (Ok value) h
+minds_asked (Export options) env old new (Err refusal) paths
+    ((fault, is, h), spawners) = export_minds options paths.0 paths.1 paths.2 (caches_beside old)
+    (caches_beside new) (Err fault) h
+minds_asked (Create options) env old new (Ok answer) paths (value, is, h) = create_minds options env old new
+    (Ok value) h
+minds_asked (Create options) env old new (Err refusal) paths (fault, is, h) = create_minds options env old new
+    (Err fault) h
+minds_asked (Base options) env old new (Ok answer) paths
+    ((value, is, h), spawners, caches) = base_minds options paths.0 paths.1 old.world new.world (Ok value) h
+minds_asked (Base options) env old new (Err refusal) paths
+    ((fault, is, h), spawners, caches) = base_minds options paths.0 paths.1 old.world new.world (Err fault) h
+minds_asked (Unpack options) env old new (Ok answer) paths
+    ((value, is, h), spawners, caches) = unpack_minds options old.world new.world (Ok value) h
+minds_asked (Unpack options) env old new (Err refusal) paths
+    ((fault, is, h), spawners, caches) = unpack_minds options old.world new.world (Err fault) h
+minds_asked (Prune options) env old new (Ok answer) paths
+    ((value, is, h), spawners, caches) = prune_minds options old.world new.world (Ok value) h
+minds_asked (Prune options) env old new (Err refusal) paths
+    ((fault, is, h), spawners, caches) = prune_minds options old.world new.world (Err fault) h
 
 -- nothing was done
-none_unless : (o : Option (List ℕ)) (Fit : Tree → Type 0) (old : Seen) → NoMisuseUnless o Fit old old
-none_unless None Fit old = still Fit old.files old.misused old.misused refl
-none_unless (Some path) Fit old = tt
+idle_minds : (asked : Asked) (shelves : List ShelfState) (old : Seen) → NoMisuseBy asked shelves old old
+idle_minds (Show options) shelves old = still _ old.files old.misused old.misused refl
+idle_minds (Analyze options) shelves old = still _ old.files old.misused old.misused refl
+idle_minds (Rebase options) shelves old = still _ old.files old.misused old.misused refl
+idle_minds (Verify options) shelves old = still _ old.files old.misused old.misused refl
+idle_minds (Check options) shelves old = still _ old.files old.misused old.misused refl
+idle_minds (Launch options) shelves old = still _ old.files old.misused old.misused refl
+idle_minds (Drill options) shelves old = refl
+idle_minds (Detect options) shelves old = still _ old.files old.misused old.misused refl
+idle_minds (Restore options) shelves old = still _ old.files old.misused old.misused refl
+idle_minds (Build options) shelves old = build_idle options old
+idle_minds (Export options) shelves old = still _ old.files old.misused old.misused refl
+idle_minds (Create options) shelves old = create_idle options shelves old
+idle_minds (Base options) shelves old = still _ old.files old.misused old.misused refl
+idle_minds (Unpack options) shelves old = still _ old.files old.misused old.misused refl
+idle_minds (Prune options) shelves old = still _ old.files old.misused old.misused refl
 
-idle_minds : (asked : Asked) (old : Seen) → NoMisuseBy asked old old
-idle_minds (Show options) old = still _ old.files old.misused old.misused refl
-idle_minds (Analyze options) old = still _ old.files old.misused old.misused refl
-idle_minds (Rebase options) old = still _ old.files old.misused old.misused refl
-idle_minds (Verify options) old = still _ old.files old.misused old.misused refl
-idle_minds (Check options) old = still _ old.files old.misused old.misused refl
-idle_minds (Launch options) old = still _ old.files old.misused old.misused refl
-idle_minds (Drill options) old = refl
-idle_minds (Detect options) old = none_unless options.proof_path (FitsDetect options) old
-idle_minds (Restore options) old = tt
-idle_minds (Build options) old = tt
-idle_minds (Export options) old = tt
-idle_minds (Create options) old = tt
-idle_minds (Base options) old = still _ old.files old.misused old.misused refl
-idle_minds (Unpack options) old = tt
-idle_minds (Prune options) old = still _ old.files old.misused old.misused refl
-
-minds_behind_words : (asked : Asked) (env : List Variable) (result : Result Answer Refusal) (old new : Surroundings) → HasPaths asked → after_words (does asked env) old result new → NoMisuseBy asked old.world new.world
+minds_behind_words : (asked : Asked) (env : List Variable) (result : Result Answer Refusal)
+    (old new : Surroundings) → HasPaths asked → after_words (does asked env) old result new
+    → NoMisuseBy asked old.caches.shelves old.world new.world
 unfolding ◌>>=◌ gives
-minds_behind_words asked env (Ok answer) old new paths (read, mid, given, did) = subst (λ (s : Surroundings). NoMisuseBy asked s.world new.world) given.0 (minds_asked asked env mid new (Ok answer) paths did)
-minds_behind_words asked env (Err refusal) old new paths (inl given) = subst (λ (s : Surroundings). NoMisuseBy asked old.world s.world) (sym given.0) (idle_minds asked old.world)
-minds_behind_words asked env (Err refusal) old new paths (inr (read, mid, given, did)) = subst (λ (s : Surroundings). NoMisuseBy asked s.world new.world) given.0 (minds_asked asked env mid new (Err refusal) paths did)
+minds_behind_words asked env (Ok answer) old new paths (read, mid, given, did) = subst
+    (λ (s : Surroundings). NoMisuseBy asked s.caches.shelves s.world new.world) given.0
+    (minds_asked asked env mid new (Ok answer) paths did)
+minds_behind_words asked env (Err refusal) old new paths (inl given) = subst
+    (λ (s : Surroundings). NoMisuseBy asked old.caches.shelves old.world s.world) (sym given.0)
+    (idle_minds asked old.caches.shelves old.world)
+minds_behind_words asked env (Err refusal) old new paths (inr (read, mid, given, did)) = subst
+    (λ (s : Surroundings). NoMisuseBy asked s.caches.shelves s.world new.world) given.0
+    (minds_asked asked env mid new (Err refusal) paths did)
 
 -- for every command
-pub minds_paths : (o : Option Asked) (env : List Variable) (old : Surroundings) (outside : Outside) (shelves : List ShelfState) (status : Status) (taken_old taken_new : Option (List ℕ))
-    → On o HasPaths → On o (λ asked. Ends (after_words (does asked env)) old outside shelves status taken_old taken_new) → On o (λ asked. NoMisuseBy asked old.world outside.world)
+pub minds_paths : (o : Option Asked) (env : List Variable) (old : Surroundings) (outside : Outside)
+    (shelves : List ShelfState) (status : Status) (taken_old taken_new : Option (List ℕ))
+    → On o HasPaths → On o (λ asked. Ends (after_words (does asked env)) old outside shelves status taken_old
+    taken_new) → On o (λ asked. NoMisuseBy asked old.caches.shelves old.world outside.world)
 minds_paths None env old outside shelves status taken_old taken_new paths h = tt
 minds_paths (Some asked) env old outside shelves status taken_old taken_new paths h =
     minds_behind_words asked env h.end old (surroundings outside (caches_of shelves h.standing)) paths h.did

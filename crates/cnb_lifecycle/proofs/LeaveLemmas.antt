@@ -21,12 +21,16 @@ use Rattle.cnb_lifecycle.specs.Leaving.{LeavesImage, OnDone}
 use Rattle.cnb_lifecycle.specs.Printing.{Finishes}
 use Rattle.cnb_lifecycle.specs.Telling.{tells}
 
-image_left : (asked : Asked) (env : List Variable) (answer : Answer) (old new : Surroundings) → does asked env old (Ok answer) new → LeavesImage asked new.world.files
+image_left : (asked : Asked) (env : List Variable) (answer : Answer) (old new : Surroundings)
+    → does asked env old (Ok answer) new → LeavesImage asked new.world.files
 unfolding over_caches over_world tells
-image_left (Export options) env answer old new ((text, is, steps), spawners) = exported_stands options text (caches_beside old) (caches_beside new) steps
+image_left (Export options) env answer old new ((text, is, steps), spawners) = exported_stands options text
+    (caches_beside old) (caches_beside new) steps
 image_left (Create options) env answer old new (text, is, steps) = created_stands options env (Ok text) old new steps
-image_left (Rebase options) env answer old new ((text, is, steps), spawners, caches) = rebased_stands options (Ok text) old.world new.world steps
-image_left (Base options) env answer old new ((text, is, steps), spawners, caches) = based_stands options text old.world new.world steps
+image_left (Rebase options) env answer old new ((text, is, steps), spawners, caches) = rebased_stands options
+    (Ok text) old.world new.world steps
+image_left (Base options) env answer old new ((text, is, steps), spawners, caches) = based_stands options text
+    old.world new.world steps
 image_left (Detect options) env answer old new h = tt
 image_left (Analyze options) env answer old new h = tt
 image_left (Restore options) env answer old new h = tt
@@ -39,21 +43,30 @@ image_left (Check options) env answer old new h = tt
 image_left (Drill options) env answer old new h = tt
 image_left (Launch options) env answer old new h = tt
 
-left_behind_words : (asked : Asked) (env : List Variable) (end : Result Answer Refusal) (old new : Surroundings) (taken_old taken_new : Option (List ℕ)) → after_words (does asked env) old end new → Finishes end Done taken_old taken_new
+left_behind_words : (asked : Asked) (env : List Variable) (end : Result Answer Refusal) (old new : Surroundings)
+    (taken_old taken_new : Option (List ℕ)) → after_words (does asked env) old end new
+    → Finishes end Done taken_old taken_new
     → LeavesImage asked new.world.files
 unfolding ◌>>=◌
-left_behind_words asked env (Ok answer) old new taken_old taken_new (read, mid, given, did) finishes = image_left asked env answer mid new did
+left_behind_words asked env (Ok answer) old new taken_old taken_new
+    (read, mid, given, did) finishes = image_left asked env answer mid new did
 left_behind_words asked env (Err refusal) old new taken_old taken_new did finishes = absurd finishes
 
-left_by : (asked : Asked) (env : List Variable) (old : Surroundings) (outside : Outside) (shelves : List ShelfState) (status : Status) (taken_old taken_new : Option (List ℕ))
-    → Ends (after_words (does asked env)) old outside shelves status taken_old taken_new → OnDone status (LeavesImage asked outside.world.files)
-left_by asked env old outside shelves Done taken_old taken_new h = left_behind_words asked env h.end old (surroundings outside (caches_of shelves h.standing)) taken_old taken_new h.did h.finishes
+left_by : (asked : Asked) (env : List Variable) (old : Surroundings) (outside : Outside)
+    (shelves : List ShelfState) (status : Status) (taken_old taken_new : Option (List ℕ))
+    → Ends (after_words (does asked env)) old outside shelves status taken_old taken_new
+    → OnDone status (LeavesImage asked outside.world.files)
+left_by asked env old outside shelves Done taken_old taken_new h = left_behind_words asked env h.end old
+    (surroundings outside (caches_of shelves h.standing)) taken_old taken_new h.did h.finishes
 left_by asked env old outside shelves Output taken_old taken_new h = tt
 left_by asked env old outside shelves (Refused refusal) taken_old taken_new h = tt
 left_by asked env old outside shelves (Launched code) taken_old taken_new h = tt
 
 -- for every command
-pub leaves_image : (o : Option Asked) (env : List Variable) (old : Surroundings) (outside : Outside) (shelves : List ShelfState) (status : Status) (taken_old taken_new : Option (List ℕ))
-    → On o (λ asked. Ends (after_words (does asked env)) old outside shelves status taken_old taken_new) → On o (λ asked. OnDone status (LeavesImage asked outside.world.files))
+pub leaves_image : (o : Option Asked) (env : List Variable) (old : Surroundings) (outside : Outside)
+    (shelves : List ShelfState) (status : Status) (taken_old taken_new : Option (List ℕ))
+    → On o (λ asked. Ends (after_words (does asked env)) old outside shelves status taken_old taken_new)
+    → On o (λ asked. OnDone status (LeavesImage asked outside.world.files))
 leaves_image None env old outside shelves status taken_old taken_new h = tt
-leaves_image (Some asked) env old outside shelves status taken_old taken_new h = left_by asked env old outside shelves status taken_old taken_new h
+leaves_image (Some asked) env old outside shelves status taken_old taken_new h = left_by asked env old outside
+    shelves status taken_old taken_new h

@@ -7,7 +7,8 @@ use Rattle.cnb_lifecycle.specs.Printing.{AddsPart, Finishes, IsTold}
 use Rattle.cnb_lifecycle.specs.Report.{error_line}
 
 -- where a refusal has a line, a part of it may be taken
-pub cut_line : (refusal : Refusal) (before now : Option (List ℕ)) → IsTold refusal → AddsPart before now (error_line refusal) → Finishes (Err refusal) Output before now
+pub cut_line : (refusal : Refusal) (before now : Option (List ℕ)) → IsTold refusal
+    → AddsPart before now (error_line refusal) → Finishes (Err refusal) Output before now
 cut_line Usage before now told h = h
 cut_line (File path) before now told h = h
 cut_line Memory before now told h = absurd told

@@ -16,5 +16,7 @@ one_more n =
     ap (range_with_len 0) same ∙ (one_more_from 0 n ∙ ap (λ x. range_with_len 0 n ++ x ∷ []) from)
 
 -- as many shelves as numbers stand
-pub all_stand : {X : Type 0} (xs : List X) (places : List ℕ) → places ≡ range_with_len 0 (length xs) → length places ≤ length xs
-all_stand xs places is = let count : length places ≡ length xs = ap length is ∙ length-range_with_len 0 (length xs) in omega (arith, count)
+pub all_stand : {X : Type 0} (xs : List X) (places : List ℕ) → places ≡ range_with_len 0 (length xs)
+    → length places ≤ length xs
+all_stand xs places is = let count : length places ≡ length xs = ap length is
+    ∙ length-range_with_len 0 (length xs) in omega (arith, count)

@@ -33,12 +33,14 @@ use Rattle.cnb_lifecycle.proofs.WordLaws.{HasPaths}
 abbrev Come : {S E A : Type 0} → (S → Result A E → S → Type 0) → (S → Result A E → S → Type 0) → Type 0
 Come {S} {E} {A} one other = (old new : S) (result : Result A E) → one old result new → other old result new
 
-told_so : {S A F : Type 0} (answer : A → Answer) (refusal : F → Refusal) (one other : S → Result A F → S → Type 0) → Come one other → Come (tells answer refusal one) (tells answer refusal other)
+told_so : {S A F : Type 0} (answer : A → Answer) (refusal : F → Refusal) (one other : S → Result A F → S → Type 0)
+    → Come one other → Come (tells answer refusal one) (tells answer refusal other)
 unfolding tells
 told_so answer refusal one other come old new (Ok told) (value, is, h) = (value, is, come old new (Ok value) h)
 told_so answer refusal one other come old new (Err told) (fault, is, h) = (fault, is, come old new (Err fault) h)
 
-outside_so : (one other : Outside → Result Answer Refusal → Outside → Type 0) → Come one other → Come (over_outside one) (over_outside other)
+outside_so : (one other : Outside → Result Answer Refusal → Outside → Type 0) → Come one other
+    → Come (over_outside one) (over_outside other)
 unfolding over_outside
 outside_so one other come old new result (h, caches) = (come _ _ result h, caches)
 
@@ -46,25 +48,45 @@ words_so : (one other : Step) → Come one other → Come (after_words one) (aft
 unfolding ◌>>=◌
 words_so one other come old new (Ok answer) (read, mid, given, h) = (read, mid, given, come mid new (Ok answer) h)
 words_so one other come old new (Err refusal) (inl given) = inl given
-words_so one other come old new (Err refusal) (inr (read, mid, given, h)) = inr (read, mid, given, come mid new (Err refusal) h)
+words_so one other come old new (Err refusal) (inr (read, mid, given, h)) = inr
+    (read, mid, given, come mid new (Err refusal) h)
 
-ends_so : (one other : Step) (old : Surroundings) (outside : Outside) (shelves : List ShelfState) (status : Status) (taken_old taken_new : Option (List ℕ)) → Come one other
-    → Ends one old outside shelves status taken_old taken_new → Ends other old outside shelves status taken_old taken_new
+ends_so : (one other : Step) (old : Surroundings) (outside : Outside) (shelves : List ShelfState)
+    (status : Status) (taken_old taken_new : Option (List ℕ)) → Come one other
+    → Ends one old outside shelves status taken_old taken_new
+    → Ends other old outside shelves status taken_old taken_new
 ends_so one other old outside shelves status taken_old taken_new come h =
-    record { end = h.end; standing = h.standing; did = come old _ h.end h.did; files = h.files; children = h.children; finishes = h.finishes }
+    record {
+      end = h.end;
+      standing = h.standing;
+      did = come old _ h.end h.did;
+      files = h.files;
+      children =
+          h.children;
+      finishes = h.finishes;
+    }
 
 -- ---- detect
 
-into_so : (path : Option (List ℕ)) (choice : ChoiceWords) (env : List Variable) → is_path choice.work ≡ true → IfSome path (λ p. IsTrue (is_record_path choice.work p)) → Come (detects_into path choice env) (comes_into path choice env)
+into_so : (path : Option (List ℕ)) (choice : ChoiceWords) (env : List Variable) → is_path choice.work ≡ true
+    → IfSome path (λ p. IsTrue (is_record_path choice.work p))
+    → Come (detects_into path choice env) (comes_into path choice env)
 into_so None choice env work free old new end did = comes_to Document choice env work old new end did
-into_so (Some path) choice env work free old new end did = comes_to_recorded Document choice path env work free old new end did
+into_so (Some path) choice env work free old new end did = comes_to_recorded Document choice path env work free
+    old new end did
 
-pub detect_outcome : (asked : Result Asked Refusal) (env : List Variable) (old : Surroundings) (outside : Outside) (shelves : List ShelfState) (status : Status) (taken_old taken_new : Option (List ℕ))
-    → On (asked_of asked) HasPaths → On (asked_of asked) (λ command. Ends (after_words (does command env)) old outside shelves status taken_old taken_new)
-    → On (options_in options_of_detect asked) (λ options. Ends (after_words (over_outside (tells Printed of_detect (ComesToWords options env)))) old outside shelves status taken_old taken_new)
+pub detect_outcome : (asked : Result Asked Refusal) (env : List Variable) (old : Surroundings) (outside : Outside)
+    (shelves : List ShelfState) (status : Status) (taken_old taken_new : Option (List ℕ))
+    → On (asked_of asked) HasPaths → On (asked_of asked) (λ command. Ends
+    (after_words (does command env)) old outside shelves status taken_old taken_new)
+    → On (options_in options_of_detect asked) (λ options. Ends
+    (after_words (over_outside (tells Printed of_detect (ComesToWords options env)))) old outside shelves
+    status taken_old taken_new)
 detect_outcome (Err refusal) env old outside shelves status taken_old taken_new paths h = tt
 detect_outcome (Ok (Detect options)) env old outside shelves status taken_old taken_new paths h =
-    ends_so _ _ old outside shelves status taken_old taken_new (words_so _ _ (outside_so _ _ (told_so Printed of_detect _ _ (into_so options.proof_path options.choice env paths.0 paths.1)))) h
+    ends_so _ _ old outside shelves status taken_old taken_new
+    (words_so _ _ (outside_so _ _ (told_so Printed of_detect _ _
+    (into_so options.proof_path options.choice env paths.0 paths.1)))) h
 detect_outcome (Ok (Analyze options)) env old outside shelves status taken_old taken_new paths h = tt
 detect_outcome (Ok (Restore options)) env old outside shelves status taken_old taken_new paths h = tt
 detect_outcome (Ok (Build options)) env old outside shelves status taken_old taken_new paths h = tt
@@ -82,12 +104,17 @@ detect_outcome (Ok (Launch options)) env old outside shelves status taken_old ta
 
 -- ---- create
 
-pub create_headline : (asked : Result Asked Refusal) (env : List Variable) (old : Surroundings) (outside : Outside) (shelves : List ShelfState) (status : Status) (taken_old taken_new : Option (List ℕ))
-    → On (asked_of asked) HasPaths → On (asked_of asked) (λ command. Ends (after_words (does command env)) old outside shelves status taken_old taken_new)
-    → On (options_in options_of_create asked) (λ options. Ends (after_words (tells Printed of_create (ComesToImage options env))) old outside shelves status taken_old taken_new)
+pub create_headline : (asked : Result Asked Refusal) (env : List Variable) (old : Surroundings)
+    (outside : Outside) (shelves : List ShelfState) (status : Status) (taken_old taken_new : Option (List ℕ))
+    → On (asked_of asked) HasPaths → On (asked_of asked) (λ command. Ends
+    (after_words (does command env)) old outside shelves status taken_old taken_new)
+    → On (options_in options_of_create asked) (λ options. Ends
+    (after_words (tells Printed of_create (ComesToImage options env))) old outside shelves status taken_old
+    taken_new)
 create_headline (Err refusal) env old outside shelves status taken_old taken_new paths h = tt
 create_headline (Ok (Create options)) env old outside shelves status taken_old taken_new paths h =
-    ends_so _ _ old outside shelves status taken_old taken_new (words_so _ _ (told_so Printed of_create _ _ (comes_to_image options env paths.0))) h
+    ends_so _ _ old outside shelves status taken_old taken_new
+    (words_so _ _ (told_so Printed of_create _ _ (comes_to_image options env paths.0))) h
 create_headline (Ok (Detect options)) env old outside shelves status taken_old taken_new paths h = tt
 create_headline (Ok (Analyze options)) env old outside shelves status taken_old taken_new paths h = tt
 create_headline (Ok (Restore options)) env old outside shelves status taken_old taken_new paths h = tt

@@ -113,7 +113,8 @@ restore_cause (restore.Limit kind) = refl
 restore_cause (restore.File path) = refl
 restore_cause restore.Memory = refl
 
-pub refused_restore : (refusal : RestoreRefusal) → cause_of (of_restore_refusal refusal) ≡ restore_command.refusal_cause refusal
+pub refused_restore : (refusal : RestoreRefusal) → cause_of (of_restore_refusal refusal)
+    ≡ restore_command.refusal_cause refusal
 refused_restore (restore_refusal.BuildpackApi text) = refl
 refused_restore (restore_refusal.Fault fault) = restore_cause fault
 

@@ -1,4 +1,5 @@
--- The folders that the words of `detect`, `create` and `base` name are paths, and a record may be written at its path.
+-- The folders that the words of `detect`, `restore`, `create`, `base` and `export` name are paths, and a record may be
+-- written at its path.
 use Rattle.std.proofs.Common.{◌≡◌, refl, subst, ℕ, Bool, true, false, List, [], ◌∷◌, length, codes, Option, Some, None, Result, Ok, Err}
 use Rattle.std.specs.Prelude.{IfSome, IsTrue, if◌then◌else◌, nat_le, option_and_then}
 use Rattle.std.specs.Option.{option_map}
@@ -18,7 +19,7 @@ use Rattle.cnb_words.specs.Drill as drill
 use Rattle.cnb_words.specs.Export as export
 use Rattle.cnb_words.specs.Launch as launch
 use Rattle.cnb_words.specs.Options.{options_in, value_of}
-use Rattle.cnb_words.specs.OptionValues.{◌>>=◌, image_of, path_of, target_of, trees_of, workers_of}
+use Rattle.cnb_words.specs.OptionValues.{◌>>=◌, caches_of, image_of, path_of, target_of, trees_of, workers_of}
 use Rattle.cnb_words.specs.Program.{is_launcher, process_type, root_of}
 use Rattle.cnb_words.specs.Prune as prune
 use Rattle.cnb_words.specs.Rebase as rebase
@@ -36,16 +37,22 @@ use Rattle.cnb_words.specs.declared.words.Asked.TheVariants.{Detect, Analyze, Re
 use Rattle.cnb_lifecycle.specs.declared.refusal.Refusal.{Refusal}
 use Rattle.cnb_lifecycle.specs.Commands.{On, asked_of, command_in, of_words, platform_api, where_served}
 
--- the work folder, and where the record of a detection may be written; the store, and the name of a run image
+-- the work folder, and where the record of a detection may be written; the store, and the name of an image; the layers
+-- folder
 abbrev pub HasPaths : Asked → Type 0
-HasPaths (Detect options) = (is_path options.choice.work ≡ true) × IfSome options.proof_path (λ path. IsTrue (is_record_path options.choice.work path))
+HasPaths (Detect options) = (is_path options.choice.work ≡ true)
+    × IfSome options.proof_path (λ path. IsTrue (is_record_path options.choice.work path))
 HasPaths (Create options) = (is_path options.detect.work ≡ true) × (is_path options.layers ≡ true)
 HasPaths (Base options) = IsTrue (is_short_path options.store) × IsTrue (is_image_name options.run)
+HasPaths (Export options) = IsTrue (is_short_path options.store) × IsTrue (is_image_name options.image)
+    × (is_path options.layers ≡ true)
+HasPaths (Restore options) = IsTrue (is_short_path options.layers)
 HasPaths asked = Unit {0}
 
 -- ---- options
 
-then_so : {A B : Type 0} (o : Option A) (next : A → Option B) (P : B → Type 0) → ((a : A) → o ≡ Some a → On (next a) P) → On (o >>= next) P
+then_so : {A B : Type 0} (o : Option A) (next : A → Option B) (P : B → Type 0)
+    → ((a : A) → o ≡ Some a → On (next a) P) → On (o >>= next) P
 then_so None next P h = tt
 then_so (Some a) next P h = h a refl
 
@@ -64,7 +71,8 @@ short_so : (o : Option (List ℕ)) → On (option_and_then path_in o) (λ path. 
 short_so None = tt
 short_so (Some text) = by (is_short_path text) refl
   where
-    by : (short : Bool) → is_short_path text ≡ short → On (if short then Some text else None) (λ path. IsTrue (is_short_path path))
+    by : (short : Bool) → is_short_path text ≡ short → On (if short then Some text else None)
+        (λ path. IsTrue (is_short_path path))
     by true is = is
     by false is = tt
 
@@ -72,19 +80,24 @@ name_so : (o : Option (List ℕ)) → On (option_and_then image_in o) (λ name. 
 name_so None = tt
 name_so (Some text) = by (is_image_name text) refl
   where
-    by : (fits : Bool) → is_image_name text ≡ fits → On (if fits then Some text else None) (λ name. IsTrue (is_image_name name))
+    by : (fits : Bool) → is_image_name text ≡ fits → On (if fits then Some text else None)
+        (λ name. IsTrue (is_image_name name))
     by true is = is
     by false is = tt
 
-free_so : (work : List ℕ) (o : Option (List ℕ)) → On (where_asked work o) (λ record_path. IfSome record_path (λ path. IsTrue (is_record_path work path)))
+free_so : (work : List ℕ) (o : Option (List ℕ)) → On (where_asked work o)
+    (λ record_path. IfSome record_path (λ path. IsTrue (is_record_path work path)))
 free_so work None = tt
 free_so work (Some text) = found (path_in text)
   where
-    by : (path : List ℕ) (free : Bool) → is_record_path work path ≡ free → On (option_map Some (if free then Some path else None)) (λ record_path. IfSome record_path (λ path. IsTrue (is_record_path work path)))
+    by : (path : List ℕ) (free : Bool) → is_record_path work path ≡ free
+        → On (option_map Some (if free then Some path else None))
+        (λ record_path. IfSome record_path (λ path. IsTrue (is_record_path work path)))
     by path true is = is
     by path false is = tt
 
-    found : (o : Option (List ℕ)) → On (option_map Some (option_and_then (where_free work) o)) (λ record_path. IfSome record_path (λ path. IsTrue (is_record_path work path)))
+    found : (o : Option (List ℕ)) → On (option_map Some (option_and_then (where_free work) o))
+        (λ record_path. IfSome record_path (λ path. IsTrue (is_record_path work path)))
     found None = tt
     found (Some path) = by path (is_record_path work path) refl
 
@@ -103,15 +116,18 @@ record Holds (asked : Result Asked WordsFault) : Type 0 where
 refused : (fault : WordsFault) → Holds (Err fault)
 refused fault = record { path = tt }
 
-asks_so : {T : Type 0} (command : T → Asked) (o : Option T) → On o (λ words. HasPaths (command words)) → Holds (asks command o)
+asks_so : {T : Type 0} (command : T → Asked) (o : Option T) → On o (λ words. HasPaths (command words))
+    → Holds (asks command o)
 asks_so command None h = refused _
 asks_so command (Some words) h = record { path = h }
 
-asks_any : {T : Type 0} (command : T → Asked) (o : Option T) → ((words : T) → HasPaths (command words)) → Holds (asks command o)
+asks_any : {T : Type 0} (command : T → Asked) (o : Option T) → ((words : T) → HasPaths (command words))
+    → Holds (asks command o)
 asks_any command None h = refused _
 asks_any command (Some words) h = record { path = h words }
 
-either_so : (b : Bool) (one other : Result Asked WordsFault) → Holds one → Holds other → Holds (if b then one else other)
+either_so : (b : Bool) (one other : Result Asked WordsFault) → Holds one → Holds other
+    → Holds (if b then one else other)
 either_so true one other h k = h
 either_so false one other h k = k
 
@@ -126,7 +142,8 @@ options_so command words = elim (options_in words) as (λ o. Holds (with_options
       (λ buildpacks j. then_so (path_of (codes "--app") options) _ _
       (λ app k. then_so (path_of (codes "--platform") options) _ _
       (λ platform l. then_so (path_of (codes "--work") options) _ _
-      (λ work is. then_so (workers_of options) _ _ (λ workers m. of_some (path_of (codes "--work") options) work IsPath (path (codes "--work")) is))))))
+      (λ work is. then_so (workers_of options) _ _ (λ workers m. of_some
+      (path_of (codes "--work") options) work IsPath (path (codes "--work")) is))))))
       in
       either_so (bytes_eq command (codes "detect")) _ _
       (asks_so Detect (detect.detect_in options)
@@ -135,18 +152,49 @@ options_so command words = elim (options_in words) as (λ o. Holds (with_options
       (λ choice j. then_so (record_of choice.work options) _ _
       (λ record_path is. (
         of_some (choice_values options) choice (λ c. IsPath c.work) chosen j,
-        of_some (record_of choice.work options) record_path (λ r. IfSome r (λ p. IsTrue (is_record_path choice.work p))) (free_so choice.work (value_of (codes "--record") options)) is,
+        of_some (record_of choice.work options) record_path
+            (λ r. IfSome r (λ p. IsTrue (is_record_path choice.work p)))
+            (free_so choice.work (value_of (codes "--record") options)) is,
       ))))))
       (either_so (bytes_eq command (codes "analyze")) _ _ (asks_any Analyze (analyze.analyze_in options) (λ words. tt))
-      (either_so (bytes_eq command (codes "restore")) _ _ (asks_any Restore (restore.restore_in options) (λ words. tt))
+      (either_so (bytes_eq command (codes "restore")) _ _
+      (asks_so Restore (restore.restore_in options)
+      (then_so _ (λ checked. restore.restore_values options) _
+      (λ checked i. then_so (path_of (codes "--store") options) _ _
+      (λ store j. then_so (path_of (codes "--work") options) _ _
+      (λ work k. then_so (path_of (codes "--layers") options) _ _
+      (λ layers is. then_so (caches_of options) _ _
+      (λ caches l. of_some (path_of (codes "--layers") options) layers (λ path. IsTrue (is_short_path path))
+      (short_so (value_of (codes "--layers") options)) is)))))))
       (either_so (bytes_eq command (codes "build")) _ _ (asks_any Build (build.build_in options) (λ words. tt))
-      (either_so (bytes_eq command (codes "export")) _ _ (asks_any Export (export.export_in options) (λ words. tt))
+      (either_so (bytes_eq command (codes "export")) _ _
+      (asks_so Export (export.export_in options)
+      (then_so _ (λ checked. export.export_values options) _
+      (λ checked i. then_so (path_of (codes "--store") options) _ _
+      (λ store is. then_so (path_of (codes "--work") options) _ _
+      (λ work j. then_so (path_of (codes "--layers") options) _ _
+      (λ layers at. then_so (path_of (codes "--app") options) _ _
+      (λ app k. then_so (path_of (codes "--launcher") options) _ _
+      (λ launcher l. then_so (image_of (codes "--image") options) _ _
+      (λ image named. then_so (caches_of options) _ _
+      (λ caches m. (
+        of_some (path_of (codes "--store") options) store (λ path. IsTrue (is_short_path path))
+            (short_so (value_of (codes "--store") options)) is,
+        of_some (image_of (codes "--image") options) image (λ name. IsTrue (is_image_name name))
+            (name_so (value_of (codes "--image") options)) named,
+        of_some (path_of (codes "--layers") options) layers IsPath (path (codes "--layers")) at,
+      )))))))))))
       (either_so (bytes_eq command (codes "create")) _ _
       (asks_so Create (create.create_in options)
       (then_so _ (λ checked. create.create_values options) _
       (λ checked i. then_so (choice_values options) _ _
       (λ choice j. then_so (path_of (codes "--layers") options) _ _
-      (λ layers is. then_so (create.image_options options) _ _ (λ image k. (of_some (choice_values options) choice (λ c. IsPath c.work) chosen j, of_some (path_of (codes "--layers") options) layers IsPath (path (codes "--layers")) is)))))))
+      (λ layers is. then_so (create.image_options options) _ _
+      (λ image k. (
+        of_some (choice_values options) choice (λ c. IsPath c.work) chosen j,
+        of_some
+            (path_of (codes "--layers") options) layers IsPath (path (codes "--layers")) is,
+      )))))))
       (either_so (bytes_eq command (codes "rebase")) _ _ (asks_any Rebase (rebase.rebase_in options) (λ words. tt))
       (either_so (bytes_eq command (codes "base")) _ _
       (asks_so Base (base.base_in options)
@@ -156,19 +204,26 @@ options_so command words = elim (options_in words) as (λ o. Holds (with_options
       (λ run named. then_so (target_of (codes "--os") options) _ _
       (λ os j. then_so (target_of (codes "--arch") options) _ _
       (λ arch k. then_so (trees_of options) _ _
-      (λ trees l. (of_some (path_of (codes "--store") options) store (λ path. IsTrue (is_short_path path)) (short_so (value_of (codes "--store") options)) is, of_some (image_of (codes "--run") options) run (λ name. IsTrue (is_image_name name)) (name_so (value_of (codes "--run") options)) named)))))))))
+      (λ trees l. (
+        of_some (path_of (codes "--store") options) store (λ path. IsTrue (is_short_path path))
+            (short_so (value_of (codes "--store") options)) is,
+        of_some (image_of (codes "--run") options) run
+            (λ name. IsTrue (is_image_name name)) (name_so (value_of (codes "--run") options)) named,
+      )))))))))
       (either_so (bytes_eq command (codes "unpack")) _ _ (asks_any Unpack (unpack.unpack_in options) (λ words. tt))
       (either_so (bytes_eq command (codes "show")) _ _ (asks_any Show (show.show_in options) (λ words. tt))
       (either_so (bytes_eq command (codes "prune")) _ _ (asks_any Prune (prune.prune_in options) (λ words. tt))
       (either_so (bytes_eq command (codes "verify")) _ _ (asks_any Verify (verify.verify_in options) (λ words. tt))
-      (either_so (bytes_eq command (codes "check")) _ _ (asks_any Check (check.check_in options) (λ words. tt)) (refused Usage)))))))))))))
+      (either_so (bytes_eq command (codes "check")) _ _ (asks_any Check (check.check_in options) (λ words. tt))
+      (refused Usage)))))))))))))
 ]
 
 command_so : (words : List (List ℕ)) → Holds (command_asked words)
 command_so [] = refused Usage
 command_so (command ∷ words) =
     either_so (bytes_eq command (codes "launch")) _ _ (asks_any Launch (launch.launch_in words) (λ words. tt))
-    (either_so (bytes_eq command (codes "drill")) _ _ (asks_any Drill (drill.drill_in words) (λ words. tt)) (options_so command words))
+    (either_so (bytes_eq command (codes "drill")) _ _ (asks_any Drill (drill.drill_in words) (λ words. tt))
+    (options_so command words))
 
 process_so : (kind : Option (List ℕ)) (root : List ℕ) (words : List (List ℕ)) → Holds (unless_process kind root words)
 process_so None root words = command_so words
@@ -177,9 +232,11 @@ process_so (Some kind) root words = asks_any Launch (launch.process_at root kind
 words_so : (words : List (List ℕ)) → Holds (asked_by words)
 words_so [] = refused Usage
 words_so (program ∷ words) =
-    either_so (is_launcher program) _ _ (asks_any Launch (launch.launch_at (root_of program) words) (λ words. tt)) (process_so (process_type program) (root_of program) words)
+    either_so (is_launcher program) _ _ (asks_any Launch (launch.launch_at (root_of program) words) (λ words. tt))
+    (process_so (process_type program) (root_of program) words)
 
-served_so : (asked : Result Asked WordsFault) (served : Result (Unit {0}) Refusal) → Holds asked → On (asked_of (where_served (of_words asked) served)) HasPaths
+served_so : (asked : Result Asked WordsFault) (served : Result (Unit {0}) Refusal) → Holds asked
+    → On (asked_of (where_served (of_words asked) served)) HasPaths
 served_so (Ok asked) (Ok done) h = h.path
 served_so (Ok asked) (Err refusal) h = tt
 served_so (Err fault) served h = tt

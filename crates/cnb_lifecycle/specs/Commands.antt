@@ -36,7 +36,8 @@ abbrev pub of_api : Option (List ℕ) → Result (Unit {0}) Refusal
 of_api None = Ok tt
 of_api (Some api) = if bytes_eq api (codes "0.12") then Ok tt else Err (PlatformApi api)
 
--- the Platform API that the environment asks for is the one that is served, or none (platform.md, "Platform API Compatibility")
+-- the Platform API that the environment asks for is the one that is served, or none (platform.md, "Platform API
+-- Compatibility")
 abbrev pub platform_api : List Variable → Result (Unit {0}) Refusal
 platform_api env = of_api (value_of env (codes "CNB_PLATFORM_API"))
 
@@ -109,8 +110,8 @@ abbrev pub refusal_of : Result Asked Refusal → Option Refusal
 refusal_of (Ok asked) = None
 refusal_of (Err refusal) = Some refusal
 
--- What each command does. It answers the text to be printed, and `launch` how its child ended. The text of `drill` is known by
--- its number, and nothing outside is read or changed.
+-- What each command does. It answers the text to be printed, and `launch` how its child ended. The text of `drill` is
+-- known by its number, and nothing outside is read or changed.
 abbrev pub does : Asked → List Variable → Surroundings → Result Answer Refusal → Surroundings → Type 0
 does (Detect options) env = over_outside (tells Printed of_detect (detects_words options env))
 does (Analyze options) env = over_world (tells Printed of_restore (analyzes_command options))
@@ -129,7 +130,8 @@ does (Drill options) env = gives cause_of (Ok (Printed (drill_text options.numbe
 does (Launch options) env = over_world (tells Launched of_launch (launches_command options env))
 
 -- the words are read, which takes memory, and then the command does its steps
-abbrev pub after_words : {S : Type 0} → (S → Result Answer Refusal → S → Type 0) → S → Result Answer Refusal → S → Type 0
+abbrev pub after_words : {S : Type 0} → (S → Result Answer Refusal → S → Type 0) → S → Result Answer Refusal → S
+    → Type 0
 after_words step = gives {A = Unit {0}} cause_of (Ok tt) >>= (λ read. step)
 
 -- whether a command looks at caches

@@ -12,7 +12,8 @@ use Rattle.cnb_world.specs.declared.env.Variable.{Variable}
 use Rattle.steps.specs.Outside.{Outside}
 
 -- a group and its plan are chosen and written, and where a record is asked for, that is written too
-abbrev pub detects_into : Option (List ℕ) → ChoiceWords → List Variable → Outside → Result (List ℕ) DetectRefusal → Outside → Type 0
+abbrev pub detects_into : Option (List ℕ) → ChoiceWords → List Variable → Outside → Result (List ℕ) DetectRefusal
+    → Outside → Type 0
 detects_into None choice env = detects target.Document choice env
 detects_into (Some path) choice env = detects_recorded target.Document choice path env
 
@@ -20,7 +21,8 @@ abbrev pub detects_words : DetectWords → List Variable → Outside → Result 
 detects_words words env = detects_into words.proof_path words.choice env
 
 -- what that comes to
-abbrev pub comes_into : Option (List ℕ) → ChoiceWords → List Variable → Outside → Result (List ℕ) DetectRefusal → Outside → Type 0
+abbrev pub comes_into : Option (List ℕ) → ChoiceWords → List Variable → Outside → Result (List ℕ) DetectRefusal
+    → Outside → Type 0
 comes_into None choice env = ComesTo target.Document choice env
 comes_into (Some path) choice env = ComesToRecorded target.Document choice path env
 

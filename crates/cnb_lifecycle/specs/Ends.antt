@@ -32,18 +32,21 @@ status_code (Launched code) = launched_code code
 abbrev pub CountsChild : {A : Type 0} → Result A Refusal → ℕ → ℕ → List ℕ → List ℕ → Type 0
 CountsChild result before now befores nows = CountsEither cause_of result before now befores nows
 
--- A command did these steps and came to an end, its answer or a refusal, and these shelves stand then. Each failure of the
--- outside is counted, and told by the end; the status and what the sink took are those of the end.
-pub record Ends (steps : Surroundings → Result Answer Refusal → Surroundings → Type 0) (old : Surroundings) (outside : Outside) (shelves : List ShelfState)
+-- A command did these steps and came to an end, its answer or a refusal, and these shelves stand then. Each failure of
+-- the outside is counted, and told by the end; the status and what the sink took are those of the end.
+pub record Ends (steps : Surroundings → Result Answer Refusal → Surroundings → Type 0) (old : Surroundings)
+    (outside : Outside) (shelves : List ShelfState)
     (status : Status) (taken_old taken_new : Option (List ℕ)) : Type 0 where
   pub end : Result Answer Refusal
   pub standing : List ℕ
   pub did : steps old end (surroundings outside (caches_of shelves standing))
   pub files : CountsFiles cause_of end old.world.file_faults outside.world.file_faults
-  pub children : CountsChild end old.world.child_faults outside.world.child_faults (faults_of old.spawners) (faults_of outside.spawners)
+  pub children : CountsChild end old.world.child_faults outside.world.child_faults (faults_of old.spawners)
+      (faults_of outside.spawners)
   pub finishes : Finishes end status taken_old taken_new
 
--- `File` comes only where the count of file faults rose; where it grew, the status is `File`, or memory ran out, or the text was cut
+-- `File` comes only where the count of file faults rose; where it grew, the status is `File`, or memory ran out, or the
+-- text was cut
 abbrev pub CauseOfFile : Status → ℕ → ℕ → Type 0
 CauseOfFile Done before now = now ≡ before
 CauseOfFile Output before now = before ≤ now

@@ -35,8 +35,8 @@ FinishesWork (answer.Launched code) Output old new = ⊥
 FinishesWork (answer.Launched code) (Refused refusal) old new = ⊥
 FinishesWork (answer.Launched code) (Launched told) old new = (told ≡ code) × (new ≡ old)
 
--- The status of a command that came to this end, its answer or a refusal, by what the sink took. Where memory runs out, it
--- takes nothing.
+-- The status of a command that came to this end, its answer or a refusal, by what the sink took. Where memory runs out,
+-- it takes nothing.
 abbrev pub Finishes : Result Answer Refusal → Status → Option (List ℕ) → Option (List ℕ) → Type 0
 Finishes (Ok done) status old new = FinishesWork done status old new
 Finishes (Err refusal) Done old new = ⊥

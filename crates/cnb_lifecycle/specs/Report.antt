@@ -6,4 +6,5 @@ use Rattle.cnb_lifecycle.specs.Refusal.{code_of, name_of, detail_of, with_text}
 
 -- its exit status, its name and what is told of it
 abbrev pub error_line : Refusal → List ℕ
-error_line refusal = codes "error " ++ decimal (code_of refusal) ++ codes " " ++ with_text (name_of refusal) (detail_of refusal) ++ 10 ∷ []
+error_line refusal = codes "error " ++ decimal (code_of refusal) ++ codes " "
+    ++ with_text (name_of refusal) (detail_of refusal) ++ 10 ∷ []

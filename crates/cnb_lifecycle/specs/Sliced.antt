@@ -1,4 +1,5 @@
--- What unpacking comes to of an image whose application is cut into slices, beside an image that has the application whole.
+-- What unpacking comes to of an image whose application is cut into slices, beside an image that has the application
+-- whole.
 use Rattle.std.specs.Prelude.{ℕ, ◌≡◌, List, [], ◌∷◌, ◌++◌, Option, Some, Ok, IsTrue}
 use Rattle.std.specs.List.{AllByRecursion}
 use Rattle.app_slices.specs.Slices.{slices_of}
@@ -28,8 +29,8 @@ HaveTrees store files [] (tree ∷ trees) = ⊥
 HaveTrees store files (row ∷ rows) [] = ⊥
 HaveTrees store files (row ∷ rows) (tree ∷ trees) = HasTree store files row tree × HaveTrees store files rows trees
 
--- Two images of a store differ in the rows of an application alone: in the one these have the trees that it is cut into by
--- slices, in order and at one place, and in the other one row has the whole tree.
+-- Two images of a store differ in the rows of an application alone: in the one these have the trees that it is cut into
+-- by slices, in order and at one place, and in the other one row has the whole tree.
 pub record DifferInSlices (store : List ℕ) (files : Tree) (sliced whole : ImageDoc) : Type 0 where
   pub front : List Row
   pub parts : List Row
@@ -51,11 +52,12 @@ pub record HasLaunch (root : List ℕ) (launch : LaunchDoc) (laid : Tree) (files
   pub reads : ReadsAs launch bytes
   pub left : files ≡ Some (tree_laid root launch_doc_place (file_of bytes) laid)
 
--- Where the files are told, two such images of one store are unpacked under one root, apart from the folder of the trees: both
--- leave the same files, and over them the same document of the launch.
+-- Where the files are told, two such images of one store are unpacked under one root, apart from the folder of the
+-- trees: both leave the same files, and over them the same document of the launch.
 abbrev pub UnpacksSliced : Type 0
 UnpacksSliced = (store root one other : List ℕ) (files : Tree) (sliced whole : ImageDoc)
-    → image_at store one files ≡ Ok sliced → image_at store other files ≡ Ok whole → DifferInSlices store files sliced whole
+    → image_at store one files ≡ Ok sliced → image_at store other files ≡ Ok whole
+    → DifferInSlices store files sliced whole
     → IsTrue (is_path root) → AreApart root (trees_of store)
     → (old new before after : Seen) → old.files ≡ Some files → before.files ≡ Some files
     → unpacks store one root old (Ok tt) new → unpacks store other root before (Ok tt) after

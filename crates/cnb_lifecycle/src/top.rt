@@ -193,9 +193,11 @@ pub fn lifecycle<W: World, S: Spawner + Send, O: Sink, R: Threads + Sync>(
         (faults_of (spawners_seen S.Spawner spawners.old.items))
         (faults_of (spawners_seen S.Spawner spawners.new.items)) }
     ensures output { CountsOutput result (O.faults out.old) (O.faults out.new) }
-    // Where the files fit the command, none of these is a call on a path of the wrong kind.
+    // Where the files fit the command, and so do its caches and what its children leave, no call is on a path of the wrong
+    // kind.
     ensures misused { On (asked_of (command_in (map string_bytes words.now) env.now)) (λ asked.
-        NoMisuseBy asked (seen W.World world.old) (seen W.World world.new)) }
+        NoMisuseBy asked (shelves_seen ⟦<dyn Shelf as Shelf>⟧ shelves.old.items)
+        (seen W.World world.old) (seen W.World world.new)) }
     // A command that needs no cache looks at none.
     ensures shelves { On (asked_of (command_in (map string_bytes words.now) env.now)) (λ asked.
         (uses_caches asked ≡ false) → (shelves.new.items ≡ shelves.old.items)) }

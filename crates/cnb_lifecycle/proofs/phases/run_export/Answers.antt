@@ -9,7 +9,21 @@ use Rattle.cnb_lifecycle.proofs.phases.run_export.Goals as goal
 pub returns-in_err-text : goal.returns-in_err-text
 returns-in_err-text g c =
     let exit = err_from_is_err_and c.from_residual.result c.from_residual.ensures.1 in
-    rw (exit.1, exit.2) (record { steps = (_, told_fault Printed of_export _ _ _ _ (over_taken (exports_command c.args.options.now) _ _ _ _ _ c.taken-caches.ensures.seen c.in_err-text.ensures.steps)) })
+    rw (exit.1, exit.2) (record {
+      steps = (
+        _,
+        told_fault Printed of_export _ _ _ _
+            (over_taken (exports_command c.args.options.now) _ _ _ _ _ c.taken-caches.ensures.seen
+            c.in_err-text.ensures.steps),
+      );
+    })
 
 pub returns : goal.returns
-returns g c = record { steps = (_, told Printed of_export _ _ _ _ (over_taken (exports_command c.args.options.now) _ _ _ _ _ c.taken-caches.ensures.seen c.in_ok-text.ensures.steps)) }
+returns g c = record {
+  steps = (
+    _,
+    told Printed of_export _ _ _ _
+        (over_taken (exports_command c.args.options.now) _ _ _ _ _ c.taken-caches.ensures.seen
+        c.in_ok-text.ensures.steps),
+  );
+}

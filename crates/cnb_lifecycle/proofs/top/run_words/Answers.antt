@@ -6,7 +6,8 @@ use Rattle.cnb_lifecycle.proofs.NumberLemmas.{all_stand}
 use Rattle.cnb_lifecycle.proofs.top.run_words.Goals as goal
 
 pub run_asked-end-requires-clause-standing : goal.run_asked-end-requires-clause-standing
-run_asked-end-requires-clause-standing g c κs within = all_stand _ _ (c.in_ok-places.ensures ∙ ap (range_with_len 0) (c.len.ensures ∙ c.args.shelves.now.ok.0))
+run_asked-end-requires-clause-standing g c κs within = all_stand _ _
+    (c.in_ok-places.ensures ∙ ap (range_with_len 0) (c.len.ensures ∙ c.args.shelves.now.ok.0))
 
 pub returns-in_err-places-clause-refused : goal.returns-in_err-places-clause-refused
 returns-in_err-places-clause-refused g c =
@@ -47,7 +48,9 @@ pub returns-clause-idle : goal.returns-clause-idle
 returns-clause-idle g c = not_refused _ _ _ c.in_ok-asked.ensures.command
 
 pub returns-clause-does : goal.returns-clause-does
-returns-clause-does g c = begun _ _ (c.in_ok-places.ensures ∙ ap (range_with_len 0) (c.len.ensures ∙ c.args.shelves.now.ok.0)) _ _ _ _ _ _ _ _ c.in_ok-asked.ensures.command c.run_asked-end.ensures.does
+returns-clause-does g c = begun _ _ (c.in_ok-places.ensures
+    ∙ ap (range_with_len 0) (c.len.ensures ∙ c.args.shelves.now.ok.0)) _ _ _ _ _ _ _ _
+    c.in_ok-asked.ensures.command c.run_asked-end.ensures.does
 
 pub returns-clause-shelves : goal.returns-clause-shelves
 returns-clause-shelves g c = kept_shelves _ _ _ c.in_ok-asked.ensures.command c.run_asked-end.ensures.shelves
