@@ -11,7 +11,8 @@ use Rattle.bp_docs.specs.declared.descriptor.Entry.{Entry}
 
 -- a version, where an empty text is none
 abbrev pub version_or_none : List ℕ → Result (Option (List ℕ)) DocFault
-version_or_none text = if length text == 0 then Ok None else if is_bp_version text then Ok (Some text) else Err (Name [])
+version_or_none text = if length text == 0 then Ok None else if is_bp_version text then Ok (Some text) else Err
+    (Name [])
 
 abbrev pub optional_version_of : Form (Option (List ℕ))
 optional_version_of value = text_of value >>= version_or_none

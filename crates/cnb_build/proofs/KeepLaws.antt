@@ -22,15 +22,22 @@ keeps_rest path =
     record { none = same; memory = same; decided = same }
 
 free_of : (path : List ℕ) (frame : BuildFrame) (row : GroupRow) → spares path frame row ≡ true
-    → (is_free (folder_paths (places_of frame row.key).layers) path ≡ true) × (is_free (touched (places_of frame row.key).plan) path ≡ true)
-free_of path frame row is = and_parts (is_free (folder_paths (places_of frame row.key).layers) path) (is_free (touched (places_of frame row.key).plan) path) is
+    → (is_free (folder_paths (places_of frame row.key).layers) path ≡ true)
+    × (is_free (touched (places_of frame row.key).plan) path ≡ true)
+free_of path frame row is = and_parts (is_free (folder_paths (places_of frame row.key).layers) path)
+    (is_free (touched (places_of frame row.key).plan) path) is
 
-pub keeps_builds : (path : List ℕ) (frame : BuildFrame) (plan : List PlanEntry) (group : List GroupRow) → list_all (spares path frame) group ≡ true → Preserves path (builds frame plan group)
+pub keeps_builds : (path : List ℕ) (frame : BuildFrame) (plan : List PlanEntry) (group : List GroupRow)
+    → list_all (spares path frame) group ≡ true → Preserves path (builds frame plan group)
 keeps_builds path frame plan group apart =
-    builds_obey (λ last. Keeps path) (λ last. keeps_then path) (keeps_rest path) (λ A fits want. keeps_reads path cause_of fits want) (keeps_runs_child path cause_of) frame (spares path frame)
-    (λ row is. keeps_makes_folder path cause_of _ (free_of path frame row is).0) (λ row Says is. keeps_writes path cause_of _ Says (free_of path frame row is).1) plan group apart
+    builds_obey (λ last. Keeps path) (λ last. keeps_then path) (keeps_rest path)
+    (λ A fits want. keeps_reads path cause_of fits want) (keeps_runs_child path cause_of) frame
+    (spares path frame)
+    (λ row is. keeps_makes_folder path cause_of _ (free_of path frame row is).0)
+    (λ row Says is. keeps_writes path cause_of _ Says (free_of path frame row is).1) plan group apart
 
 -- a path that none of the builds touches
-pub kept_paths : (frame : BuildFrame) (plan : List PlanEntry) (group : List GroupRow) (old new : Seen) (result : Result (Unit {0}) BuildFault) → builds frame plan group old result new
+pub kept_paths : (frame : BuildFrame) (plan : List PlanEntry) (group : List GroupRow) (old new : Seen)
+    (result : Result (Unit {0}) BuildFault) → builds frame plan group old result new
     → (path : List ℕ) → list_all (spares path frame) group ≡ true → Keeps path old new
 kept_paths frame plan group old new result h path apart = keeps_builds path frame plan group apart old new result h

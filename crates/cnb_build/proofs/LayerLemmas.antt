@@ -15,10 +15,14 @@ unfolding yields
 none_given folder none old is = (is, refl)
 
 -- nothing stands there
-pub no_names : (folder : List ℕ) (kind : Kind) (none : List (List ℕ)) (old : Seen) → is_absent kind ≡ true → none ≡ [] → names_if folder (is_absent kind) old (Ok none) old
-no_names folder kind none old absent is = subst (λ b. names_if folder b old (Ok none) old) (sym absent) (none_given folder none old is)
+pub no_names : (folder : List ℕ) (kind : Kind) (none : List (List ℕ)) (old : Seen) → is_absent kind ≡ true
+    → none ≡ [] → names_if folder (is_absent kind) old (Ok none) old
+no_names folder kind none old absent is = subst (λ b. names_if folder b old (Ok none) old) (sym absent)
+    (none_given folder none old is)
 
 -- a folder has to stand there
-pub listed_names : (folder : List ℕ) (kind : Kind) (result : Result (List (List ℕ)) BuildFault) (old new : Seen) → is_absent kind ≡ false
-    → reads_files (λ files. can_list files folder) (λ files. names_at files folder) old result new → names_if folder (is_absent kind) old result new
+pub listed_names : (folder : List ℕ) (kind : Kind) (result : Result (List (List ℕ)) BuildFault) (old new : Seen)
+    → is_absent kind ≡ false
+    → reads_files (λ files. can_list files folder) (λ files. names_at files folder) old result new
+    → names_if folder (is_absent kind) old result new
 listed_names folder kind result old new there h = subst (λ b. names_if folder b old result new) (sym there) h

@@ -34,7 +34,8 @@ prepares row places pending = do
   yields clear_env
 
 -- its child runs, in the environment that the layers of earlier buildpacks give, and must end with 0
-unfoldable pub runs_build : BuildFrame → List Variable → GroupRow → Places → Bool → List (List (List ℕ)) → Seen → Result (Unit {0}) BuildFault → Seen → Type 0
+unfoldable pub runs_build : BuildFrame → List Variable → GroupRow → Places → Bool → List (List (List ℕ)) → Seen
+    → Result (Unit {0}) BuildFault → Seen → Type 0
 runs_build frame base row places clear_env done = do
   env ← reads_files (λ files. are_fit_sets Build files done) (build_env done (files_for frame clear_env) base)
   end ← runs_child cause_of (build_job frame places env)
@@ -64,14 +65,16 @@ ends_build row places built = do
   gives cause_of (Ok (with_layers built.done layers pending))
 
 -- the build of a buildpack whose places are known
-unfoldable pub builds_at : BuildFrame → List Variable → GroupRow → Built → Places → Seen → Result Built BuildFault → Seen → Type 0
+unfoldable pub builds_at : BuildFrame → List Variable → GroupRow → Built → Places → Seen → Result Built BuildFault
+    → Seen → Type 0
 builds_at frame base row built places = do
   clear_env ← prepares row places built.pending
   passed ← runs_build frame base row places clear_env built.done
   ends_build row places built
 
 -- one buildpack is built, behind others
-unfoldable pub builds_one : BuildFrame → List Variable → GroupRow → Built → Seen → Result Built BuildFault → Seen → Type 0
+unfoldable pub builds_one : BuildFrame → List Variable → GroupRow → Built → Seen → Result Built BuildFault → Seen
+    → Type 0
 builds_one frame base row built = do
   places ← gives cause_of (Ok (places_of frame row.key))
   builds_at frame base row built places
@@ -81,7 +84,8 @@ abbrev pub nothing_built : List PlanEntry → Built
 nothing_built plan = record { pending = plan; done = [] }
 
 -- the buildpacks of a group are built in order
-unfoldable pub builds : BuildFrame → List PlanEntry → List GroupRow → Seen → Result (Unit {0}) BuildFault → Seen → Type 0
+unfoldable pub builds : BuildFrame → List PlanEntry → List GroupRow → Seen → Result (Unit {0}) BuildFault → Seen
+    → Type 0
 builds frame plan group = do
   base ← gives cause_of (Ok (base_env frame.env))
   built ← for_each (builds_one frame base) group (nothing_built plan)

@@ -21,7 +21,8 @@ clears_of path (Foreign api) = Err (Api api)
 -- the descriptor must be there
 abbrev pub clears_in : List ℕ → Option (List ℕ) → Result Bool BuildFault
 clears_in path None = Err (Document path Absent)
-clears_in path (Some bytes) = results.and_then (value_at path (descriptor_in bytes)) (λ descriptor. clears_of path descriptor.body)
+clears_in path (Some bytes) = results.and_then (value_at path (descriptor_in bytes))
+    (λ descriptor. clears_of path descriptor.body)
 
 unfoldable pub reads_descriptor : List ℕ → Seen → Result Bool BuildFault → Seen → Type 0
 reads_descriptor path = do

@@ -44,7 +44,8 @@ abbrev pub needed : {A : Type 0} → (List ℕ → Result A DocFault) → List �
 needed form path None = Err (Document path Absent)
 needed form path (Some bytes) = value_at path (form bytes)
 
-unfoldable pub reads_needed : {A : Type 0} → (List ℕ → Result A DocFault) → List ℕ → Seen → Result A BuildFault → Seen → Type 0
+unfoldable pub reads_needed : {A : Type 0} → (List ℕ → Result A DocFault) → List ℕ → Seen → Result A BuildFault
+    → Seen → Type 0
 reads_needed form path = do
   found ← reads_document path
   gives cause_of (needed form path found)

@@ -34,7 +34,8 @@ with_layer folder layer found doc = if doc.build then found ++ joined folder lay
 -- what a layer's document says of it; there is no layer where that is no regular file
 abbrev pub found_with : List ℕ → List ℕ → List (List ℕ) → Option (List ℕ) → Result (List (List ℕ)) BuildFault
 found_with folder layer found None = Ok found
-found_with folder layer found (Some bytes) = results.and_then (value_at (layer_document folder layer) (layer_in bytes)) (λ doc. Ok (with_layer folder layer found doc))
+found_with folder layer found (Some bytes) = results.and_then
+    (value_at (layer_document folder layer) (layer_in bytes)) (λ doc. Ok (with_layer folder layer found doc))
 
 unfoldable pub reads_layer : List ℕ → List ℕ → List (List ℕ) → Seen → Result (List (List ℕ)) BuildFault → Seen → Type 0
 reads_layer folder layer found = do

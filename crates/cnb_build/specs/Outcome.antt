@@ -56,47 +56,58 @@ names_unless folder false files = with_fault of_read_fault (names_at files folde
 -- a layer's document, behind those of others
 abbrev pub layer_at : List ℕ → List ℕ → List (List ℕ) → Tree → Result (List (List ℕ)) BuildFault
 layer_at folder layer found files =
-    with_fault of_read_fault (contents_of (item_at files (layer_document folder layer))) >>= found_with folder layer found
+    with_fault of_read_fault (contents_of (item_at files (layer_document folder layer)))
+    >>= found_with folder layer found
 
 abbrev pub layers_behind : List ℕ → List (List ℕ) → List (List ℕ) → Tree → Result (List (List ℕ)) BuildFault
 layers_behind folder [] found files = Ok found
-layers_behind folder (layer ∷ layers) found files = layer_at folder layer found files >>= (λ more. layers_behind folder layers more files)
+layers_behind folder (layer ∷ layers) found files = layer_at folder layer found files
+    >>= (λ more. layers_behind folder layers more files)
 
 -- the folders of the layers that are there while later buildpacks are built
 abbrev pub layers_at : List ℕ → Tree → Result (List (List ℕ)) BuildFault
-layers_at folder files = names_unless folder (is_absent (kind_of (item_at files folder))) files >>= (λ names. layers_behind folder (layers_among names) [] files)
+layers_at folder files = names_unless folder (is_absent (kind_of (item_at files folder))) files
+    >>= (λ names. layers_behind folder (layers_among names) [] files)
 
 -- what is pending behind a build, by what its child left
 abbrev pub pending_at : GroupRow → Places → List PlanEntry → Tree → Result (List PlanEntry) BuildFault
-pending_at row places pending files = read_as build_in places.unmet files >>= (λ unmet. pending_after row.key unmet pending)
+pending_at row places pending files = read_as build_in places.unmet files
+    >>= (λ unmet. pending_after row.key unmet pending)
 
 -- the layers that its child left, unless another document that it left is refused
 abbrev pub left_at : Places → Tree → Result (List (List ℕ)) BuildFault
-left_at places files = read_as launch_in places.launch files >>= (λ launch. read_as store_in places.store files >>= (λ store. layers_at places.layers files))
+left_at places files = read_as launch_in places.launch files
+    >>= (λ launch. read_as store_in places.store files >>= (λ store. layers_at places.layers files))
 
 abbrev pub built_at : GroupRow → Places → Built → Tree → Result Built BuildFault
-built_at row places built files = pending_at row places built.pending files >>= (λ pending. left_at places files >>= (λ layers. Ok (with_layers built.done layers pending)))
+built_at row places built files = pending_at row places built.pending files
+    >>= (λ pending. left_at places files >>= (λ layers. Ok (with_layers built.done layers pending)))
 
 -- ---- children
 
--- A child of the build of a buildpack, behind others. It found what stood before the build, with the folder of its layers
+-- A child of the build of a buildpack, behind others. It found what stood before the build, with the folder of its
+-- layers
 -- made and its plan written; its environment is made of what it found.
-pub record IsRunOf (frame : BuildFrame) (base : List Variable) (row : GroupRow) (places : Places) (built : Built) (before : Option Tree) (run : Run) : Type 0 where
+pub record IsRunOf (frame : BuildFrame) (base : List Variable) (row : GroupRow) (places : Places) (built : Built)
+    (before : Option Tree) (run : Run) : Type 0 where
   pub clear_env : Bool
   pub plan : List ℕ
   pub env : List Variable
   pub clears : IfSome before (λ files. clears_at places.descriptor files ≡ Ok clear_env)
   pub reads : bp_plan_in plan ≡ Ok (plan_for row.key built.pending)
   pub found : run.found ≡ option_map (λ files. written places.plan plan (folder_made places.layers files)) before
-  pub environment : IfSome run.found (λ files. with_fault of_read_fault (build_env built.done (files_for frame clear_env) base files) ≡ Ok env)
+  pub environment : IfSome run.found (λ files. with_fault of_read_fault
+      (build_env built.done (files_for frame clear_env) base files) ≡ Ok env)
   pub job : run.job ≡ build_job frame places env
 
--- The children of builds, one for each of the first buildpacks in order. Each but the last ended with 0, and what it left says
+-- The children of builds, one for each of the first buildpacks in order. Each but the last ended with 0, and what it
+-- left says
 -- what is pending, and which layers there are, for those behind it.
 abbrev pub AreRunsOf : BuildFrame → List Variable → List GroupRow → Built → Option Tree → List Run → Type 0
 AreRunsOf frame base rows built before [] = Unit {0}
 AreRunsOf frame base [] built before (run ∷ runs) = ⊥
-AreRunsOf frame base (row ∷ rows) built before (run ∷ []) = IsRunOf frame base row (places_of frame row.key) built before run
+AreRunsOf frame base (row ∷ rows) built before (run ∷ []) = IsRunOf frame base row
+    (places_of frame row.key) built before run
 AreRunsOf frame base (row ∷ rows) built before (run ∷ more ∷ runs) =
     IsRunOf frame base row (places_of frame row.key) built before run × (is_code 0 run.end.code ≡ true)
     × (next : Built) × IfSome run.left (λ files. built_at row (places_of frame row.key) built files ≡ Ok next)
@@ -113,7 +124,8 @@ RanAll (Ok done) group before runs after = (length runs ≡ length group) × (af
 RanAll (Err fault) group before runs after = Unit {0}
 
 -- The children that ran besides those before.
-pub record RunsBuilds (frame : BuildFrame) (plan : List PlanEntry) (group : List GroupRow) (old : Seen) (result : Result (Unit {0}) BuildFault) (new : Seen) : Type 0 where
+pub record RunsBuilds (frame : BuildFrame) (plan : List PlanEntry) (group : List GroupRow) (old : Seen)
+    (result : Result (Unit {0}) BuildFault) (new : Seen) : Type 0 where
   pub rows : List Run
   pub runs : new.runs ≡ old.runs ++ rows
   pub are : AreRunsOf frame (base_env frame.env) group (nothing_built plan) old.files rows
@@ -121,4 +133,5 @@ pub record RunsBuilds (frame : BuildFrame) (plan : List PlanEntry) (group : List
 
 -- the build of a buildpack touches neither this path nor a folder that comes to stand there
 abbrev pub spares : List ℕ → BuildFrame → GroupRow → Bool
-spares path frame row = is_free (folder_paths (places_of frame row.key).layers) path && is_free (touched (places_of frame row.key).plan) path
+spares path frame row = is_free (folder_paths (places_of frame row.key).layers) path
+    && is_free (touched (places_of frame row.key).plan) path

@@ -16,7 +16,12 @@ buildpack_plan_path frame key = joined (joined frame.work (codes "plans")) (plan
 
 -- the documents that a child may leave in a folder of layers
 abbrev pub left_in : List ℕ → Left
-left_in layers = record { unmet = joined layers (codes "build.toml"); launch = joined layers (codes "launch.toml"); store = joined layers (codes "store.toml") }
+left_in layers = record {
+  unmet = joined layers (codes "build.toml");
+  launch = joined layers
+      (codes "launch.toml");
+  store = joined layers (codes "store.toml");
+}
 
 abbrev pub places_of : BuildFrame → Key → Places
 places_of frame key = record {

@@ -11,7 +11,8 @@ use Rattle.cnb_build.specs.declared.fault.BuildFault.{BuildFault}
 use Rattle.cnb_build.specs.Refusals.{cause_of, of_read_fault}
 
 -- files are read
-abbrev pub reads_files : {A : Type 0} → (Tree → Bool) → (Tree → Result A ReadFault) → Seen → Result A BuildFault → Seen → Type 0
+abbrev pub reads_files : {A : Type 0} → (Tree → Bool) → (Tree → Result A ReadFault) → Seen → Result A BuildFault
+    → Seen → Type 0
 reads_files fits want = reads cause_of fits (λ files. with_fault of_read_fault (want files))
 
 -- the document at a path is read, where one is there
@@ -23,7 +24,8 @@ abbrev pub value_at : {A : Type 0} → List ℕ → Result A DocFault → Result
 value_at path answer = with_fault of_read_fault (read_at path answer)
 
 -- a document is read; one that isn't there is empty
-unfoldable pub reads_as : {A : Type 0} → (List ℕ → Result A DocFault) → List ℕ → Seen → Result A BuildFault → Seen → Type 0
+unfoldable pub reads_as : {A : Type 0} → (List ℕ → Result A DocFault) → List ℕ → Seen → Result A BuildFault → Seen
+    → Type 0
 reads_as form path = do
   found ← reads_document path
   gives cause_of (value_at path (form (unwrap_or found [])))

@@ -37,17 +37,23 @@ order_causes order.LongGroup = refl
 order_causes order.Memory = refl
 
 target_counts : (source : TargetSource) (work : List ℕ) → Obeys FileCounts cause_of (takes_target source work)
-target_counts Document work = obeys_told FileCounts read_cause cause_of of_read_fault _ read_causes (reads_counts read_cause _ _)
+target_counts Document work = obeys_told FileCounts read_cause cause_of of_read_fault _ read_causes
+    (reads_counts read_cause _ _)
 target_counts (Given target) work = obeys_gives _ _ _ files_rest
 
-pub prepares_counts : (source : TargetSource) (options : ChoiceWords) (env : List Variable) → Obeys FileCounts cause_of (prepares source options env)
+pub prepares_counts : (source : TargetSource) (options : ChoiceWords) (env : List Variable)
+    → Obeys FileCounts cause_of (prepares source options env)
 unfolding prepares
 prepares_counts source options env =
-    obeys_bind _ _ _ _ files_link (obeys_told FileCounts read_cause cause_of of_read_fault _ read_causes (reads_counts read_cause _ _))
-    (λ order. obeys_bind _ _ _ _ files_link (obeys_told FileCounts read_cause cause_of of_read_fault _ read_causes (reads_counts read_cause _ _))
-    (λ catalog. obeys_bind _ _ _ _ files_link (obeys_told FileCounts order_cause cause_of of_order_fault _ order_causes (obeys_gives _ _ _ files_rest))
+    obeys_bind _ _ _ _ files_link (obeys_told FileCounts read_cause cause_of of_read_fault _ read_causes
+    (reads_counts read_cause _ _))
+    (λ order. obeys_bind _ _ _ _ files_link (obeys_told FileCounts read_cause cause_of of_read_fault _ read_causes
+    (reads_counts read_cause _ _))
+    (λ catalog. obeys_bind _ _ _ _ files_link (obeys_told FileCounts order_cause cause_of of_order_fault _
+    order_causes (obeys_gives _ _ _ files_rest))
     (λ groups. obeys_bind _ _ _ _ files_link (target_counts source options.work)
-    (λ target. obeys_bind _ _ _ _ files_link (obeys_told FileCounts read_cause cause_of of_read_fault _ read_causes (reads_counts read_cause _ _))
+    (λ target. obeys_bind _ _ _ _ files_link (obeys_told FileCounts read_cause cause_of of_read_fault _
+    read_causes (reads_counts read_cause _ _))
     (λ files. obeys_gives _ _ _ files_rest)))))
 
 pub written_choice_counts : (work : List ℕ) (choice : Choice) → Obeys FileCounts cause_of (writes_choice work choice)
@@ -56,14 +62,19 @@ written_choice_counts work choice =
     obeys_bind _ _ _ _ files_link (writes_counts cause_of _ _)
     (λ group. obeys_bind _ _ _ _ files_link (writes_counts cause_of _ _) (λ plan. obeys_yields _ _ _ files_rest))
 
-pub choice_counts : (source : TargetSource) (options : ChoiceWords) (env : List Variable) → Obeys OutsideCounts cause_of (chooses source options env)
+pub choice_counts : (source : TargetSource) (options : ChoiceWords) (env : List Variable)
+    → Obeys OutsideCounts cause_of (chooses source options env)
 unfolding chooses
 choice_counts source options env =
-    obeys_bind _ _ _ _ outside_link (obeys_over_world cause_of _ (files_among cause_of _ (prepares_counts source options env))) (λ prepared. obeys_asks cause_of _ _ _)
+    obeys_bind _ _ _ _ outside_link (obeys_over_world cause_of _
+    (files_among cause_of _ (prepares_counts source options env))) (λ prepared. obeys_asks cause_of _ _ _)
 
-pub detect_counts : (source : TargetSource) (options : ChoiceWords) (env : List Variable) → Obeys OutsideCounts cause_of (detects source options env)
+pub detect_counts : (source : TargetSource) (options : ChoiceWords) (env : List Variable)
+    → Obeys OutsideCounts cause_of (detects source options env)
 unfolding detects
 detect_counts source options env =
     obeys_bind _ _ _ _ outside_link (choice_counts source options env)
     (λ choice. obeys_bind _ _ _ _ outside_link (obeys_gives _ _ _ outside_rest)
-    (λ text. obeys_bind _ _ _ _ outside_link (obeys_over_world cause_of _ (files_among cause_of _ (written_choice_counts options.work choice))) (λ written. obeys_yields _ _ _ outside_rest)))
+    (λ text. obeys_bind _ _ _ _ outside_link (obeys_over_world cause_of _
+    (files_among cause_of _ (written_choice_counts options.work choice)))
+    (λ written. obeys_yields _ _ _ outside_rest)))

@@ -41,7 +41,8 @@ any_files None = tt
 any_files (Some files) = tt
 
 -- memory may run out before anything is done
-pub no_memory_to_choose : (source : TargetSource) (options : ChoiceWords) (env : List Variable) (old : Outside) → chooses source options env old (Err Memory) old
+pub no_memory_to_choose : (source : TargetSource) (options : ChoiceWords) (env : List Variable) (old : Outside)
+    → chooses source options env old (Err Memory) old
 unfolding chooses prepares reads
 no_memory_to_choose source options env old =
     ended _ _ old old Memory (within _ old.world old.world old.spawners (Err Memory)
@@ -54,7 +55,8 @@ no_memory_to_choose source options env old =
       counts = files_rest.memory old.world;
     }))))
 
-pub no_memory_at_once : (source : TargetSource) (options : ChoiceWords) (env : List Variable) (old : Outside) → detects source options env old (Err Memory) old
+pub no_memory_at_once : (source : TargetSource) (options : ChoiceWords) (env : List Variable) (old : Outside)
+    → detects source options env old (Err Memory) old
 unfolding detects
 no_memory_at_once source options env old = ended _ _ old old Memory (no_memory_to_choose source options env old)
 
@@ -68,30 +70,50 @@ four true false c d = refl
 four false b c d = refl
 
 -- a file that is read, in the refusals of `detect`
-reads_one : {T : Type 0} (fits : Tree → Bool) (want : Tree → Result T ReadFault) → OnlyReads cause_of fits (λ files. with_fault of_read_fault (want files)) (map_err of_read_fault (reads read_cause fits want))
-reads_one fits want = reads_told read_cause cause_of of_read_fault fits want (reads read_cause fits want) read_causes (reads_files read_cause fits want)
+reads_one : {T : Type 0} (fits : Tree → Bool) (want : Tree → Result T ReadFault)
+    → OnlyReads cause_of fits (λ files. with_fault of_read_fault (want files))
+    (map_err of_read_fault (reads read_cause fits want))
+reads_one fits want = reads_told read_cause cause_of of_read_fault fits want
+    (reads read_cause fits want) read_causes (reads_files read_cause fits want)
 
-checks_one : (want : Result ℕ OrderFault) → OnlyReads cause_of (λ files. true) (λ files. with_fault of_order_fault want) (map_err of_order_fault (gives order_cause want))
-checks_one want = reads_told order_cause cause_of of_order_fault (λ files. true) (λ files. want) (gives order_cause want) order_causes (gives_known order_cause want)
+checks_one : (want : Result ℕ OrderFault) → OnlyReads cause_of (λ files. true)
+    (λ files. with_fault of_order_fault want) (map_err of_order_fault (gives order_cause want))
+checks_one want = reads_told order_cause cause_of of_order_fault (λ files. true) (λ files. want)
+    (gives order_cause want) order_causes (gives_known order_cause want)
 
-takes_one : (source : TargetSource) (work : List ℕ) → OnlyReads cause_of (is_fit_source source work) (target_in source work) (takes_target source work)
+takes_one : (source : TargetSource) (work : List ℕ) → OnlyReads cause_of (is_fit_source source work)
+    (target_in source work) (takes_target source work)
 takes_one Document work = reads_one (is_fit_target work) (target_at work)
 takes_one (Given target) work = gives_known cause_of (Ok (Some target))
 
 -- the preparation comes to what the files say, and where they fit, it makes no call on a path of the wrong kind
-pub prepares_reads : (source : TargetSource) (options : ChoiceWords) (env : List Variable) → OnlyReads cause_of (is_fit_preparation source options) (prepared_in source options env) (prepares source options env)
+pub prepares_reads : (source : TargetSource) (options : ChoiceWords) (env : List Variable)
+    → OnlyReads cause_of (is_fit_preparation source options) (prepared_in source options env)
+    (prepares source options env)
 unfolding prepares
 prepares_reads source options env old new result h =
-    let made : List (List Entry) → List Descriptor → Option Target → List EnvFile → Result Prepared DetectRefusal = λ order catalog target files. Ok (record { order = order; catalog = catalog; frame = frame_of options env target files }) in
-    let all = reads_then cause_of (is_fit_order_file options.order) _ (λ files. with_fault of_read_fault (order_file_in options.order files)) _ _ _ (reads_one (is_fit_order_file options.order) (order_file_in options.order))
-    (λ order. reads_then cause_of (is_fit_catalog options.buildpacks) _ (λ files. with_fault of_read_fault (catalog_in options.buildpacks files)) _ _ _ (reads_one (is_fit_catalog options.buildpacks) (catalog_in options.buildpacks))
-    (λ catalog. reads_then cause_of (λ files. true) _ (λ files. with_fault of_order_fault (checked catalog order)) _ _ _ (checks_one (checked catalog order))
-    (λ groups. reads_then cause_of (is_fit_source source options.work) _ (target_in source options.work) _ _ _ (takes_one source options.work)
-    (λ target. reads_then cause_of (is_fit_platform options.platform) (λ files. true) (λ files. with_fault of_read_fault (platform_files_in options.platform files)) _ _ _ (reads_one (is_fit_platform options.platform) (platform_files_in options.platform))
+    let made : List (List Entry) → List Descriptor → Option Target → List EnvFile
+    → Result Prepared DetectRefusal = λ order catalog target files. Ok
+    (record { order = order; catalog = catalog; frame = frame_of options env target files }) in
+    let all = reads_then cause_of (is_fit_order_file options.order) _
+    (λ files. with_fault of_read_fault (order_file_in options.order files)) _ _ _
+    (reads_one (is_fit_order_file options.order) (order_file_in options.order))
+    (λ order. reads_then cause_of (is_fit_catalog options.buildpacks) _
+    (λ files. with_fault of_read_fault (catalog_in options.buildpacks files)) _ _ _
+    (reads_one (is_fit_catalog options.buildpacks) (catalog_in options.buildpacks))
+    (λ catalog. reads_then cause_of (λ files. true) _ (λ files. with_fault of_order_fault (checked catalog order))
+    _ _ _ (checks_one (checked catalog order))
+    (λ groups. reads_then cause_of (is_fit_source source options.work) _ (target_in source options.work) _ _ _
+    (takes_one source options.work)
+    (λ target. reads_then cause_of (is_fit_platform options.platform) (λ files. true)
+    (λ files. with_fault of_read_fault (platform_files_in options.platform files)) _ _ _
+    (reads_one (is_fit_platform options.platform) (platform_files_in options.platform))
     (λ files. gives_known cause_of (made order catalog target files)))))) old new result h in
     record {
       same = all.same;
       answer = all.answer;
-      allows = may_as _ (is_fit_preparation source options) (λ files. four (is_fit_order_file options.order files) (is_fit_catalog options.buildpacks files) (is_fit_source source options.work files) (is_fit_platform options.platform files))
+      allows = may_as _ (is_fit_preparation source options)
+          (λ files. four (is_fit_order_file options.order files) (is_fit_catalog options.buildpacks files)
+          (is_fit_source source options.work files) (is_fit_platform options.platform files))
           old.files old.misused new.misused all.allows;
     }

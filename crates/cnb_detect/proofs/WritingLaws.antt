@@ -27,7 +27,8 @@ pub record Both (work : List ℕ) (choice : Choice) (old new : Option Tree) : Ty
   pub plan : List ℕ
   pub group_reads : group_in group ≡ Ok choice.group
   pub plan_reads : plan_in plan ≡ Ok choice.plan
-  pub files : new ≡ option_map (λ files. written (plan_document work) plan (written (group_document work) group files)) old
+  pub files : new ≡ option_map (λ files. written (plan_document work) plan
+      (written (group_document work) group files)) old
 
 abbrev pub WroteBoth : Result (Unit {0}) DetectRefusal → List ℕ → Choice → Option Tree → Option Tree → Type 0
 WroteBoth (Ok done) work choice old new = Both work choice old new
@@ -43,16 +44,19 @@ abbrev pub IsWritten : Result (Unit {0}) DetectRefusal → Type 0
 IsWritten (Ok done) = Unit {0}
 IsWritten (Err refusal) = IsWriteRefusal refusal
 
-pub record ChoiceWritten (work : List ℕ) (choice : Choice) (old : Seen) (result : Result (Unit {0}) DetectRefusal) (new : Seen) : Type 0 where
+pub record ChoiceWritten (work : List ℕ) (choice : Choice) (old : Seen) (result : Result (Unit {0}) DetectRefusal)
+    (new : Seen) : Type 0 where
   pub both : WroteBoth result work choice old.files new.files
   pub cause : IsWritten result
   pub group : IsOldOrNew old.files new.files (group_document work) (λ bytes. group_in bytes ≡ Ok choice.group)
   pub plan : IsOldOrNew old.files new.files (plan_document work) (λ bytes. plan_in bytes ≡ Ok choice.plan)
-  pub others : (path : List ℕ) → is_free (touched (group_document work)) path ≡ true → is_free (touched (plan_document work)) path ≡ true → standing new.files path ≡ standing old.files path
+  pub others : (path : List ℕ) → is_free (touched (group_document work)) path ≡ true
+      → is_free (touched (plan_document work)) path ≡ true → standing new.files path ≡ standing old.files path
   pub runs : new.runs ≡ old.runs
   pub misused : MayMisuse (option_map (can_write_choice work) old.files) old.misused new.misused
 
-refusal_of_write : (path : List ℕ) (refusal : DetectRefusal) → IsWriteCause path (cause_of refusal) → IsWriteRefusal refusal
+refusal_of_write : (path : List ℕ) (refusal : DetectRefusal) → IsWriteCause path (cause_of refusal)
+    → IsWriteRefusal refusal
 refusal_of_write path (File failed) h = tt
 refusal_of_write path Memory h = tt
 refusal_of_write path refusal h = absurd h
@@ -68,25 +72,32 @@ module _ (work : List ℕ) (choice : Choice) (path : is_path work ≡ true) wher
   abbrev IsPlan : List ℕ → Type 0
   IsPlan bytes = plan_in bytes ≡ Ok choice.plan
 
-  both_written : (old mid new : Seen) (done : Unit {0}) → Writes (group_document work) IsGroup old mid → Writes (plan_document work) IsPlan mid new → ChoiceWritten work choice old (Ok done) new
+  both_written : (old mid new : Seen) (done : Unit {0}) → Writes (group_document work) IsGroup old mid
+      → Writes (plan_document work) IsPlan mid new → ChoiceWritten work choice old (Ok done) new
   both_written old mid new done h k = record {
     both = record {
       group = h.bytes;
       plan = k.bytes;
       group_reads = h.says;
       plan_reads = k.says;
-      files = k.files ∙ ap (option_map (written (plan_document work) k.bytes)) h.files ∙ composed old.files (written (group_document work) h.bytes) (written (plan_document work) k.bytes);
+      files = k.files ∙ ap (option_map (written (plan_document work) k.bytes)) h.files
+          ∙ composed old.files (written (group_document work) h.bytes) (written (plan_document work) k.bytes);
     };
     cause = tt;
     group = both_group work path old.files mid.files new.files h.bytes k.bytes IsGroup h.says h.files k.files;
     plan = both_plan work path old.files mid.files new.files h.bytes k.bytes IsPlan k.says h.files k.files;
-    others = λ q g p. step_at mid.files new.files (written (plan_document work) k.bytes) q (λ t. written_free t (plan_document work) q k.bytes p) k.files
-        ∙ step_at old.files mid.files (written (group_document work) h.bytes) q (λ t. written_free t (group_document work) q h.bytes g) h.files;
+    others = λ q g p. step_at mid.files new.files (written (plan_document work) k.bytes) q
+        (λ t. written_free t (plan_document work) q k.bytes p) k.files
+        ∙ step_at old.files mid.files (written (group_document work) h.bytes) q
+        (λ t. written_free t (group_document work) q h.bytes g) h.files;
     runs = k.runs ∙ h.runs;
-    misused = may_write work h.bytes old.files mid.files old.misused mid.misused new.misused path h.files h.allows k.allows;
+    misused = may_write work h.bytes old.files mid.files old.misused mid.misused new.misused path h.files h.allows
+        k.allows;
   }
 
-  group_refused : (old new : Seen) (refusal : DetectRefusal) → IsWriteCause (group_document work) (cause_of refusal) → LeavesUnwritten (group_document work) IsGroup old new → ChoiceWritten work choice old (Err refusal) new
+  group_refused : (old new : Seen) (refusal : DetectRefusal)
+      → IsWriteCause (group_document work) (cause_of refusal)
+      → LeavesUnwritten (group_document work) IsGroup old new → ChoiceWritten work choice old (Err refusal) new
   group_refused old new refusal cause h = record {
     both = tt;
     cause = refusal_of_write (group_document work) refusal cause;
@@ -94,24 +105,31 @@ module _ (work : List ℕ) (choice : Choice) (path : is_path work ≡ true) wher
     plan = first_refused_plan work path old.files new.files IsPlan IsGroup h.files;
     others = λ q g p. some_left old.files new.files (group_document work) q IsGroup g h.files;
     runs = h.runs;
-    misused = may_first (can_write (group_document work)) (can_write (plan_document work)) old.files old.misused new.misused h.allows;
+    misused = may_first (can_write (group_document work)) (can_write (plan_document work)) old.files old.misused
+        new.misused h.allows;
   }
 
-  plan_refused : (old mid new : Seen) (refusal : DetectRefusal) → Writes (group_document work) IsGroup old mid → IsWriteCause (plan_document work) (cause_of refusal) → LeavesUnwritten (plan_document work) IsPlan mid new → ChoiceWritten work choice old (Err refusal) new
+  plan_refused : (old mid new : Seen) (refusal : DetectRefusal) → Writes (group_document work) IsGroup old mid
+      → IsWriteCause (plan_document work) (cause_of refusal) → LeavesUnwritten (plan_document work) IsPlan mid new
+      → ChoiceWritten work choice old (Err refusal) new
   plan_refused old mid new refusal h cause k = record {
     both = tt;
     cause = refusal_of_write (plan_document work) refusal cause;
     group = second_refused_group work path old.files mid.files new.files h.bytes IsGroup IsPlan h.says h.files k.files;
     plan = second_refused_plan work path old.files mid.files new.files h.bytes IsPlan IsPlan h.files k.files;
     others = λ q g p. some_left mid.files new.files (plan_document work) q IsPlan p k.files
-        ∙ step_at old.files mid.files (written (group_document work) h.bytes) q (λ t. written_free t (group_document work) q h.bytes g) h.files;
+        ∙ step_at old.files mid.files (written (group_document work) h.bytes) q
+        (λ t. written_free t (group_document work) q h.bytes g) h.files;
     runs = k.runs ∙ h.runs;
-    misused = may_write work h.bytes old.files mid.files old.misused mid.misused new.misused path h.files h.allows k.allows;
+    misused = may_write work h.bytes old.files mid.files old.misused mid.misused new.misused path h.files h.allows
+        k.allows;
   }
 
-  pub choice_written : (old new : Seen) (result : Result (Unit {0}) DetectRefusal) → writes_choice work choice old result new → ChoiceWritten work choice old result new
+  pub choice_written : (old new : Seen) (result : Result (Unit {0}) DetectRefusal)
+      → writes_choice work choice old result new → ChoiceWritten work choice old result new
   unfolding writes_choice writes yields ◌>>=◌
-  choice_written old new (Ok done) (u, mid, h, (v, last, k, y)) = subst (λ s. ChoiceWritten work choice old (Ok done) s) (sym y.1) (both_written old mid last done h k)
+  choice_written old new (Ok done) (u, mid, h, (v, last, k, y)) = subst
+      (λ s. ChoiceWritten work choice old (Ok done) s) (sym y.1) (both_written old mid last done h k)
   choice_written old new (Err refusal) (inl h) = group_refused old new refusal h.0 h.1
   choice_written old new (Err refusal) (inr (u, mid, h, inl k)) = plan_refused old mid new refusal h k.0 k.1
   choice_written old new (Err refusal) (inr (u, mid, h, inr (v, last, k, y))) = absurd y

@@ -29,17 +29,20 @@ choice_by erred None = Err (NoGroup erred)
 -- the choice by what the children answered
 unfoldable pub choice_of : Prepared → List Ran → Result Choice DetectRefusal
 choice_of prepared answers =
-    choice_by (has_erred prepared.frame.target (says prepared.frame.target build_plan answers) prepared.catalog prepared.order)
+    choice_by (has_erred prepared.frame.target (says prepared.frame.target build_plan answers) prepared.catalog
+    prepared.order)
     (first_trial (says prepared.frame.target build_plan answers) prepared.catalog prepared.order)
 
 -- the children that have to be asked, by what they answered
 abbrev pub jobs_of : Prepared → List Ran → List DetectJob
 jobs_of prepared answers =
-    map (detect_job prepared.frame) (asked_members prepared.frame.target (says prepared.frame.target build_plan answers) prepared.catalog prepared.order)
+    map (detect_job prepared.frame) (asked_members prepared.frame.target
+    (says prepared.frame.target build_plan answers) prepared.catalog prepared.order)
 
 -- the children of all buildpacks that the order lists and that fit the target, each once
 abbrev pub listed_jobs : Prepared → List DetectJob
-listed_jobs prepared = map (detect_job prepared.frame) (members_of (fitting prepared.frame.target (listed_groups prepared.catalog prepared.order)))
+listed_jobs prepared = map (detect_job prepared.frame)
+    (members_of (fitting prepared.frame.target (listed_groups prepared.catalog prepared.order)))
 
 abbrev pub choice_in : Chosen → Choice
 choice_in chosen = record { group = chosen.group; plan = chosen.plan }

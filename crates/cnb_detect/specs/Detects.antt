@@ -19,13 +19,15 @@ abbrev pub text_of : Choice → List ℕ
 text_of choice = choice_text choice.group (length choice.plan)
 
 -- The files are read, and the children are asked and decide.
-unfoldable pub chooses : TargetSource → ChoiceWords → List Variable → Outside → Result Choice DetectRefusal → Outside → Type 0
+unfoldable pub chooses : TargetSource → ChoiceWords → List Variable → Outside → Result Choice DetectRefusal
+    → Outside → Type 0
 chooses source options env = do
   prepared ← in_world (prepares source options env)
   in_spawners (asks cause_of (listed_jobs prepared) (jobs_of prepared) (choice_of prepared))
 
 -- A group and its plan are chosen, the text is made, and the choice is written.
-unfoldable pub detects : TargetSource → ChoiceWords → List Variable → Outside → Result (List ℕ) DetectRefusal → Outside → Type 0
+unfoldable pub detects : TargetSource → ChoiceWords → List Variable → Outside → Result (List ℕ) DetectRefusal
+    → Outside → Type 0
 detects source options env = do
   choice ← chooses source options env
   text ← gives cause_of (Ok (text_of choice))

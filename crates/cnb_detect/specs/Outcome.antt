@@ -42,8 +42,10 @@ prepared_in source options env files = do
   Ok (record { order = order; catalog = catalog; frame = frame_of options env target variables })
 
 -- the choice
-unfoldable pub detect_choice : TargetSource → ChoiceWords → List Variable → List Ran → Tree → Result Choice DetectRefusal
-detect_choice source options env answers files = prepared_in source options env files >>= (λ prepared. choice_of prepared answers)
+unfoldable pub detect_choice : TargetSource → ChoiceWords → List Variable → List Ran → Tree
+    → Result Choice DetectRefusal
+detect_choice source options env answers files = prepared_in source options env files
+    >>= (λ prepared. choice_of prepared answers)
 
 -- its text
 abbrev pub outcome_of : Result Choice DetectRefusal → Result (List ℕ) DetectRefusal
@@ -65,25 +67,34 @@ KeepsFiles (Err refusal) old new = new ≡ old
 abbrev pub WritesBoth : Result (List ℕ) DetectRefusal → List ℕ → (Choice → Type 0) → Option Tree → Option Tree → Type 0
 WritesBoth (Err refusal) work IsChosen old new = Unit {0}
 WritesBoth (Ok text) work IsChosen old new =
-    (choice : Choice) × IsChosen choice × (group : List ℕ) × (plan : List ℕ) × (group_in group ≡ Ok choice.group) × (plan_in plan ≡ Ok choice.plan)
+    (choice : Choice) × IsChosen choice × (group : List ℕ) × (plan : List ℕ) × (group_in group ≡ Ok choice.group)
+    × (plan_in plan ≡ Ok choice.plan)
     × (new ≡ option_map (λ files. written (plan_document work) plan (written (group_document work) group files)) old)
 
--- What `detect` comes to. The end is that of the choice, by the files and by what the children of this call answered; each of
+-- What `detect` comes to. The end is that of the choice, by the files and by what the children of this call answered;
+-- each of
 -- the two documents is the old one or a whole new one that reads as the choice.
-pub record ComesTo (source : TargetSource) (options : ChoiceWords) (env : List Variable) (old : Outside) (end : Result (List ℕ) DetectRefusal) (new : Outside) : Type 0 where
+pub record ComesTo (source : TargetSource) (options : ChoiceWords) (env : List Variable) (old : Outside)
+    (end : Result (List ℕ) DetectRefusal) (new : Outside) : Type 0 where
   pub answers : List Ran
   pub asked : AskedBy answers old.spawners new.spawners
   -- in whatever order all spawners' children finished, they say the same
   pub any_order : (target : Option Target) (finished : List Ran) → AskedBy finished old.spawners new.spawners
       → says target build_plan finished ≡ says target build_plan answers
-  pub comes : IfSome old.world.files (λ files. IsAnswer cause_of end (outcome_of (detect_choice source options env answers files)))
+  pub comes : IfSome old.world.files (λ files. IsAnswer cause_of end
+      (outcome_of (detect_choice source options env answers files)))
   pub group : IsOldOrNew old.world.files new.world.files (group_document options.work)
-      (λ bytes. IfSome old.world.files (λ files. IsChoiceWith (detect_choice source options env answers files) (λ choice. group_in bytes ≡ Ok choice.group)))
+      (λ bytes. IfSome old.world.files (λ files. IsChoiceWith (detect_choice source options env answers files)
+      (λ choice. group_in bytes ≡ Ok choice.group)))
   pub plan : IsOldOrNew old.world.files new.world.files (plan_document options.work)
-      (λ bytes. IfSome old.world.files (λ files. IsChoiceWith (detect_choice source options env answers files) (λ choice. plan_in bytes ≡ Ok choice.plan)))
-  pub written : WritesBoth end options.work (λ choice. IfSome old.world.files (λ files. detect_choice source options env answers files ≡ Ok choice)) old.world.files new.world.files
+      (λ bytes. IfSome old.world.files (λ files. IsChoiceWith (detect_choice source options env answers files)
+      (λ choice. plan_in bytes ≡ Ok choice.plan)))
+  pub written : WritesBoth end options.work (λ choice. IfSome old.world.files
+      (λ files. detect_choice source options env answers files ≡ Ok choice)) old.world.files new.world.files
   pub kept : KeepsFiles end old.world.files new.world.files
-  pub others : (path : List ℕ) → is_free (touched (group_document options.work)) path ≡ true → is_free (touched (plan_document options.work)) path ≡ true
+  pub others : (path : List ℕ) → is_free (touched (group_document options.work)) path ≡ true
+      → is_free (touched (plan_document options.work)) path ≡ true
       → standing new.world.files path ≡ standing old.world.files path
   pub runs : new.world.runs ≡ old.world.runs
-  pub misused : MayMisuse (option_map (is_fit_detect source options) old.world.files) old.world.misused new.world.misused
+  pub misused : MayMisuse (option_map (is_fit_detect source options) old.world.files) old.world.misused
+      new.world.misused

@@ -32,17 +32,20 @@ frame_of options env target files = record {
 }
 
 -- the order, the buildpacks, the check of the order, the target, the platform's files
-unfoldable pub prepares : TargetSource → ChoiceWords → List Variable → Seen → Result Prepared DetectRefusal → Seen → Type 0
+unfoldable pub prepares : TargetSource → ChoiceWords → List Variable → Seen → Result Prepared DetectRefusal → Seen
+    → Type 0
 prepares source options env = do
   order ← map_err of_read_fault (reads read_cause (is_fit_order_file options.order) (order_file_in options.order))
   catalog ← map_err of_read_fault (reads read_cause (is_fit_catalog options.buildpacks) (catalog_in options.buildpacks))
   groups ← map_err of_order_fault (gives order_cause (checked catalog order))
   target ← takes_target source options.work
-  files ← map_err of_read_fault (reads read_cause (is_fit_platform options.platform) (platform_files_in options.platform))
+  files ← map_err of_read_fault (reads read_cause (is_fit_platform options.platform)
+      (platform_files_in options.platform))
   gives cause_of (Ok (record { order = order; catalog = catalog; frame = frame_of options env target files }))
 
 -- what stands where these steps read is of the kind that they need
 abbrev pub is_fit_preparation : TargetSource → ChoiceWords → Tree → Bool
 is_fit_preparation source options files =
-    is_fit_order_file options.order files && is_fit_catalog options.buildpacks files && is_fit_source source options.work files
+    is_fit_order_file options.order files && is_fit_catalog options.buildpacks files
+    && is_fit_source source options.work files
     && is_fit_platform options.platform files

@@ -20,7 +20,8 @@ by_four P p0 p1 p2 p3 (suc (suc (suc (suc n)))) h = absurd (omega arith)
 
 -- ---- ids, as they are written
 
-pub component_text : (column digit : ℕ) → column < 4 → digit < 8 → codes "drill/c" ++ (decimal column ++ 45 ∷ decimal digit) ≡ (component_key column digit).id
+pub component_text : (column digit : ℕ) → column < 4 → digit < 8
+    → codes "drill/c" ++ (decimal column ++ 45 ∷ decimal digit) ≡ (component_key column digit).id
 component_text column digit c d =
     let few : column < 10 = omega arith in
     let small : digit < 10 = omega arith in
@@ -64,26 +65,38 @@ new_composite = by_four (λ column. has_key (columns_below column) (composite_ke
 
 AreNew : ℕ → Type 0
 AreNew column =
-    (digit : ℕ) → digit < 8 → has_key ((columns_below column ++ composite column ∷ []) ++ map (λ d. component (component_key column d)) (numbers_below digit)) (component_key column digit) ≡ false
+    (digit : ℕ) → digit < 8 → has_key ((columns_below column ++ composite column ∷ [])
+    ++ map (λ d. component (component_key column d)) (numbers_below digit)) (component_key column digit)
+    ≡ false
 
 new_0 : AreNew 0
 unfolding AreNew
-new_0 = by_eight (λ digit. has_key ((columns_below 0 ++ composite 0 ∷ []) ++ map (λ d. component (component_key 0 d)) (numbers_below digit)) (component_key 0 digit) ≡ false) refl refl refl refl refl refl refl refl
+new_0 = by_eight (λ digit. has_key ((columns_below 0 ++ composite 0 ∷ [])
+    ++ map (λ d. component (component_key 0 d)) (numbers_below digit)) (component_key 0 digit) ≡ false) refl refl
+    refl refl refl refl refl refl
 
 new_1 : AreNew 1
 unfolding AreNew
-new_1 = by_eight (λ digit. has_key ((columns_below 1 ++ composite 1 ∷ []) ++ map (λ d. component (component_key 1 d)) (numbers_below digit)) (component_key 1 digit) ≡ false) refl refl refl refl refl refl refl refl
+new_1 = by_eight (λ digit. has_key ((columns_below 1 ++ composite 1 ∷ [])
+    ++ map (λ d. component (component_key 1 d)) (numbers_below digit)) (component_key 1 digit) ≡ false) refl refl
+    refl refl refl refl refl refl
 
 new_2 : AreNew 2
 unfolding AreNew
-new_2 = by_eight (λ digit. has_key ((columns_below 2 ++ composite 2 ∷ []) ++ map (λ d. component (component_key 2 d)) (numbers_below digit)) (component_key 2 digit) ≡ false) refl refl refl refl refl refl refl refl
+new_2 = by_eight (λ digit. has_key ((columns_below 2 ++ composite 2 ∷ [])
+    ++ map (λ d. component (component_key 2 d)) (numbers_below digit)) (component_key 2 digit) ≡ false) refl refl
+    refl refl refl refl refl refl
 
 new_3 : AreNew 3
 unfolding AreNew
-new_3 = by_eight (λ digit. has_key ((columns_below 3 ++ composite 3 ∷ []) ++ map (λ d. component (component_key 3 d)) (numbers_below digit)) (component_key 3 digit) ≡ false) refl refl refl refl refl refl refl refl
+new_3 = by_eight (λ digit. has_key ((columns_below 3 ++ composite 3 ∷ [])
+    ++ map (λ d. component (component_key 3 d)) (numbers_below digit)) (component_key 3 digit) ≡ false) refl refl
+    refl refl refl refl refl refl
 
 pub new_component : (column digit : ℕ) → column < 4 → digit < 8 →
-    has_key ((columns_below column ++ composite column ∷ []) ++ map (λ d. component (component_key column d)) (numbers_below digit)) (component_key column digit) ≡ false
+    has_key ((columns_below column ++ composite column ∷ [])
+    ++ map (λ d. component (component_key column d)) (numbers_below digit)) (component_key column digit)
+    ≡ false
 unfolding AreNew
 new_component column digit c d = by_four AreNew new_0 new_1 new_2 new_3 column c digit d
 
@@ -91,10 +104,12 @@ pub new_tail : has_key (columns_below 4) tail_key ≡ false
 new_tail = refl
 
 -- one column more
-pub columns-next : (column : ℕ) → (columns_below column ++ composite column ∷ []) ++ map (λ d. component (component_key column d)) (numbers_below 8) ≡ columns_below (column + 1)
+pub columns-next : (column : ℕ) → (columns_below column ++ composite column ∷ [])
+    ++ map (λ d. component (component_key column d)) (numbers_below 8) ≡ columns_below (column + 1)
 columns-next column =
     let next : suc column ≡ column + 1 = omega arith in
-    append_assoc (columns_below column) (composite column ∷ []) (map (λ d. component (component_key column d)) (numbers_below 8))
+    append_assoc (columns_below column) (composite column ∷ [])
+    (map (λ d. component (component_key column d)) (numbers_below 8))
     ∙ (ap (λ more. columns_below column ++ more) (sym (append-nil (column_of column)))
     ∙ (sym (flat_map-append column_of (numbers_below column) (column ∷ []))
     ∙ ap columns_below next))

@@ -29,14 +29,16 @@ length-group column zero (digit ∷ digits) h = absurd h
 length-group column (suc places) [] h = absurd h
 length-group column (suc places) (digit ∷ digits) h = ap suc (length-group (column + 1) places digits h.1)
 
-none_long : (ws : List (List ℕ)) → AllByRecursion (IsWord 4) ws → list_any (λ group. nat_lt 256 (length group)) (map (members 0) ws) ≡ false
+none_long : (ws : List (List ℕ)) → AllByRecursion (IsWord 4) ws
+    → list_any (λ group. nat_lt 256 (length group)) (map (members 0) ws) ≡ false
 none_long [] h = refl
 none_long (w ∷ ws) h = λ i. nat_lt 256 (length-group 0 4 w h.0 i) || none_long ws h.1 i
 
 counted : count_groups drill_catalog drill_order ≡ Ok 4096
 counted =
     λ i. cond (nat_lt 4096 (length-drill i)) (Err ManyGroups)
-    (cond ((ap (list_any (λ group. nat_lt 256 (length group))) raw_drill ∙ none_long (words 4) (are_words 4)) i) (Err LongGroup) (Ok (length-drill i)))
+    (cond ((ap (list_any (λ group. nat_lt 256 (length group))) raw_drill ∙ none_long (words 4) (are_words 4)) i)
+    (Err LongGroup) (Ok (length-drill i)))
 
 pub checked_drill : checked drill_catalog drill_order ≡ Ok 4096
 unfolding checked

@@ -44,15 +44,18 @@ pub each_all : {X : Type 0} (P : X → Type 0) → ((x : X) → P x) → (xs : L
 each_all P each [] = tt
 each_all P each (x ∷ xs) = (each x, each_all P each xs)
 
-pub each_both : {X : Type 0} (P Q R : X → Type 0) → ((x : X) → P x → Q x → R x) → (xs : List X) → AllByRecursion P xs → AllByRecursion Q xs → AllByRecursion R xs
+pub each_both : {X : Type 0} (P Q R : X → Type 0) → ((x : X) → P x → Q x → R x) → (xs : List X)
+    → AllByRecursion P xs → AllByRecursion Q xs → AllByRecursion R xs
 each_both P Q R f [] p q = tt
 each_both P Q R f (x ∷ xs) p q = (f x p.0 q.0, each_both P Q R f xs p.1 q.1)
 
-pub each_weaker : {X : Type 0} (P Q : X → Type 0) → ((x : X) → P x → Q x) → (xs : List X) → AllByRecursion P xs → AllByRecursion Q xs
+pub each_weaker : {X : Type 0} (P Q : X → Type 0) → ((x : X) → P x → Q x) → (xs : List X) → AllByRecursion P xs
+    → AllByRecursion Q xs
 each_weaker P Q f [] p = tt
 each_weaker P Q f (x ∷ xs) p = (f x p.0, each_weaker P Q f xs p.1)
 
-pub each_append : {X : Type 0} (P : X → Type 0) (xs ys : List X) → AllByRecursion P xs → AllByRecursion P ys → AllByRecursion P (xs ++ ys)
+pub each_append : {X : Type 0} (P : X → Type 0) (xs ys : List X) → AllByRecursion P xs → AllByRecursion P ys
+    → AllByRecursion P (xs ++ ys)
 each_append P [] ys p q = q
 each_append P (x ∷ xs) ys p q = (p.0, each_append P xs ys p.1 q)
 
@@ -64,19 +67,23 @@ pub each_second : {X : Type 0} (P : X → Type 0) (xs ys : List X) → AllByRecu
 each_second P [] ys p = p
 each_second P (x ∷ xs) ys p = each_second P xs ys p.1
 
-pub each_map : {X Y : Type 0} (P : Y → Type 0) (f : X → Y) (xs : List X) → AllByRecursion (λ x. P (f x)) xs → AllByRecursion P (map f xs)
+pub each_map : {X Y : Type 0} (P : Y → Type 0) (f : X → Y) (xs : List X) → AllByRecursion (λ x. P (f x)) xs
+    → AllByRecursion P (map f xs)
 each_map P f [] p = tt
 each_map P f (x ∷ xs) p = (p.0, each_map P f xs p.1)
 
-pub each_flat : {X Y : Type 0} (P : Y → Type 0) (f : X → List Y) (xs : List X) → AllByRecursion (λ x. AllByRecursion P (f x)) xs → AllByRecursion P (flat_map f xs)
+pub each_flat : {X Y : Type 0} (P : Y → Type 0) (f : X → List Y) (xs : List X)
+    → AllByRecursion (λ x. AllByRecursion P (f x)) xs → AllByRecursion P (flat_map f xs)
 each_flat P f [] p = tt
 each_flat P f (x ∷ xs) p = each_append P (f x) (flat_map f xs) p.0 (each_flat P f xs p.1)
 
-each_if : {X : Type 0} (P : X → Type 0) (b : Bool) (x : X) (xs : List X) → P x → AllByRecursion P xs → AllByRecursion P (cond b (x ∷ xs) xs)
+each_if : {X : Type 0} (P : X → Type 0) (b : Bool) (x : X) (xs : List X) → P x → AllByRecursion P xs
+    → AllByRecursion P (cond b (x ∷ xs) xs)
 each_if P true x xs p q = (p, q)
 each_if P false x xs p q = q
 
-pub each_filter : {X : Type 0} (P : X → Type 0) (p : X → Bool) (xs : List X) → AllByRecursion P xs → AllByRecursion P (filter p xs)
+pub each_filter : {X : Type 0} (P : X → Type 0) (p : X → Bool) (xs : List X) → AllByRecursion P xs
+    → AllByRecursion P (filter p xs)
 each_filter P p [] h = tt
 each_filter P p (x ∷ xs) h = each_if P (p x) x (filter p xs) h.0 (each_filter P p xs h.1)
 
@@ -96,44 +103,57 @@ module _ {X : Type 0} (same : X → X → Bool) (is : IsSameness same) where
   filter_none : (x y : X) → same x y ≡ true → (xs : List X) → filter (same x) (filter (λ z. not (same y z)) xs) ≡ []
   filter_none x y e [] = refl
   filter_none x y e (z ∷ xs) = elim (cases_Bool (same y z)) [
-    | inl t ↦ (λ i. filter (same x) (cond (not (t i)) (z ∷ filter (λ w. not (same y w)) xs) (filter (λ w. not (same y w)) xs))) ∙ filter_none x y e xs
-    | inr t ↦ (λ i. filter (same x) (cond (not (t i)) (z ∷ filter (λ w. not (same y w)) xs) (filter (λ w. not (same y w)) xs)))
-        ∙ ((λ i. cond ((is.alike x y e z ∙ t) i) (z ∷ filter (same x) (filter (λ w. not (same y w)) xs)) (filter (same x) (filter (λ w. not (same y w)) xs))) ∙ filter_none x y e xs)
+    | inl t ↦ (λ i. filter (same x) (cond (not (t i)) (z ∷ filter (λ w. not (same y w)) xs)
+        (filter (λ w. not (same y w)) xs))) ∙ filter_none x y e xs
+    | inr t ↦ (λ i. filter (same x) (cond (not (t i)) (z ∷ filter (λ w. not (same y w)) xs)
+        (filter (λ w. not (same y w)) xs)))
+        ∙ ((λ i. cond ((is.alike x y e z ∙ t) i) (z ∷ filter (same x) (filter (λ w. not (same y w)) xs))
+        (filter (same x) (filter (λ w. not (same y w)) xs))) ∙ filter_none x y e xs)
   ]
 
-  filter_past : (x y : X) → same x y ≡ false → (xs : List X) → filter (same x) (filter (λ z. not (same y z)) xs) ≡ filter (same x) xs
+  filter_past : (x y : X) → same x y ≡ false → (xs : List X)
+      → filter (same x) (filter (λ z. not (same y z)) xs) ≡ filter (same x) xs
   filter_past x y e [] = refl
   filter_past x y e (z ∷ xs) = elim (cases_Bool (same y z)) [
     | inl t ↦
         let other : same x z ≡ false = is.swap x z ∙ (sym (is.alike y z t x) ∙ (is.swap y x ∙ e)) in
-        (λ i. filter (same x) (cond (not (t i)) (z ∷ filter (λ w. not (same y w)) xs) (filter (λ w. not (same y w)) xs)))
+        (λ i. filter (same x) (cond (not (t i)) (z ∷ filter (λ w. not (same y w)) xs)
+        (filter (λ w. not (same y w)) xs)))
         ∙ (filter_past x y e xs ∙ sym (λ i. cond (other i) (z ∷ filter (same x) xs) (filter (same x) xs)))
-    | inr t ↦ (λ i. filter (same x) (cond (not (t i)) (z ∷ filter (λ w. not (same y w)) xs) (filter (λ w. not (same y w)) xs)))
+    | inr t ↦ (λ i. filter (same x) (cond (not (t i)) (z ∷ filter (λ w. not (same y w)) xs)
+        (filter (λ w. not (same y w)) xs)))
         ∙ (λ i. cond (same x z) (z ∷ filter_past x y e xs i) (filter_past x y e xs i))
   ]
 
-  pub once_in-distinct : (x : X) (xs : List X) → length (filter (same x) (distinct same xs)) ≡ one_if (list_any (same x) xs)
+  pub once_in-distinct : (x : X) (xs : List X) → length (filter (same x) (distinct same xs))
+      ≡ one_if (list_any (same x) xs)
   once_in-distinct x [] = refl
   once_in-distinct x (y ∷ xs) =
       let rest = filter (λ z. not (same y z)) (distinct same xs) in
       elim (cases_Bool (same x y)) [
         | inl e ↦ (λ i. length (cond (e i) (y ∷ filter (same x) rest) (filter (same x) rest)))
-            ∙ ((λ i. suc (length (filter_none x y e (distinct same xs) i))) ∙ sym (λ i. one_if (e i || list_any (same x) xs)))
+            ∙ ((λ i. suc (length (filter_none x y e (distinct same xs) i)))
+            ∙ sym (λ i. one_if (e i || list_any (same x) xs)))
         | inr e ↦ (λ i. length (cond (e i) (y ∷ filter (same x) rest) (filter (same x) rest)))
-            ∙ ((λ i. length (filter_past x y e (distinct same xs) i)) ∙ (once_in-distinct x xs ∙ sym (λ i. one_if (e i || list_any (same x) xs))))
+            ∙ ((λ i. length (filter_past x y e (distinct same xs) i))
+            ∙ (once_in-distinct x xs ∙ sym (λ i. one_if (e i || list_any (same x) xs))))
       ]
 
   pub all-distinct : (p : X → Bool) (xs : List X) → list_all p xs ≡ true → list_all p (distinct same xs) ≡ true
   all-distinct p [] h = refl
   all-distinct p (x ∷ xs) h =
       let parts = and_parts (p x) (list_all p xs) h in
-      and_from (p x) (list_all p (filter (λ y. not (same x y)) (distinct same xs))) parts.0 (all_filter (λ y. not (same x y)) p (distinct same xs) (all-distinct p xs parts.1))
+      and_from (p x) (list_all p (filter (λ y. not (same x y)) (distinct same xs))) parts.0
+      (all_filter (λ y. not (same x y)) p (distinct same xs) (all-distinct p xs parts.1))
 
-  counted : (universe xs : List X) → AllByRecursion (Once same universe) xs → total (λ u. length (filter (same u) xs)) universe ≡ length xs
+  counted : (universe xs : List X) → AllByRecursion (Once same universe) xs
+      → total (λ u. length (filter (same u) xs)) universe ≡ length xs
   counted universe [] h = total-zero universe
   counted universe (x ∷ xs) h =
-      total_each (λ u. length (filter (same u) (x ∷ xs))) (λ u. one_if (same u x) + length (filter (same u) xs)) universe
-      (each_all (λ u. length (filter (same u) (x ∷ xs)) ≡ one_if (same u x) + length (filter (same u) xs)) (λ u. length-filter_step (same u x) x (filter (same u) xs)) universe)
+      total_each (λ u. length (filter (same u) (x ∷ xs))) (λ u. one_if (same u x) + length (filter (same u) xs))
+      universe
+      (each_all (λ u. length (filter (same u) (x ∷ xs)) ≡ one_if (same u x) + length (filter (same u) xs))
+      (λ u. length-filter_step (same u x) x (filter (same u) xs)) universe)
       ∙ (total-add (λ u. one_if (same u x)) (λ u. length (filter (same u) xs)) universe
       ∙ ((λ i. h.0 i + counted universe xs h.1 i) ∙ omega arith))
 
@@ -142,8 +162,10 @@ module _ {X : Type 0} (same : X → X → Bool) (is : IsSameness same) where
   each_distinct P (x ∷ xs) h = (h.0, each_filter P (λ y. not (same x y)) (distinct same xs) (each_distinct P xs h.1))
 
   -- as many distinct elements as elements of a list without repetition that occur
-  pub length-distinct : (universe xs : List X) → AllByRecursion (Once same universe) xs → length (distinct same xs) ≡ total (λ u. one_if (list_any (same u) xs)) universe
+  pub length-distinct : (universe xs : List X) → AllByRecursion (Once same universe) xs
+      → length (distinct same xs) ≡ total (λ u. one_if (list_any (same u) xs)) universe
   length-distinct universe xs h =
       sym (counted universe (distinct same xs) (each_distinct (Once same universe) xs h))
       ∙ total_each (λ u. length (filter (same u) (distinct same xs))) (λ u. one_if (list_any (same u) xs)) universe
-      (each_all (λ u. length (filter (same u) (distinct same xs)) ≡ one_if (list_any (same u) xs)) (λ u. once_in-distinct u xs) universe)
+      (each_all (λ u. length (filter (same u) (distinct same xs)) ≡ one_if (list_any (same u) xs))
+      (λ u. once_in-distinct u xs) universe)

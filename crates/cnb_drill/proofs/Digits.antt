@@ -18,8 +18,10 @@ by_eight P p0 p1 p2 p3 p4 p5 p6 p7 (suc (suc (suc (suc (suc (suc (suc (suc n))))
 
 -- the digits below one, it, and those above it
 pub eight_at : (digit : ℕ) → digit < 8 → eight ≡ numbers_below digit ++ digit ∷ drop (digit + 1) eight
-eight_at = by_eight (λ digit. eight ≡ numbers_below digit ++ digit ∷ drop (digit + 1) eight) refl refl refl refl refl refl refl refl
+eight_at = by_eight (λ digit. eight ≡ numbers_below digit ++ digit ∷ drop (digit + 1) eight) refl refl refl refl
+    refl refl refl refl
 
 -- numbers below are below
 pub below-lt : (digit : ℕ) → digit < 8 → list_all (λ x. nat_lt x digit) (numbers_below digit) ≡ true
-below-lt = by_eight (λ digit. list_all (λ x. nat_lt x digit) (numbers_below digit) ≡ true) refl refl refl refl refl refl refl refl
+below-lt = by_eight (λ digit. list_all (λ x. nat_lt x digit) (numbers_below digit) ≡ true) refl refl refl refl
+    refl refl refl refl

@@ -22,7 +22,8 @@ below = raw_groups 16 drill_catalog
 
 Fronts : ℕ → Type 0
 Fronts column = (groups : List (List Member)) →
-    in_front_of below (entry_of (composite_key column)) (named drill_catalog (entry_of (composite_key column))) groups ≡ column_in_front column groups
+    in_front_of below (entry_of (composite_key column)) (named drill_catalog (entry_of (composite_key column)))
+    groups ≡ column_in_front column groups
 
 front_0 : Fronts 0
 unfolding Fronts raw_groups drill_catalog
@@ -41,28 +42,36 @@ unfolding Fronts raw_groups drill_catalog
 front_3 groups = append-nil (column_in_front 3 groups)
 
 -- one entry more in front
-front : (column : ℕ) → Fronts column → (entries : List Entry) (groups : List (List Member)) → expanded below drill_catalog entries ≡ groups →
+front : (column : ℕ) → Fronts column → (entries : List Entry) (groups : List (List Member))
+    → expanded below drill_catalog entries ≡ groups →
     expanded below drill_catalog (entry_of (composite_key column) ∷ entries) ≡ column_in_front column groups
 unfolding Fronts
 front column f entries groups e =
-    ap (in_front_of below (entry_of (composite_key column)) (named drill_catalog (entry_of (composite_key column)))) e ∙ f groups
+    ap (in_front_of below (entry_of (composite_key column))
+    (named drill_catalog (entry_of (composite_key column)))) e ∙ f groups
 
 last : expanded below drill_catalog (entry_of tail_key ∷ []) ≡ (tail_member ∷ []) ∷ []
 unfolding drill_catalog
 last = refl
 
-map-flat_map : {X Y Z : Type 0} (h : Y → Z) (f : X → List Y) (xs : List X) → map h (flat_map f xs) ≡ flat_map (λ x. map h (f x)) xs
+map-flat_map : {X Y Z : Type 0} (h : Y → Z) (f : X → List Y) (xs : List X)
+    → map h (flat_map f xs) ≡ flat_map (λ x. map h (f x)) xs
 map-flat_map h f [] = refl
 map-flat_map h f (x ∷ xs) = map-append h (f x) (flat_map f xs) ∙ ap (λ ys. map h (f x) ++ ys) (map-flat_map h f xs)
 
-flat_map-same : {X Y : Type 0} (f g : X → List Y) → ((x : X) → f x ≡ g x) → (xs : List X) → flat_map f xs ≡ flat_map g xs
+flat_map-same : {X Y : Type 0} (f g : X → List Y) → ((x : X) → f x ≡ g x) → (xs : List X)
+    → flat_map f xs ≡ flat_map g xs
 flat_map-same f g each [] = refl
 flat_map-same f g each (x ∷ xs) = λ i. each x i ++ flat_map-same f g each xs i
 
-column-words : (column places : ℕ) → column_in_front column (map (members (column + 1)) (words places)) ≡ map (members column) (words (suc places))
+column-words : (column places : ℕ) → column_in_front column (map (members (column + 1)) (words places))
+    ≡ map (members column) (words (suc places))
 column-words column places =
-    flat_map-same (λ digit. map (λ group. digit_member column digit ∷ group) (map (members (column + 1)) (words places))) (λ digit. map (members column) (in_front digit (words places)))
-    (λ digit. map-map (λ group. digit_member column digit ∷ group) (members (column + 1)) (words places) ∙ sym (map-map (members column) (λ word. digit ∷ word) (words places))) eight
+    flat_map-same (λ digit. map (λ group. digit_member column digit ∷ group)
+    (map (members (column + 1)) (words places))) (λ digit. map (members column)
+    (in_front digit (words places)))
+    (λ digit. map-map (λ group. digit_member column digit ∷ group) (members (column + 1)) (words places)
+    ∙ sym (map-map (members column) (λ word. digit ∷ word) (words places))) eight
     ∙ sym (map-flat_map (members column) (λ digit. in_front digit (words places)) eight)
 
 abbrev from_3 : List Entry
@@ -99,11 +108,13 @@ filter_all p (x ∷ xs) h =
     (λ i. cond (parts.0 i) (x ∷ filter p xs) (filter p xs)) ∙ ap (λ ys. x ∷ ys) (filter_all p xs parts.1)
 
 -- members of other columns have other ids
-other_column : (column digit later other : ℕ) → column < later → not (same_id (digit_member column digit) (digit_member later other)) ≡ true
+other_column : (column digit later other : ℕ) → column < later
+    → not (same_id (digit_member column digit) (digit_member later other)) ≡ true
 other_column column digit later other h =
     ap not (and_left _ _ (ne_eqb (48 + column) (48 + later) (λ e. omega arith)))
 
-others : (column digit later : ℕ) (digits : List ℕ) → column < later → list_all (λ m. not (same_id (digit_member column digit) m)) (members later digits) ≡ true
+others : (column digit later : ℕ) (digits : List ℕ) → column < later
+    → list_all (λ m. not (same_id (digit_member column digit) m)) (members later digits) ≡ true
 others column digit later [] h = refl
 others column digit later (other ∷ digits) h =
     and_from _ _ (other_column column digit later other h) (others column digit (later + 1) digits (omega arith))
@@ -113,7 +124,8 @@ own_ids column [] = refl
 own_ids column (digit ∷ digits) =
     ap (λ ms. digit_member column digit ∷ ms)
     (ap (filter (λ m. not (same_id (digit_member column digit) m))) (own_ids (column + 1) digits)
-    ∙ filter_all (λ m. not (same_id (digit_member column digit) m)) (members (column + 1) digits) (others column digit (column + 1) digits (omega arith)))
+    ∙ filter_all (λ m. not (same_id (digit_member column digit) m)) (members (column + 1) digits)
+    (others column digit (column + 1) digits (omega arith)))
 
 map-same : {X Y : Type 0} (f g : X → Y) → ((x : X) → f x ≡ g x) → (xs : List X) → map f xs ≡ map g xs
 map-same f g each [] = refl
@@ -124,4 +136,5 @@ pub listed_drill : listed_groups drill_catalog drill_order ≡ map (members 0) (
 unfolding listed_groups
 listed_drill =
     ap (map (distinct same_id)) raw_drill
-    ∙ (map-map (distinct same_id) (members 0) (words 4) ∙ map-same (λ word. distinct same_id (members 0 word)) (members 0) (own_ids 0) (words 4))
+    ∙ (map-map (distinct same_id) (members 0) (words 4) ∙ map-same (λ word. distinct same_id (members 0 word))
+    (members 0) (own_ids 0) (words 4))

@@ -56,12 +56,15 @@ tail_options = record { provides = []; needs = map (λ column. need_of (y_name c
 
 -- the child of a digit, where this one is the number's
 abbrev pub child_says : ℕ → ℕ → ℕ → Verdict
-child_says column wanted digit = if digit == wanted then Pass (options_of column) else if nat_lt digit wanted then Fail else Error
+child_says column wanted digit = if digit == wanted then Pass
+    (options_of column) else if nat_lt digit wanted then Fail else Error
 
 -- the children answer by these digits, from a column on
 abbrev pub AnswersBy : (Member → Verdict) → ℕ → List ℕ → Type 0
 AnswersBy say column [] = say tail_member ≡ Pass tail_options
-AnswersBy say column (wanted ∷ digits) = (wanted < 8) × ((digit : ℕ) → digit < 8 → say (digit_member column digit) ≡ child_says column wanted digit) × AnswersBy say (column + 1) digits
+AnswersBy say column (wanted ∷ digits) = (wanted < 8) ×
+    ((digit : ℕ) → digit < 8 → say (digit_member column digit) ≡ child_says column wanted digit)
+    × AnswersBy say (column + 1) digits
 
 -- ---- what the search comes to
 
@@ -70,7 +73,12 @@ group_keys a b c d = component_key 0 a ∷ component_key 1 b ∷ component_key 2
 
 -- each entry is provided by the digit's component, and required by the last component
 abbrev pub drill_entry : ℕ → ℕ → PlanEntry
-drill_entry column digit = record { name = y_name column; providers = component_key column digit ∷ []; needs = need_of (y_name column) ∷ [] }
+drill_entry column digit = record {
+  name = y_name column;
+  providers = component_key column digit
+      ∷ [];
+  needs = need_of (y_name column) ∷ [];
+}
 
 abbrev pub drill_resolved : ℕ → ℕ → ℕ → ℕ → Resolved
 drill_resolved a b c d = record {
@@ -80,8 +88,11 @@ drill_resolved a b c d = record {
   plan = drill_entry 0 a ∷ drill_entry 1 b ∷ drill_entry 2 c ∷ drill_entry 3 d ∷ [];
 }
 
--- The first passing trial is number 15 of 16 of the number's group, its plan has four entries, and as many buildpacks are
+-- The first passing trial is number 15 of 16 of the number's group, its plan has four entries, and as many buildpacks
+-- are
 -- asked as the digits say.
 pub record IsDrilled (number : ℕ) (say : Member → Verdict) : Type 0 where
-  pub first : (a b c d : ℕ) × (digits_of number ≡ a ∷ b ∷ c ∷ d ∷ []) × (first_trial say drill_catalog drill_order ≡ Some (FirstTrial number (drill_resolved a b c d) (group_keys a b c d)))
+  pub first : (a b c d : ℕ) × (digits_of number ≡ a ∷ b ∷ c ∷ d ∷ [])
+      × (first_trial say drill_catalog drill_order ≡ Some (FirstTrial number (drill_resolved a b c d)
+      (group_keys a b c d)))
   pub asked : length (asked_keys None say drill_catalog drill_order) ≡ asked_from false (digits_of number)

@@ -1,4 +1,5 @@
--- A search reads no more than the answers of the members that it reached: where two ways of answering agree on these, they
+-- A search reads no more than the answers of the members that it reached: where two ways of answering agree on these,
+-- they
 -- end alike.
 use Rattle.std.proofs.Common.{◌≡◌, ◌∙◌, refl, sym, ap, subst, inl, inr, ℕ, ◌+◌, Bool, true, false, List, [], ◌∷◌, ◌++◌}
 use Rattle.std.specs.Prelude.{◌||◌, Option, Some, None}
@@ -35,38 +36,49 @@ append-none : (xs : List Member) → xs ++ [] ≡ xs
 append-none [] = refl
 append-none (x ∷ xs) = ap (λ ys. x ∷ ys) (append-none xs)
 
-ending_same : (s t : Member → Verdict) (place : ℕ) (group : List Member) → AgreeOn s t group → ending_at s place group ≡ ending_at t place group
+ending_same : (s t : Member → Verdict) (place : ℕ) (group : List Member) → AgreeOn s t group
+    → ending_at s place group ≡ ending_at t place group
 ending_same s t place group a =
     sym (or_none (ending_at s place group))
-    ∙ (first_ending_same s t place (group ∷ []) (subst (AgreeOn s t) (sym (append-none group)) a) ∙ or_none (ending_at t place group))
+    ∙ (first_ending_same s t place (group ∷ []) (subst (AgreeOn s t) (sym (append-none group)) a)
+    ∙ or_none (ending_at t place group))
 
 -- two searches that agree on what one of them reached
 pub record SameSearch (s t : Member → Verdict) (place : ℕ) (groups : List (List Member)) : Type 0 where
   pub ending : first_ending s place groups ≡ first_ending t place groups
   pub reached_same : reached s place groups ≡ reached t place groups
 
-search_on : (s t : Member → Verdict) (place : ℕ) (group : List Member) (groups : List (List Member)) (o : Option Ending) →
-    ending_at s place group ≡ o → ending_at t place group ≡ o → (o ≡ None → SameSearch s t (place + 1) groups) → SameSearch s t place (group ∷ groups)
+search_on : (s t : Member → Verdict) (place : ℕ) (group : List Member) (groups : List (List Member))
+    (o : Option Ending) →
+    ending_at s place group ≡ o → ending_at t place group ≡ o → (o ≡ None → SameSearch s t (place + 1) groups)
+    → SameSearch s t place (group ∷ groups)
 search_on s t place group groups (Some e) es et later = record {
-  ending = ap (λ x. or_later x (first_ending s (place + 1) groups)) es ∙ sym (ap (λ x. or_later x (first_ending t (place + 1) groups)) et);
-  reached_same = ap (λ x. group ∷ or_reached x (reached s (place + 1) groups)) es ∙ sym (ap (λ x. group ∷ or_reached x (reached t (place + 1) groups)) et);
+  ending = ap (λ x. or_later x (first_ending s (place + 1) groups)) es
+      ∙ sym (ap (λ x. or_later x (first_ending t (place + 1) groups)) et);
+  reached_same = ap (λ x. group ∷ or_reached x (reached s (place + 1) groups)) es
+      ∙ sym (ap (λ x. group ∷ or_reached x (reached t (place + 1) groups)) et);
 }
 search_on s t place group groups None es et later =
     let rest = later refl in
     record {
-      ending = ap (λ x. or_later x (first_ending s (place + 1) groups)) es ∙ (rest.ending ∙ sym (ap (λ x. or_later x (first_ending t (place + 1) groups)) et));
+      ending = ap (λ x. or_later x (first_ending s (place + 1) groups)) es
+          ∙ (rest.ending ∙ sym (ap (λ x. or_later x (first_ending t (place + 1) groups)) et));
       reached_same = ap (λ x. group ∷ or_reached x (reached s (place + 1) groups)) es
-          ∙ (ap (λ gs. group ∷ gs) rest.reached_same ∙ sym (ap (λ x. group ∷ or_reached x (reached t (place + 1) groups)) et));
+          ∙ (ap (λ gs. group ∷ gs) rest.reached_same ∙ sym (ap
+          (λ x. group ∷ or_reached x (reached t (place + 1) groups)) et));
     }
 
-pub same_search : (s t : Member → Verdict) (place : ℕ) (groups : List (List Member)) → AgreeOn s t (flat (reached s place groups)) → SameSearch s t place groups
+pub same_search : (s t : Member → Verdict) (place : ℕ) (groups : List (List Member))
+    → AgreeOn s t (flat (reached s place groups)) → SameSearch s t place groups
 same_search s t place [] a = record { ending = refl; reached_same = refl }
 same_search s t place (group ∷ groups) a =
     let more = flat (or_reached (ending_at s place group) (reached s (place + 1) groups)) in
-    let here : ending_at t place group ≡ ending_at s place group = sym (ending_same s t place group (agree_first s t group more a)) in
+    let here : ending_at t place group ≡ ending_at s place group = sym
+    (ending_same s t place group (agree_first s t group more a)) in
     search_on s t place group groups (ending_at s place group) refl here
     (λ none. same_search s t (place + 1) groups
-    (subst (λ (o : Option Ending). AgreeOn s t (flat (or_reached o (reached s (place + 1) groups)))) none (agree_second s t group more a)))
+    (subst (λ (o : Option Ending). AgreeOn s t (flat (or_reached o (reached s (place + 1) groups)))) none
+    (agree_second s t group more a)))
 
 -- ---- children that answer by fixed replies
 
@@ -79,13 +91,15 @@ reply_is None want probed e h = absurd cc
 reply_is (Some reply) want probed e h = ap Some h
 
 -- what is recorded of a buildpack that ran and has a reply is that reply
-pub recorded_reply : (replies : List Reply) (rans : List Ran) (key : Key) → AreSaid (Some replies) rans → HasReply replies key →
+pub recorded_reply : (replies : List Reply) (rans : List Ran) (key : Key) → AreSaid (Some replies) rans
+    → HasReply replies key →
     list_any (λ ran. same_key key (key_of ran)) rans ≡ true → recorded rans key ≡ reply_of replies key.id key.version
 recorded_reply replies [] key h r e = absurd (false≢true e)
 recorded_reply replies (ran ∷ rans) key h r e = elim (cases_Bool (same_key key (key_of ran))) [
   | inl t ↦
       let same : key ≡ key_of ran = same_key-true key (key_of ran) t in
-      let here : reply_of replies key.id key.version ≡ reply_of replies ran.job.id ran.job.version = λ i. reply_of replies (same i).id (same i).version in
+      let here : reply_of replies key.id key.version ≡ reply_of replies ran.job.id ran.job.version = λ i. reply_of
+      replies (same i).id (same i).version in
       (λ i. if_same (t i) (Some ran.probed) (recorded rans key))
       ∙ (reply_is (reply_of replies ran.job.id ran.job.version) r.0 ran.probed (sym here ∙ r.1) h.0 ∙ sym here)
   | inr t ↦ (λ i. if_same (t i) (Some ran.probed) (recorded rans key))

@@ -50,12 +50,15 @@ reads_tail = refl
 -- ---- one child
 
 by_tests : (same smaller : Bool) (passed : Verdict) →
-    answer_by (Some (cond same (pos 0) (cond smaller (pos 100) (pos 1)))) passed ≡ cond same passed (cond smaller Fail Error)
+    answer_by (Some (cond same (pos 0) (cond smaller (pos 100) (pos 1)))) passed
+    ≡ cond same passed (cond smaller Fail Error)
 by_tests true smaller passed = refl
 by_tests false true passed = refl
 by_tests false false passed = refl
 
-one_child : (column : ℕ) → Reads column → (wanted digit : ℕ) → answer_by (Some (digit_code wanted digit)) (pass_or_error (build_plan (digit_plan column))) ≡ child_says column wanted digit
+one_child : (column : ℕ) → Reads column → (wanted digit : ℕ)
+    → answer_by (Some (digit_code wanted digit)) (pass_or_error (build_plan (digit_plan column)))
+    ≡ child_says column wanted digit
 unfolding Reads
 one_child column r wanted digit =
     by_tests (digit == wanted) (nat_lt digit wanted) (pass_or_error (build_plan (digit_plan column)))
@@ -68,43 +71,68 @@ module _ (a b c d : ℕ) where
   column_0 : (digit : ℕ) → digit < 8 → say (digit_member 0 digit) ≡ child_says 0 a digit
   column_0 =
       let one = one_child 0 reads_0 a in
-      by_eight (λ digit. say (digit_member 0 digit) ≡ child_says 0 a digit) (one 0) (one 1) (one 2) (one 3) (one 4) (one 5) (one 6) (one 7)
+      by_eight (λ digit. say (digit_member 0 digit) ≡ child_says 0 a digit) (one 0) (one 1) (one 2) (one 3)
+      (one 4) (one 5) (one 6) (one 7)
 
   column_1 : (digit : ℕ) → digit < 8 → say (digit_member 1 digit) ≡ child_says 1 b digit
   column_1 =
       let one = one_child 1 reads_1 b in
-      by_eight (λ digit. say (digit_member 1 digit) ≡ child_says 1 b digit) (one 0) (one 1) (one 2) (one 3) (one 4) (one 5) (one 6) (one 7)
+      by_eight (λ digit. say (digit_member 1 digit) ≡ child_says 1 b digit) (one 0) (one 1) (one 2) (one 3)
+      (one 4) (one 5) (one 6) (one 7)
 
   column_2 : (digit : ℕ) → digit < 8 → say (digit_member 2 digit) ≡ child_says 2 c digit
   column_2 =
       let one = one_child 2 reads_2 c in
-      by_eight (λ digit. say (digit_member 2 digit) ≡ child_says 2 c digit) (one 0) (one 1) (one 2) (one 3) (one 4) (one 5) (one 6) (one 7)
+      by_eight (λ digit. say (digit_member 2 digit) ≡ child_says 2 c digit) (one 0) (one 1) (one 2) (one 3)
+      (one 4) (one 5) (one 6) (one 7)
 
   column_3 : (digit : ℕ) → digit < 8 → say (digit_member 3 digit) ≡ child_says 3 d digit
   column_3 =
       let one = one_child 3 reads_3 d in
-      by_eight (λ digit. say (digit_member 3 digit) ≡ child_says 3 d digit) (one 0) (one 1) (one 2) (one 3) (one 4) (one 5) (one 6) (one 7)
+      by_eight (λ digit. say (digit_member 3 digit) ≡ child_says 3 d digit) (one 0) (one 1) (one 2) (one 3)
+      (one 4) (one 5) (one 6) (one 7)
 
   pub answers_by : AreDigits (a ∷ b ∷ c ∷ d ∷ []) → AnswersBy say 0 (a ∷ b ∷ c ∷ d ∷ [])
-  answers_by h = (h.0, column_0, (h.1.0, column_1, (h.1.1.0, column_2, (h.1.1.1.0, column_3, ap pass_or_error reads_tail))))
+  answers_by h = (
+    h.0,
+    column_0,
+    (
+      h.1.0,
+      column_1,
+      (h.1.1.0, column_2, (h.1.1.1.0, column_3, ap pass_or_error reads_tail)),
+    ),
+  )
 
 -- ---- a spawner that cuts plans says the same
 
 cut_same : (reply : Reply) → length reply.probed.plan ≤ 1048577 → cut_reply reply ≡ reply
-cut_same reply h = λ i. record { id = reply.id; version = reply.version; probed = record { code = reply.probed.code; plan = take_all 1048577 reply.probed.plan h i } }
+cut_same reply h = λ i. record {
+  id = reply.id;
+  version = reply.version;
+  probed = record
+      { code = reply.probed.code; plan = take_all 1048577 reply.probed.plan h i };
+}
 
-cut_all : (replies : List Reply) → AllByRecursion (λ reply. length reply.probed.plan ≤ 1048577) replies → cut_replies replies ≡ replies
+cut_all : (replies : List Reply) → AllByRecursion (λ reply. length reply.probed.plan ≤ 1048577) replies
+    → cut_replies replies ≡ replies
 cut_all [] h = refl
 cut_all (reply ∷ replies) h = λ i. cut_same reply h.0 i ∷ cut_all replies h.1 i
 
-short_column : (column : ℕ) (wanted : ℕ) (digits : List ℕ) → AllByRecursion (λ reply. length reply.probed.plan ≤ 1048577) (map (λ digit. reply_by (component_key column digit) (Some (digit_code wanted digit)) (digit_plan column)) digits)
+short_column : (column : ℕ) (wanted : ℕ) (digits : List ℕ)
+    → AllByRecursion (λ reply. length reply.probed.plan ≤ 1048577)
+    (map (λ digit. reply_by (component_key column digit) (Some (digit_code wanted digit)) (digit_plan column))
+    digits)
 short_column column wanted [] = tt
-short_column column wanted (digit ∷ digits) = (leb-true (length (digit_plan column)) 1048577 refl, short_column column wanted digits)
+short_column column wanted (digit ∷ digits) =
+    (leb-true (length (digit_plan column)) 1048577 refl, short_column column wanted digits)
 
-short_replies : (column : ℕ) (digits : List ℕ) → AllByRecursion (λ reply. length reply.probed.plan ≤ 1048577) (replies_from column digits)
+short_replies : (column : ℕ) (digits : List ℕ) → AllByRecursion (λ reply. length reply.probed.plan ≤ 1048577)
+    (replies_from column digits)
 short_replies column [] = (leb-true (length tail_plan) 1048577 refl, tt)
 short_replies column (wanted ∷ digits) =
-    each_append (λ reply. length reply.probed.plan ≤ 1048577) (map (λ digit. reply_by (component_key column digit) (Some (digit_code wanted digit)) (digit_plan column)) eight) (replies_from (column + 1) digits)
+    each_append (λ reply. length reply.probed.plan ≤ 1048577)
+    (map (λ digit. reply_by (component_key column digit) (Some (digit_code wanted digit)) (digit_plan column))
+    eight) (replies_from (column + 1) digits)
     (short_column column wanted eight) (short_replies (column + 1) digits)
 
 -- what a spawner says that is given these replies

@@ -13,7 +13,8 @@ use Rattle.tree_canon.proofs.Equations.{fits_folder, fits_file, fits_named}
 use Rattle.tree_canon.proofs.Lengths.{folder_length, file_length, entry_length}
 use Rattle.cnb_drill.specs.Trees.{contents, drill_file, drill_tree, file_name}
 
-entries_length : (bytes places : List ℕ) → length (entries_bytes (map (λ place. drill_file bytes (file_name place)) places)) ≡ length places * (15 + length bytes)
+entries_length : (bytes places : List ℕ) → length (entries_bytes
+    (map (λ place. drill_file bytes (file_name place)) places)) ≡ length places * (15 + length bytes)
 entries_length bytes [] = sym (omega arith)
 entries_length bytes (place ∷ places) =
     let file = drill_file bytes (file_name place) in
@@ -28,7 +29,8 @@ files_of bytes places = map (λ place. drill_file bytes (file_name place)) place
 pub spelling_length : (bytes : List ℕ) → length (spelling_of (drill_tree bytes)) ≡ 250 + 16 * length bytes
 spelling_length bytes =
     length-append magic (node_bytes (drill_tree bytes))
-    ∙ (ap (λ n. 5 + n) (folder_length (files_of bytes (numbers_below 16)) ∙ ap (λ n. 5 + n) (entries_length bytes (numbers_below 16))) ∙ omega arith)
+    ∙ (ap (λ n. 5 + n) (folder_length (files_of bytes (numbers_below 16))
+    ∙ ap (λ n. 5 + n) (entries_length bytes (numbers_below 16))) ∙ omega arith)
 
 -- a file fits wherever it isn't too deep, whatever it holds
 abbrev file_fitting : ℕ → Fitting
@@ -37,7 +39,8 @@ file_fitting place = (file_name place, λ depth. nat_le depth 64)
 files_fit : (bytes places : List ℕ) → map entry_fits (files_of bytes places) ≡ map file_fitting places
 files_fit bytes [] = refl
 files_fit bytes (place ∷ places) =
-    λ i. (fits_named (drill_file bytes (file_name place)) ∙ (λ j. (file_name place, λ depth. fits_file false bytes depth j))) i ∷ files_fit bytes places i
+    λ i. (fits_named (drill_file bytes (file_name place)) ∙
+    (λ j. (file_name place, λ depth. fits_file false bytes depth j))) i ∷ files_fit bytes places i
 
 names_fit : all_fit None (map file_fitting (numbers_below 16)) 1 ≡ true
 unfolding is_utf8 chars encode
@@ -46,7 +49,8 @@ names_fit = refl
 fits_whole : (bytes : List ℕ) → fits (drill_tree bytes) 0 ≡ true
 fits_whole bytes =
     fits_folder (files_of bytes (numbers_below 16)) 0
-    ∙ (ap (λ all. nat_le 0 64 && (nat_lt 16 (2 ^ 32) && all_fit None all 1)) (files_fit bytes (numbers_below 16)) ∙ names_fit)
+    ∙ (ap (λ all. nat_le 0 64 && (nat_lt 16 (2 ^ 32) && all_fit None all 1)) (files_fit bytes (numbers_below 16))
+    ∙ names_fit)
 
 is_drill_tree : (bytes : List ℕ) → length bytes ≤ 262144 → is_tree (drill_tree bytes) ≡ true
 is_drill_tree bytes h =

@@ -1,4 +1,5 @@
--- All lists of so many digits, in lexicographic order: those before one have a smaller digit, and are as many as its value.
+-- All lists of so many digits, in lexicographic order: those before one have a smaller digit, and are as many as its
+-- value.
 use Rattle.std.proofs.Common.{◌≡◌, ◌∙◌, refl, sym, ap, ℕ, zero, suc, ◌+◌, ◌*◌, ◌<◌, ◌^◌, Bool, true, false, List, [], ◌∷◌, ◌++◌, map, length, drop, arith, append_assoc, length-append}
 use Rattle.std.specs.Prelude.{nat_lt, ◌||◌}
 use Rattle.std.specs.List.{flat_map, list_all}
@@ -24,11 +25,13 @@ words (suc places) = flat_map (λ digit. in_front digit (words places)) eight
 -- those before one, and those behind it
 abbrev pub before : List ℕ → List (List ℕ)
 before [] = []
-before (digit ∷ digits) = flat_map (λ smaller. in_front smaller (words (length digits))) (numbers_below digit) ++ in_front digit (before digits)
+before (digit ∷ digits) = flat_map (λ smaller. in_front smaller (words (length digits))) (numbers_below digit)
+    ++ in_front digit (before digits)
 
 abbrev pub behind : List ℕ → List (List ℕ)
 behind [] = []
-behind (digit ∷ digits) = in_front digit (behind digits) ++ flat_map (λ larger. in_front larger (words (length digits))) (drop (digit + 1) eight)
+behind (digit ∷ digits) = in_front digit (behind digits)
+    ++ flat_map (λ larger. in_front larger (words (length digits))) (drop (digit + 1) eight)
 
 abbrev pub AreDigits : List ℕ → Type 0
 AreDigits [] = Unit {0}
@@ -46,11 +49,14 @@ words_at (digit ∷ digits) h =
     ap (flat_map f) (eight_at digit h.0)
     ∙ (flat_map-append f (numbers_below digit) (digit ∷ drop (digit + 1) eight)
     ∙ (ap (λ ws. flat_map f (numbers_below digit) ++ (ws ++ flat_map f (drop (digit + 1) eight)))
-    (ap (in_front digit) (words_at digits h.1) ∙ map-append (λ word. digit ∷ word) (before digits) (digits ∷ behind digits))
-    ∙ regroup (flat_map f (numbers_below digit)) (in_front digit (before digits)) (digit ∷ digits) (in_front digit (behind digits)) (flat_map f (drop (digit + 1) eight))))
+    (ap (in_front digit) (words_at digits h.1) ∙ map-append (λ word. digit ∷ word) (before digits)
+    (digits ∷ behind digits))
+    ∙ regroup (flat_map f (numbers_below digit)) (in_front digit (before digits)) (digit ∷ digits)
+    (in_front digit (behind digits)) (flat_map f (drop (digit + 1) eight))))
 
 -- as many lists as lists of each element, times the elements
-length_each : {X : Type 0} (f : ℕ → List X) (m : ℕ) → ((n : ℕ) → length (f n) ≡ m) → (n : ℕ) → length (flat_map f (numbers_below n)) ≡ n * m
+length_each : {X : Type 0} (f : ℕ → List X) (m : ℕ) → ((n : ℕ) → length (f n) ≡ m) → (n : ℕ)
+    → length (flat_map f (numbers_below n)) ≡ n * m
 length_each f m each zero = sym (omega arith)
 length_each f m each (suc n) =
     ap length (flat_map-append f (numbers_below n) (n ∷ []))
@@ -60,7 +66,8 @@ length_each f m each (suc n) =
 pub length-words : (places : ℕ) → length (words places) ≡ 8 ^ places
 length-words zero = refl
 length-words (suc places) =
-    length_each (λ digit. in_front digit (words places)) (8 ^ places) (λ digit. length-map (words places) (λ word. digit ∷ word) ∙ length-words places) 8
+    length_each (λ digit. in_front digit (words places)) (8 ^ places)
+    (λ digit. length-map (words places) (λ word. digit ∷ word) ∙ length-words places) 8
     ∙ sym (pow-succ' 8 places)
 
 pub length-before : (digits : List ℕ) → length (before digits) ≡ value digits
@@ -69,7 +76,8 @@ length-before (digit ∷ digits) =
     let all = words (length digits) in
     let f : ℕ → List (List ℕ) = λ d. in_front d all in
     length-append (flat_map f (numbers_below digit)) (in_front digit (before digits))
-    ∙ (λ i. length_each f (8 ^ length digits) (λ d. length-map all (λ word. d ∷ word) ∙ length-words (length digits)) digit i
+    ∙ (λ i. length_each f (8 ^ length digits) (λ d. length-map all (λ word. d ∷ word)
+    ∙ length-words (length digits)) digit i
     + (length-map (before digits) (λ word. digit ∷ word) ∙ length-before digits) i)
 
 -- some digit is smaller than the other list's digit at its place
@@ -78,7 +86,8 @@ has_smaller [] digits = false
 has_smaller (x ∷ xs) [] = false
 has_smaller (x ∷ xs) (digit ∷ digits) = nat_lt x digit || has_smaller xs digits
 
-pub smaller-before : (digits : List ℕ) → AreDigits digits → list_all (λ word. has_smaller word digits) (before digits) ≡ true
+pub smaller-before : (digits : List ℕ) → AreDigits digits
+    → list_all (λ word. has_smaller word digits) (before digits) ≡ true
 smaller-before [] h = refl
 smaller-before (digit ∷ digits) h =
     let all = words (length digits) in
@@ -87,11 +96,15 @@ smaller-before (digit ∷ digits) h =
     let first : list_all test (flat_map f (numbers_below digit)) ≡ true =
     all_flat test f (numbers_below digit)
     (all_weaker (λ x. nat_lt x digit) (λ x. list_all test (f x)) (numbers_below digit)
-    (λ x e. list_all-map test (λ word. x ∷ word) all ∙ all_each (λ word. nat_lt x digit || has_smaller word digits) all (λ word. or_left (nat_lt x digit) (has_smaller word digits) e))
+    (λ x e. list_all-map test (λ word. x ∷ word) all ∙ all_each
+    (λ word. nat_lt x digit || has_smaller word digits) all
+    (λ word. or_left (nat_lt x digit) (has_smaller word digits) e))
     (below-lt digit h.0)) in
     let second : list_all test (in_front digit (before digits)) ≡ true =
     list_all-map test (λ word. digit ∷ word) (before digits)
-    ∙ all_weaker (λ word. has_smaller word digits) (λ word. nat_lt digit digit || has_smaller word digits) (before digits)
+    ∙ all_weaker (λ word. has_smaller word digits) (λ word. nat_lt digit digit || has_smaller word digits)
+    (before digits)
     (λ word e. or_right (nat_lt digit digit) (has_smaller word digits) e) (smaller-before digits h.1) in
     list_all-append test (flat_map f (numbers_below digit)) (in_front digit (before digits))
-    ∙ and_from (list_all test (flat_map f (numbers_below digit))) (list_all test (in_front digit (before digits))) first second
+    ∙ and_from (list_all test (flat_map f (numbers_below digit)))
+    (list_all test (in_front digit (before digits))) first second

@@ -32,7 +32,11 @@ component key = record { key = key; body = Component false [] }
 
 -- the composite of a column has eight groups, of one component each
 abbrev pub composite : ℕ → Descriptor
-composite column = record { key = composite_key column; body = Composite (map (λ digit. entry_of (component_key column digit) ∷ []) eight) }
+composite column = record {
+  key = composite_key column;
+  body = Composite
+      (map (λ digit. entry_of (component_key column digit) ∷ []) eight);
+}
 
 abbrev pub column_of : ℕ → List Descriptor
 column_of column = composite column ∷ map (λ digit. component (component_key column digit)) eight

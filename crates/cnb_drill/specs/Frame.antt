@@ -3,4 +3,13 @@ use Rattle.std.specs.Prelude.{[], None, codes}
 use Rattle.detect_core.specs.declared.chosen.DetectFrame.{DetectFrame}
 
 unfoldable pub drill_frame : DetectFrame
-drill_frame = record { buildpacks = codes "/b"; app = codes "/a"; platform = codes "/p"; work = codes "/w"; env = []; files = []; target = None }
+drill_frame = record {
+  buildpacks = codes "/b";
+  app = codes "/a";
+  platform = codes "/p";
+  work = codes "/w";
+  env =
+      [];
+  files = [];
+  target = None;
+}

@@ -15,7 +15,14 @@ pub record IsSetting (setting : Setting) : Type 0 where
 
 -- the number's own group, the last of its sixteen trials, and a plan of four entries
 abbrev pub found_of : ℕ → Found
-found_of number = record { groups = 4096; place = number; asked = asked_count number; trial = 15; trials = 16; entries = 4 }
+found_of number = record {
+  groups = 4096;
+  place = number;
+  asked = asked_count number;
+  trial = 15;
+  trials = 16;
+  entries = 4;
+}
 
 abbrev pub found_in : Chosen → Found
 found_in chosen = record {

@@ -8,7 +8,8 @@ use Rattle.cnb_drill.specs.Digits.{digits_of}
 -- a component provides `x` and its column, or `y` and its column
 abbrev pub digit_plan : ℕ → List ℕ
 digit_plan column =
-    codes "[[provides]]\nname = \"x" ++ (48 + column) ∷ codes "\"\n[[or]]\n[[or.provides]]\nname = \"y" ++ (48 + column) ∷ codes "\"\n"
+    codes "[[provides]]\nname = \"x" ++ (48 + column) ∷ codes "\"\n[[or]]\n[[or.provides]]\nname = \"y"
+    ++ (48 + column) ∷ codes "\"\n"
 
 -- the last component requires the second of each column
 abbrev pub tail_plan : List ℕ
@@ -22,7 +23,8 @@ abbrev pub reply_by : Key → Option ℤ → List ℕ → Reply
 reply_by key code plan = record { id = key.id; version = key.version; probed = record { code = code; plan = plan } }
 
 abbrev pub column_replies : ℕ → ℕ → List Reply
-column_replies column wanted = map (λ digit. reply_by (component_key column digit) (Some (digit_code wanted digit)) (digit_plan column)) eight
+column_replies column wanted = map (λ digit. reply_by (component_key column digit)
+    (Some (digit_code wanted digit)) (digit_plan column)) eight
 
 -- the replies for these digits, from a column on
 abbrev pub replies_from : ℕ → List ℕ → List Reply

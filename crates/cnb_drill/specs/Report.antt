@@ -7,7 +7,8 @@ use Rattle.cnb_drill.specs.Law.{found_of}
 -- six lines, where groups and trials are counted from 1
 abbrev pub drill_lines : Found → ℕ → List ℕ
 drill_lines found bytes =
-    codes "groups " ++ decimal found.groups ++ codes "\ntried " ++ decimal (found.place + 1) ++ codes "\nasked " ++ decimal found.asked
+    codes "groups " ++ decimal found.groups ++ codes "\ntried " ++ decimal (found.place + 1) ++ codes "\nasked "
+    ++ decimal found.asked
     ++ codes "\ntrial " ++ decimal (found.trial + 1) ++ codes " of " ++ decimal found.trials
     ++ codes "\nplan " ++ decimal found.entries ++ codes "\nlayer bytes " ++ decimal bytes ++ codes "\n"
 

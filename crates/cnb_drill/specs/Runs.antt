@@ -20,11 +20,16 @@ use Rattle.cnb_drill.specs.Replies.{drill_replies}
 abbrev pub said_by : List Reply → Member → Verdict
 said_by replies member = answer_or_error build_plan (reply_of replies member.key.id member.key.version)
 
--- The children that spawners ran between them: exactly those that have to be asked by the replies, each once, and as many
+-- The children that spawners ran between them: exactly those that have to be asked by the replies, each once, and as
+-- many
 -- as the text tells; where memory ran out some of those that the order lists, each at most once.
-pub record RunsDrill {A : Type 0} (number : ℕ) (old : List SpawnerSeen) (result : Result A Memory) (new : List SpawnerSeen) : Type 0 where
+pub record RunsDrill {A : Type 0} (number : ℕ) (old : List SpawnerSeen) (result : Result A Memory)
+    (new : List SpawnerSeen) : Type 0 where
   pub answers : List Ran
   pub asked : AskedBy answers old new
-  pub exactly : OnOk result (map (λ ran. ran.job) answers ≡ map (detect_job drill_frame) (asked_members None (said_by (drill_replies number)) drill_catalog drill_order))
+  pub exactly : OnOk result (map (λ ran. ran.job) answers
+      ≡ map (detect_job drill_frame) (asked_members None (said_by (drill_replies number)) drill_catalog
+      drill_order))
   pub count : OnOk result (length answers ≡ asked_count number)
-  pub some : OnErr result (AreSome (map (λ ran. ran.job) answers) (map (detect_job drill_frame) (members_of (listed_groups drill_catalog drill_order))))
+  pub some : OnErr result (AreSome (map (λ ran. ran.job) answers)
+      (map (detect_job drill_frame) (members_of (listed_groups drill_catalog drill_order))))

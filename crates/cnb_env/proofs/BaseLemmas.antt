@@ -33,22 +33,27 @@ with_value-last : (env : List Variable) (name value : List ℕ) → list_all (is
 with_value-last [] name value h = refl
 with_value-last (v ∷ vs) name value h =
     let parts = and_parts (is_behind name v) (list_all (is_behind name) vs) h in
-    ap (λ o. set_before o name value v vs (with_value name value vs)) (greater name v parts.0) ∙ ap (λ ws. v ∷ ws) (with_value-last vs name value parts.1)
+    ap (λ o. set_before o name value v vs (with_value name value vs)) (greater name v parts.0)
+    ∙ ap (λ ws. v ∷ ws) (with_value-last vs name value parts.1)
 
-test_at : (p : Variable → Bool) (env : List Variable) (at : ℕ) (d : Variable) → list_all p env ≡ true → at < length env → p (get_or env at d) ≡ true
+test_at : (p : Variable → Bool) (env : List Variable) (at : ℕ) (d : Variable) → list_all p env ≡ true
+    → at < length env → p (get_or env at d) ≡ true
 test_at p [] at d h lt = absurd (omega arith)
 test_at p (v ∷ vs) zero d h lt = (and_parts (p v) (list_all p vs) h).0
 test_at p (v ∷ vs) (suc at) d h lt = test_at p vs at d (and_parts (p v) (list_all p vs) h).1 (omega arith)
 
-all_behind : (env : List Variable) (at : ℕ) (d : Variable) → is_ascending env ≡ true → at < length env → list_all (is_behind (get_or env at d).name) (take at env) ≡ true
+all_behind : (env : List Variable) (at : ℕ) (d : Variable) → is_ascending env ≡ true → at < length env
+    → list_all (is_behind (get_or env at d).name) (take at env) ≡ true
 all_behind [] at d h lt = absurd (omega arith)
 all_behind (v ∷ vs) zero d h lt = refl
 all_behind (v ∷ vs) (suc at) d h lt =
     let parts = and_parts (list_all (λ w. is_lt (slice_cmp nat_cmp v.name w.name)) vs) (is_ascending vs) h in
     and_from (is_behind (get_or vs at d).name v) (list_all (is_behind (get_or vs at d).name) (take at vs))
-    (test_at (λ w. is_lt (slice_cmp nat_cmp v.name w.name)) vs at d parts.0 (omega arith)) (all_behind vs at d parts.1 (omega arith))
+    (test_at (λ w. is_lt (slice_cmp nat_cmp v.name w.name)) vs at d parts.0 (omega arith))
+    (all_behind vs at d parts.1 (omega arith))
 
-filter_step : (p q : Variable → Bool) (b : Bool) (v : Variable) (kept : List Variable) → p v ≡ true → list_all p kept ≡ true → list_all p (if b then v ∷ kept else kept) ≡ true
+filter_step : (p q : Variable → Bool) (b : Bool) (v : Variable) (kept : List Variable) → p v ≡ true
+    → list_all p kept ≡ true → list_all p (if b then v ∷ kept else kept) ≡ true
 filter_step p q true v kept h k = and_from (p v) (list_all p kept) h k
 filter_step p q false v kept h k = k
 
@@ -59,28 +64,38 @@ all-filter p q (v ∷ vs) h =
     filter_step p q (q v) v (filter q vs) parts.0 (all-filter p q vs parts.1)
 
 one_more : (env : List Variable) (at : ℕ) (d : Variable) → at < length env →
-    base_env (take (at + 1) env) ≡ base_env (take at env) ++ (if not (is_own (get_or env at d)) then get_or env at d ∷ [] else [])
+    base_env (take (at + 1) env) ≡ base_env (take at env) ++
+    (if not (is_own (get_or env at d)) then get_or env at d ∷ [] else [])
 one_more env at d lt =
     ap base_env (take_more env at d lt) ∙ filter-append (λ v. not (is_own v)) (take at env) (get_or env at d ∷ [])
 
 some_is : {X : Type 0} (a b : X) → Some a ≡ Some b → a ≡ b
 some_is a b e = cc
 
-field_at : (field : Variable → List ℕ) (env : List Variable) (at : ℕ) (d : Variable) (found : List ℕ) → at < length env → option_map field (slice_get env at) ≡ Some found → field (get_or env at d) ≡ found
-field_at field env at d found lt h = some_is (field (get_or env at d)) found (ap (option_map field) (sym (slice_get-get_or env at d lt)) ∙ h)
+field_at : (field : Variable → List ℕ) (env : List Variable) (at : ℕ) (d : Variable) (found : List ℕ)
+    → at < length env → option_map field (slice_get env at) ≡ Some found → field (get_or env at d) ≡ found
+field_at field env at d found lt h = some_is (field (get_or env at d)) found
+    (ap (option_map field) (sym (slice_get-get_or env at d lt)) ∙ h)
 
 -- one of the lifecycle's own is left out
-pub own_variable : (env base : List Variable) (at : ℕ) (name : List ℕ) → at < length env → option_map (λ v. v.name) (slice_get env at) ≡ Some name →
+pub own_variable : (env base : List Variable) (at : ℕ) (name : List ℕ) → at < length env
+    → option_map (λ v. v.name) (slice_get env at) ≡ Some name →
     starts_with nat_eq name (codes "CNB_") ≡ true → base ≡ base_env (take at env) → base ≡ base_env (take (at + 1) env)
 own_variable env base at name lt named own so_far =
     let d : Variable = record { name = name; value = [] } in
-    let is : is_own (get_or env at d) ≡ true = ap (λ n. starts_with nat_eq n (codes "CNB_")) (field_at (λ v. v.name) env at d name lt named) ∙ own in
-    so_far ∙ (sym (append-nil (base_env (take at env))) ∙ sym (one_more env at d lt ∙ ap (λ b. base_env (take at env) ++ (if not b then get_or env at d ∷ [] else [])) is))
+    let is : is_own (get_or env at d) ≡ true = ap (λ n. starts_with nat_eq n (codes "CNB_"))
+    (field_at (λ v. v.name) env at d name lt named) ∙ own in
+    so_far ∙ (sym (append-nil (base_env (take at env))) ∙ sym
+    (one_more env at d lt ∙ ap (λ b. base_env (take at env) ++ (if not b then get_or env at d ∷ [] else []))
+    is))
 
 -- any other is added behind those so far
-pub other_variable : (env base : List Variable) (at : ℕ) (name value : List ℕ) → is_ascending env ≡ true → at < length env →
-    option_map (λ v. v.name) (slice_get env at) ≡ Some name → option_map (λ v. v.value) (slice_get env at) ≡ Some value →
-    starts_with nat_eq name (codes "CNB_") ≡ false → base ≡ base_env (take at env) → with_value name value base ≡ base_env (take (at + 1) env)
+pub other_variable : (env base : List Variable) (at : ℕ) (name value : List ℕ) → is_ascending env ≡ true
+    → at < length env →
+    option_map (λ v. v.name) (slice_get env at) ≡ Some name
+    → option_map (λ v. v.value) (slice_get env at) ≡ Some value →
+    starts_with nat_eq name (codes "CNB_") ≡ false → base ≡ base_env (take at env)
+    → with_value name value base ≡ base_env (take (at + 1) env)
 other_variable env base at name value ascends lt named valued own so_far =
     let d : Variable = record { name = name; value = value } in
     let v = get_or env at d in
@@ -88,7 +103,9 @@ other_variable env base at name value ascends lt named valued own so_far =
     let value_is : v.value ≡ value = field_at (λ w. w.value) env at d value lt valued in
     let is : is_own v ≡ false = ap (λ n. starts_with nat_eq n (codes "CNB_")) name_is ∙ own in
     let behind : list_all (is_behind name) (base_env (take at env)) ≡ true =
-    all-filter (is_behind name) (λ w. not (is_own w)) (take at env) (subst (λ (n : List ℕ). list_all (is_behind n) (take at env) ≡ true) name_is (all_behind env at d ascends lt)) in
+    all-filter (is_behind name) (λ w. not (is_own w)) (take at env)
+    (subst (λ (n : List ℕ). list_all (is_behind n) (take at env) ≡ true) name_is
+    (all_behind env at d ascends lt)) in
     ap (with_value name value) so_far ∙ (with_value-last (base_env (take at env)) name value behind
     ∙ sym (one_more env at d lt ∙ (ap (λ b. base_env (take at env) ++ (if not b then v ∷ [] else [])) is
     ∙ (λ i. base_env (take at env) ++ record { name = name_is i; value = value_is i } ∷ []))))

@@ -11,11 +11,14 @@ use Rattle.cnb_env.specs.Layers.{folders_at, with_front}
 abbrev joined_by_colon : List (List ℕ) → List ℕ
 joined_by_colon paths = join_by (λ path. path) (codes ":") paths
 
-joined_behind : (first : List ℕ) (paths : List (List ℕ)) (path : List ℕ) → (joined_by_colon (first ∷ paths) ++ codes ":") ++ path ≡ joined_by_colon (first ∷ (paths ++ path ∷ []))
-joined_behind first paths path = append_assoc (joined_by_colon (first ∷ paths)) (codes ":") path ∙ flat_map_more (λ p. codes ":" ++ p) first paths path
+joined_behind : (first : List ℕ) (paths : List (List ℕ)) (path : List ℕ)
+    → (joined_by_colon (first ∷ paths) ++ codes ":") ++ path ≡ joined_by_colon (first ∷ (paths ++ path ∷ []))
+joined_behind first paths path = append_assoc (joined_by_colon (first ∷ paths)) (codes ":") path
+    ∙ flat_map_more (λ p. codes ":" ++ p) first paths path
 
 -- one path more than the first ones
-pub joined_more : (paths : List (List ℕ)) (i : ℕ) (path text : List ℕ) → i < length paths → path ≡ get_or paths i path → text ≡ join_by (λ p. p) (codes ":") (take i paths)
+pub joined_more : (paths : List (List ℕ)) (i : ℕ) (path text : List ℕ) → i < length paths
+    → path ≡ get_or paths i path → text ≡ join_by (λ p. p) (codes ":") (take i paths)
     → cond (nat_eq i 0) text (text ++ codes ":") ++ path ≡ join_by (λ p. p) (codes ":") (take (i + 1) paths)
 joined_more [] i path text h e t = absurd (omega arith)
 joined_more (p ∷ ps) zero path text h e t = (λ k. t k ++ e k) ∙ sym (append-nil p)
@@ -35,8 +38,10 @@ abbrev pub with_libraries : List ℕ → List Variable → List Variable
 with_libraries lib env = with_front (codes "LIBRARY_PATH") lib (with_front (codes "LD_LIBRARY_PATH") lib env)
 
 -- a later step over the same files, where an earlier one gave this
-pub found_then : {A : Type 0} (F : Tree → A) (P : Tree → A → Type 0) (before after : Option Tree) (x : A) → after ≡ before
-    → IfSome before (λ files. x ≡ F files) → IfSome after (λ files. P files x) → IfSome before (λ files. P files (F files))
+pub found_then : {A : Type 0} (F : Tree → A) (P : Tree → A → Type 0) (before after : Option Tree) (x : A)
+    → after ≡ before
+    → IfSome before (λ files. x ≡ F files) → IfSome after (λ files. P files x)
+    → IfSome before (λ files. P files (F files))
 found_then F P None after x same first second = tt
 found_then F P (Some files) after x same first second =
     let Q : Option Tree → Type 0 = λ o. IfSome o (λ f. P f x) in subst (P files) first (subst Q same second)

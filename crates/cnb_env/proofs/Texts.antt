@@ -7,7 +7,9 @@ use Rattle.std.specs.Str.Lossy.{utf8_valid_len}
 use Rattle.cnb_env.specs.Contents.{is_utf8}
 
 pub is_text : (bytes : List ℕ) → IsUtf8 bytes → is_utf8 bytes ≡ true
-is_text bytes is = let e : utf8_valid_len bytes ≡ length bytes = utf8_valid_len-IsUtf8 bytes is in grind (arith, nat_tests)
+is_text bytes is = let e : utf8_valid_len bytes ≡ length bytes = utf8_valid_len-IsUtf8 bytes is
+    in grind (arith, nat_tests)
 
 pub is_no_text : (bytes : List ℕ) (n : ℕ) → IsValidUpTo bytes n → is_utf8 bytes ≡ false
-is_no_text bytes n front = let e : utf8_valid_len bytes ≡ n = utf8_valid_len-IsValidUpTo bytes n front in let short = front.short in grind (arith, nat_tests)
+is_no_text bytes n front = let e : utf8_valid_len bytes ≡ n = utf8_valid_len-IsValidUpTo bytes n front
+    in let short = front.short in grind (arith, nat_tests)

@@ -50,11 +50,13 @@ text_of env name = unwrap_or (value_of env name) []
 abbrev pub applied : List ℕ → List ℕ → List ℕ → List Variable → List Variable
 applied name text delim env =
     if is_no_variable (variable_of name) then env
-    else with_new (variable_of name) (new_value (effect_of (suffix_of name)) (text_of env (variable_of name)) delim text) env
+    else with_new (variable_of name) (new_value (effect_of (suffix_of name))
+    (text_of env (variable_of name)) delim text) env
 
 -- whether a file has the delimiter of a variable
 abbrev pub is_delimiter_of : EnvFile → List ℕ → Bool
-is_delimiter_of file variable = bytes_eq (variable_of file.name) variable && bytes_eq (suffix_of file.name) (codes "delim")
+is_delimiter_of file variable = bytes_eq (variable_of file.name) variable
+    && bytes_eq (suffix_of file.name) (codes "delim")
 
 -- the delimiter of a variable: the contents of its file with the suffix `delim`, or nothing
 abbrev pub delimiter_in : List EnvFile → List ℕ → List ℕ

@@ -16,7 +16,8 @@ base_env env = filter (λ variable. not (is_own variable)) env
 -- the environment with the two variables of the image that is built for, where it is known
 abbrev pub with_target : Option Target → List Variable → List Variable
 with_target None env = env
-with_target (Some target) env = with_value (codes "CNB_TARGET_ARCH") target.arch (with_value (codes "CNB_TARGET_OS") target.os env)
+with_target (Some target) env = with_value (codes "CNB_TARGET_ARCH") target.arch
+    (with_value (codes "CNB_TARGET_OS") target.os env)
 
 -- what is left where memory ran out: nothing was set, or the first of the two
 abbrev pub HasBegun : Option Target → List Variable → List Variable → Type 0

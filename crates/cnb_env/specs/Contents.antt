@@ -16,7 +16,8 @@ use Rattle.cnb_env.specs.declared.names.Naming.{Naming}
 
 -- the bytes of a regular file; there are none where there is no such file
 abbrev pub contents_of : Option Item → Result (Option (List ℕ)) ReadFault
-contents_of (Some (item.File exec bytes)) = if nat_lt 1048576 (length bytes) then Err (Limit DocumentLimit) else Ok (Some bytes)
+contents_of (Some (item.File exec bytes)) = if nat_lt 1048576 (length bytes) then Err
+    (Limit DocumentLimit) else Ok (Some bytes)
 contents_of (Some item.Folder) = Ok None
 contents_of (Some (item.Link target)) = Ok None
 contents_of (Some item.Odd) = Ok None
@@ -43,7 +44,8 @@ file_of name path (Err fault) = Err fault
 
 -- the file of a name in the folder; there is none where the name is passed over, or no regular file stands there
 unfoldable pub file_at : Naming → Tree → List ℕ → List ℕ → Result (Option EnvFile) ReadFault
-file_at naming files folder name = if is_ignored naming name then Ok None else file_of name (joined folder name) (contents_of (item_at files (joined folder name)))
+file_at naming files folder name = if is_ignored naming name then Ok None else file_of name (joined folder name)
+    (contents_of (item_at files (joined folder name)))
 
 -- a file behind others, where there is one
 abbrev pub with_found : List EnvFile → Option EnvFile → List EnvFile

@@ -14,7 +14,8 @@ use Rattle.cnb_env.specs.declared.names.Naming.{Naming}
 use Rattle.cnb_env.specs.declared.names.Naming.TheVariants.{Whole}
 
 -- what one name gives, before what the names behind it give
-abbrev pub file_before : Result (Option EnvFile) ReadFault → Result (List EnvFile) ReadFault → Result (List EnvFile) ReadFault
+abbrev pub file_before : Result (Option EnvFile) ReadFault → Result (List EnvFile) ReadFault
+    → Result (List EnvFile) ReadFault
 file_before (Err fault) behind = Err fault
 file_before (Ok None) behind = behind
 file_before (Ok (Some file)) (Ok files) = Ok (file ∷ files)
@@ -23,7 +24,8 @@ file_before (Ok (Some file)) (Err fault) = Err fault
 -- the files of these names, in order; the first that is refused decides
 abbrev pub files_of : Naming → Tree → List ℕ → List (List ℕ) → Result (List EnvFile) ReadFault
 files_of naming files folder [] = Ok []
-files_of naming files folder (name ∷ names) = file_before (file_at naming files folder name) (files_of naming files folder names)
+files_of naming files folder (name ∷ names) = file_before (file_at naming files folder name)
+    (files_of naming files folder names)
 
 abbrev pub is_absent : Kind → Bool
 is_absent kind.Absent = true

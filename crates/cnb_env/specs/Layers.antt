@@ -26,7 +26,8 @@ IsShort layer = length layer ≤ 8192
 
 -- the folders of a name in the layers
 abbrev pub standing_at : Tree → List (List ℕ) → List ℕ → List (List ℕ)
-standing_at files layers name = filter (λ path. is_folder (item_at files path)) (map (λ layer. joined layer name) layers)
+standing_at files layers name = filter (λ path. is_folder (item_at files path))
+    (map (λ layer. joined layer name) layers)
 
 -- the same, joined by `:`
 abbrev pub folders_at : Tree → List (List ℕ) → List ℕ → List ℕ
@@ -44,7 +45,8 @@ with_front name (byte ∷ bytes) env = with_value name (in_front (text_of env na
 -- the path folders of one buildpack's layers, in front of their variables
 abbrev pub with_launch_paths : Tree → List (List ℕ) → List Variable → List Variable
 with_launch_paths files layers env =
-    with_front (codes "LD_LIBRARY_PATH") (folders_at files layers (codes "lib")) (with_front (codes "PATH") (folders_at files layers (codes "bin")) env)
+    with_front (codes "LD_LIBRARY_PATH") (folders_at files layers (codes "lib"))
+    (with_front (codes "PATH") (folders_at files layers (codes "bin")) env)
 
 abbrev pub with_build_paths : Tree → List (List ℕ) → List Variable → List Variable
 with_build_paths files layers env =
@@ -74,16 +76,19 @@ folder_applied files folder env = folder_files_in BeforeDot folder files >>= λ 
 
 -- What is left after a refusal: the environment as before. For want of memory a first part of the folder's files is
 -- applied, all of which were read.
-abbrev pub LeavesFirst : {T : Type 0} → Result T ReadFault → Option Tree → List ℕ → List Variable → List Variable → Type 0
+abbrev pub LeavesFirst : {T : Type 0} → Result T ReadFault → Option Tree → List ℕ → List Variable → List Variable
+    → Type 0
 LeavesFirst (Ok done) told folder old new = Unit {0}
 LeavesFirst (Err Memory) told folder old new =
-    (new ≡ old) ⊎ ((all : List EnvFile) × IfSome told (λ files. folder_files_in BeforeDot folder files ≡ Ok all) × HasFirst (applied_among all) all old new)
+    (new ≡ old) ⊎ ((all : List EnvFile) × IfSome told (λ files. folder_files_in BeforeDot folder files ≡ Ok all)
+    × HasFirst (applied_among all) all old new)
 LeavesFirst (Err fault) told folder old new = new ≡ old
 
 -- ---- layers
 
 -- one step after another
-abbrev pub each : {X : Type 0} → (X → List Variable → Result (List Variable) ReadFault) → List X → List Variable → Result (List Variable) ReadFault
+abbrev pub each : {X : Type 0} → (X → List Variable → Result (List Variable) ReadFault) → List X → List Variable
+    → Result (List Variable) ReadFault
 each step [] env = Ok env
 each step (x ∷ xs) env = step x env >>= each step xs
 
@@ -108,18 +113,21 @@ layer_applied phase files layer env = each (folder_applied files) (env_folders p
 
 -- one buildpack's layers: their path folders, and then the environment files of each layer
 abbrev pub set_applied : Phase → Tree → List (List ℕ) → List Variable → Result (List Variable) ReadFault
-set_applied phase files layers env = each (layer_applied phase files) layers (with_paths (when_of phase) files layers env)
+set_applied phase files layers env = each (layer_applied phase files) layers
+    (with_paths (when_of phase) files layers env)
 
 abbrev pub with_platform : Option (List EnvFile) → List Variable → List Variable
 with_platform None env = env
 with_platform (Some files) env = with_files files env
 
 -- the environment of a build: what the layers of each earlier buildpack give, and then the platform's files, if any
-unfoldable pub build_env : List (List (List ℕ)) → Option (List EnvFile) → List Variable → Tree → Result (List Variable) ReadFault
+unfoldable pub build_env : List (List (List ℕ)) → Option (List EnvFile) → List Variable → Tree
+    → Result (List Variable) ReadFault
 build_env sets platform base files = each (set_applied Build files) sets base >>= λ env. Ok (with_platform platform env)
 
 -- the environment of a launch: what the layers of each buildpack give, for a process of this type, if it has one
-unfoldable pub launch_env : List (List (List ℕ)) → Option (List ℕ) → List Variable → Tree → Result (List Variable) ReadFault
+unfoldable pub launch_env : List (List (List ℕ)) → Option (List ℕ) → List Variable → Tree
+    → Result (List Variable) ReadFault
 launch_env sets kind base files = each (set_applied (Launch kind) files) sets base
 
 -- ---- what is read
@@ -157,7 +165,8 @@ IsOfFolderIn folder path = (name : List ℕ) × IsTrue (is_part name) × IsOfFol
 
 -- what is read of a layer: of the folders right in it, and of those right in such a folder
 abbrev pub IsOfLayer : List ℕ → List ℕ → Type 0
-IsOfLayer layer path = IsOfFolderIn layer path ⊎ ((name : List ℕ) × IsTrue (is_part name) × IsOfFolderIn (joined layer name) path)
+IsOfLayer layer path = IsOfFolderIn layer path
+    ⊎ ((name : List ℕ) × IsTrue (is_part name) × IsOfFolderIn (joined layer name) path)
 
 abbrev pub IsOfLayers : List (List ℕ) → List ℕ → Type 0
 IsOfLayers layers path = (layer : List ℕ) × IsAmong layers layer × IsOfLayer layer path

@@ -32,7 +32,8 @@ above Greater Equal e low other = absurd (cc)
 above Greater Greater e low other = absurd (cc)
 
 rises : (x y : List ℕ) → is_lt (bytes_cmp y x) ≡ false → bytes_eq x y ≡ false → is_lt (bytes_cmp x y) ≡ true
-rises x y low other = above (bytes_cmp x y) (bytes_cmp y x) (nat_list_cmp_total.antisymm x y) low (is_eq-slice_cmp x y ∙ other)
+rises x y low other = above (bytes_cmp x y) (bytes_cmp y x) (nat_list_cmp_total.antisymm x y) low
+    (is_eq-slice_cmp x y ∙ other)
 
 both_true : (a b : Bool) → a ≡ true → b ≡ true → a && b ≡ true
 both_true true b p q = q
@@ -50,43 +51,62 @@ module _ {V : Type 0} where
   plain_values [] = refl
   plain_values (e ∷ es) = ap (λ vs. e.1 ∷ vs) (plain_values es)
 
-  plain_find : (q : List ℕ) (es : List (Bor (List ℕ) × V)) → find bytes_cmp q (plain es) ≡ lookup (λ k. bytes_eq q k.now) es
+  plain_find : (q : List ℕ) (es : List (Bor (List ℕ) × V))
+      → find bytes_cmp q (plain es) ≡ lookup (λ k. bytes_eq q k.now) es
   plain_find q [] = refl
-  plain_find q (e ∷ es) = ap (λ b. cond b (Some e.1) (find bytes_cmp q (plain es))) (is_eq-slice_cmp q e.0.now) ∙ ap (λ o. cond (bytes_eq q e.0.now) (Some e.1) o) (plain_find q es)
+  plain_find q (e ∷ es) = ap (λ b. cond b (Some e.1) (find bytes_cmp q (plain es))) (is_eq-slice_cmp q e.0.now)
+      ∙ ap (λ o. cond (bytes_eq q e.0.now) (Some e.1) o) (plain_find q es)
 
-  below : (x : List ℕ) (es : List (Bor (List ℕ) × V)) → AllByRecursion (λ (y : Bor (List ℕ)). bytes_eq x y.now ≡ false) (keys_of es)
-      → ((j : ℕ) (d : Bor (List ℕ)) → j < length (keys_of es) → is_lt (bytes_cmp (get_or (keys_of es) j d).now x) ≡ false) → below_all bytes_cmp x (plain es) ≡ true
+  below : (x : List ℕ) (es : List (Bor (List ℕ) × V)) → AllByRecursion
+      (λ (y : Bor (List ℕ)). bytes_eq x y.now ≡ false) (keys_of es)
+      → ((j : ℕ) (d : Bor (List ℕ)) → j < length (keys_of es)
+      → is_lt (bytes_cmp (get_or (keys_of es) j d).now x) ≡ false) → below_all bytes_cmp x (plain es) ≡ true
   below x [] others far = refl
   below x (e ∷ es) others far =
       both_true _ _ (rises x e.0.now (far 0 e.0 (omega arith)) others.0)
       (below x es others.1 (λ j d lt. far (suc j) d (omega (arith, lt))))
 
-  sorted : (es : List (Bor (List ℕ) × V)) → IsSorted (λ (x y : Bor (List ℕ)). bytes_cmp x.now y.now) (keys_of es) → IsDistinct (λ (x y : Bor (List ℕ)). bytes_eq x.now y.now) (keys_of es) → is_sorted bytes_cmp (plain es) ≡ true
+  sorted : (es : List (Bor (List ℕ) × V)) → IsSorted (λ (x y : Bor (List ℕ)). bytes_cmp x.now y.now) (keys_of es)
+      → IsDistinct (λ (x y : Bor (List ℕ)). bytes_eq x.now y.now) (keys_of es)
+      → is_sorted bytes_cmp (plain es) ≡ true
   unfolding IsDistinct
   sorted [] up distinct = refl
   sorted (e ∷ es) up distinct =
-      both_true _ _ (below e.0.now es distinct.0 (λ j d lt. sorted_far (λ (x y : Bor (List ℕ)). is_lt (bytes_cmp x.now y.now)) (ranks_by nat_list_cmp_total (λ (k : Bor (List ℕ)). k.now)) (keys_of (e ∷ es)) up 0 (suc j) d (omega arith) (omega (arith, lt))))
-      (sorted es (λ k d low lt. subst (λ n. is_lt (bytes_cmp (get_or (keys_of (e ∷ es)) n d).now (get_or (keys_of es) k d).now) ≡ false) (shifted k) (up (suc k) d (omega arith) (omega (arith, lt)))) distinct.1)
+      both_true _ _ (below e.0.now es distinct.0 (λ j d lt. sorted_far
+      (λ (x y : Bor (List ℕ)). is_lt (bytes_cmp x.now y.now))
+      (ranks_by nat_list_cmp_total (λ (k : Bor (List ℕ)). k.now)) (keys_of (e ∷ es)) up 0 (suc j) d
+      (omega arith) (omega (arith, lt))))
+      (sorted es (λ k d low lt. subst (λ n. is_lt (bytes_cmp (get_or (keys_of (e ∷ es)) n d).now
+      (get_or (keys_of es) k d).now) ≡ false) (shifted k) (up (suc k) d (omega arith) (omega (arith, lt))))
+      distinct.1)
 
 -- the values of a map that was sorted by its keys
-pub sorted_values : {V S : Type 0} (m : HashMap (Bor (List ℕ)) V S) (f : FinMap bytes_cmp V) → IsSorted (λ (x y : Bor (List ℕ)). bytes_cmp x.now y.now) (keys_of m.entries) → IsDistinct (λ (x y : Bor (List ℕ)). bytes_eq x.now y.now) (keys_of m.entries)
+pub sorted_values : {V S : Type 0} (m : HashMap (Bor (List ℕ)) V S) (f : FinMap bytes_cmp V)
+    → IsSorted (λ (x y : Bor (List ℕ)). bytes_cmp x.now y.now) (keys_of m.entries)
+    → IsDistinct (λ (x y : Bor (List ℕ)). bytes_eq x.now y.now) (keys_of m.entries)
     → ((q : List ℕ) → hash.get_by (λ k. bytes_eq q k.now) m ≡ fin.get f q) → values_of m.entries ≡ fin.values f
 sorted_values {V} m f up distinct same =
     let one : plain m.entries ≡ entries f =
-    same_entries bytes_cmp nat_list_cmp_total (slice_cmp-IsAntisymmetric nat_cmp-IsAntisymmetric) (plain m.entries) (entries f) (subst T (sym (sorted m.entries up distinct)) tt) (entries_sorted f)
+    same_entries bytes_cmp nat_list_cmp_total (slice_cmp-IsAntisymmetric nat_cmp-IsAntisymmetric)
+    (plain m.entries) (entries f) (subst T (sym (sorted m.entries up distinct)) tt) (entries_sorted f)
     (λ q. plain_find q m.entries ∙ same q ∙ get-entries f q) in
     sym (plain_values m.entries) ∙ ap (map (λ (e : List ℕ × V). e.1)) one
 
 -- one row more
-pub latest_more : {T S : Type 0} (key_of : T → List ℕ) (rows : List T) (i : ℕ) (row copy : T) (key : Bor (List ℕ)) (m n : HashMap (Bor (List ℕ)) T S) → i < length rows → row ≡ get_or rows i row → copy ≡ row → key.now ≡ key_of row
+pub latest_more : {T S : Type 0} (key_of : T → List ℕ) (rows : List T) (i : ℕ) (row copy : T) (key : Bor (List ℕ))
+    (m n : HashMap (Bor (List ℕ)) T S) → i < length rows → row ≡ get_or rows i row → copy ≡ row
+    → key.now ≡ key_of row
     → UpdatesBy (λ x y. bytes_eq x.now y.now) (λ k. bytes_eq key.now k.now) m n (Some copy)
     → ((q : List ℕ) → hash.get_by (λ k. bytes_eq q k.now) m ≡ fin.get (latest key_of (take i rows)) q)
     → (q : List ℕ) → hash.get_by (λ k. bytes_eq q k.now) n ≡ fin.get (latest key_of (take (i + 1) rows)) q
 latest_more {T} {S} key_of rows i row copy key m n lt is copied keyed given same q =
-    let updates : UpdatesBy (λ x y. bytes_eq x.now y.now) (λ k. bytes_eq key.now k.now) m n (Some row) = subst (λ (v : T). UpdatesBy (λ x y. bytes_eq x.now y.now) (λ k. bytes_eq key.now k.now) m n (Some v)) copied given in
+    let updates : UpdatesBy (λ x y. bytes_eq x.now y.now) (λ k. bytes_eq key.now k.now) m n (Some row) = subst
+    (λ (v : T). UpdatesBy (λ x y. bytes_eq x.now y.now) (λ k. bytes_eq key.now k.now) m n (Some v)) copied
+    given in
     let before : FinMap bytes_cmp T = latest key_of (take i rows) in
     let here : latest key_of (take (i + 1) rows) ≡ fin.insert before key.now row =
-    fold_more (λ found r. fin.insert found (key_of r) r) fin.empty rows i row lt ∙ ap (λ r. fin.insert before (key_of r) r) (sym is) ∙ ap (λ k. fin.insert before k row) (sym keyed) in
+    fold_more (λ found r. fin.insert found (key_of r) r) fin.empty rows i row lt
+    ∙ ap (λ r. fin.insert before (key_of r) r) (sym is) ∙ ap (λ k. fin.insert before k row) (sym keyed) in
     hash_map_updates_str key.now m n (Some row) updates q
     ∙ ap (λ b. cond b (Some row) (hash.get_by (λ k. bytes_eq q k.now) m)) (bytes_eq-symmetric key.now q)
     ∙ ap (λ o. cond (bytes_eq q key.now) (Some row) o) (same q)
@@ -95,5 +115,7 @@ latest_more {T} {S} key_of rows i row copy key m n lt is copied keyed given same
     ∙ ap (λ f. fin.get f q) (sym here)
 
 -- no row yet
-pub latest_none : {T S : Type 0} (key_of : T → List ℕ) (rows : List T) (m : HashMap (Bor (List ℕ)) T S) → m.entries ≡ [] → (q : List ℕ) → hash.get_by (λ k. bytes_eq q k.now) m ≡ fin.get (latest key_of (take 0 rows)) q
+pub latest_none : {T S : Type 0} (key_of : T → List ℕ) (rows : List T) (m : HashMap (Bor (List ℕ)) T S)
+    → m.entries ≡ [] → (q : List ℕ) → hash.get_by (λ k. bytes_eq q k.now) m
+    ≡ fin.get (latest key_of (take 0 rows)) q
 latest_none key_of rows m none q = ap (lookup (λ k. bytes_eq q k.now)) none ∙ sym (get-empty bytes_cmp q)

@@ -39,11 +39,13 @@ same_cause (image.File path) = refl
 same_cause image.Memory = refl
 
 -- a step over images
-of_images : {A : Type 0} (step : Seen → Result A ImageFault → Seen → Type 0) → Obeys FileCounts image_files.cause_of step → Obeys FileCounts cause_of (map_err of_image_fault step)
+of_images : {A : Type 0} (step : Seen → Result A ImageFault → Seen → Type 0)
+    → Obeys FileCounts image_files.cause_of step → Obeys FileCounts cause_of (map_err of_image_fault step)
 of_images step p = obeys_told FileCounts image_files.cause_of cause_of of_image_fault step same_cause p
 
 -- a step of an export, as one of the command
-of_fault : {A : Type 0} (step : Seen → Result A ExportFault → Seen → Type 0) → Obeys FileCounts cause_of step → Obeys FileCounts refusal_cause (map_err Fault step)
+of_fault : {A : Type 0} (step : Seen → Result A ExportFault → Seen → Type 0) → Obeys FileCounts cause_of step
+    → Obeys FileCounts refusal_cause (map_err Fault step)
 of_fault step p = obeys_told FileCounts cause_of refusal_cause Fault step (λ fault. refl) p
 
 -- ---- the image
@@ -51,26 +53,33 @@ of_fault step p = obeys_told FileCounts cause_of refusal_cause Fault step (λ fa
 read_previous_counts : (store : List ℕ) (name : Option (List ℕ)) → Obeys FileCounts cause_of (reads_previous store name)
 unfolding reads_layers
 read_previous_counts store None = obeys_yields _ _ _ files_rest
-read_previous_counts store (Some name) = obeys_bind _ _ _ _ files_link (of_images _ (images.image_counts store name)) (λ image. obeys_yields _ _ _ files_rest)
+read_previous_counts store (Some name) = obeys_bind _ _ _ _ files_link
+    (of_images _ (images.image_counts store name)) (λ image. obeys_yields _ _ _ files_rest)
 
-put_process_counts : (store : List ℕ) (processes : List Process) → Obeys FileCounts cause_of (puts_process store processes)
+put_process_counts : (store : List ℕ) (processes : List Process)
+    → Obeys FileCounts cause_of (puts_process store processes)
 unfolding puts_links
 put_process_counts store [] = obeys_yields _ _ _ files_rest
 put_process_counts store (process ∷ processes) =
     obeys_bind _ _ _ _ files_link (obeys_gives _ _ _ files_rest)
-    (λ tree. obeys_bind _ _ _ _ files_link (of_store _ (put_tree_counts store tree)) (λ digest. obeys_yields _ _ _ files_rest))
+    (λ tree. obeys_bind _ _ _ _ files_link (of_store _ (put_tree_counts store tree))
+    (λ digest. obeys_yields _ _ _ files_rest))
 
 put_whole_counts : (store app : List ℕ) → Obeys FileCounts cause_of (puts_whole store app)
 unfolding puts_whole
-put_whole_counts store app = obeys_bind _ _ _ _ files_link (of_store _ (put_folder_counts store app)) (λ digest. obeys_gives _ _ _ files_rest)
+put_whole_counts store app = obeys_bind _ _ _ _ files_link (of_store _ (put_folder_counts store app))
+    (λ digest. obeys_gives _ _ _ files_rest)
 
 cut_app_counts : (app : List ℕ) (slices : Slices) → Obeys FileCounts cause_of (cuts_app app slices)
 unfolding cuts_app
-cut_app_counts app slices = obeys_bind _ _ _ _ files_link (of_store _ (read_tree_counts app)) (λ tree. obeys_gives _ _ _ files_rest)
+cut_app_counts app slices = obeys_bind _ _ _ _ files_link (of_store _ (read_tree_counts app))
+    (λ tree. obeys_gives _ _ _ files_rest)
 
-put_part_counts : (store : List ℕ) (tree : Node) (digests : List (List ℕ)) → Obeys FileCounts cause_of (puts_part store tree digests)
+put_part_counts : (store : List ℕ) (tree : Node) (digests : List (List ℕ))
+    → Obeys FileCounts cause_of (puts_part store tree digests)
 unfolding puts_part
-put_part_counts store tree digests = obeys_bind _ _ _ _ files_link (of_store _ (put_tree_counts store tree)) (λ digest. obeys_gives _ _ _ files_rest)
+put_part_counts store tree digests = obeys_bind _ _ _ _ files_link (of_store _ (put_tree_counts store tree))
+    (λ digest. obeys_gives _ _ _ files_rest)
 
 put_app_counts : (store app : List ℕ) (slices : Slices) → Obeys FileCounts cause_of (puts_app store app slices)
 unfolding puts_parts
@@ -79,15 +88,18 @@ put_app_counts store app (slice ∷ slices) =
     obeys_bind _ _ _ _ files_link (cut_app_counts app (slice ∷ slices))
     (λ parts. obeys_each _ _ _ files_link files_rest (put_part_counts store) parts [])
 
-put_trees_counts : (frame : ExportFrame) (slices : Slices) (processes : List Process) → Obeys FileCounts cause_of (puts_trees frame slices processes)
+put_trees_counts : (frame : ExportFrame) (slices : Slices) (processes : List Process)
+    → Obeys FileCounts cause_of (puts_trees frame slices processes)
 unfolding puts_trees
 put_trees_counts frame slices processes =
     obeys_bind _ _ _ _ files_link (put_app_counts frame.store frame.app slices)
     (λ app. obeys_bind _ _ _ _ files_link (of_store _ (put_folder_counts frame.store frame.launcher))
     (λ launcher. obeys_bind _ _ _ _ files_link (obeys_gives _ _ _ files_rest)
-    (λ last. obeys_bind _ _ _ _ files_link (put_process_counts frame.store last) (λ process. obeys_yields _ _ _ files_rest))))
+    (λ last. obeys_bind _ _ _ _ files_link (put_process_counts frame.store last)
+    (λ process. obeys_yields _ _ _ files_rest))))
 
-gain_counts : (frame : ExportFrame) (group : List GroupRow) (analyzed : Analyzed) → Obeys FileCounts cause_of (gains frame group analyzed)
+gain_counts : (frame : ExportFrame) (group : List GroupRow) (analyzed : Analyzed)
+    → Obeys FileCounts cause_of (gains frame group analyzed)
 unfolding gains
 gain_counts frame group analyzed =
     obeys_bind _ _ _ _ files_link (of_images _ (images.run_image_counts frame.store analyzed.run))
@@ -105,21 +117,28 @@ beside_caches_link = beside_link FileCounts files_link
 beside_caches_rest : Rests (BesideCaches FileCounts)
 beside_caches_rest = beside_rest FileCounts files_rest
 
-pub exports_counts : (readable : Bool) (frame : ExportFrame) (group : List GroupRow) (analyzed : Analyzed) → Obeys (BesideCaches FileCounts) cause_of (exports readable frame group analyzed)
+pub exports_counts : (readable : Bool) (frame : ExportFrame) (group : List GroupRow) (analyzed : Analyzed)
+    → Obeys (BesideCaches FileCounts) cause_of (exports readable frame group analyzed)
 unfolding exports
 exports_counts readable frame group analyzed =
-    obeys_bind (BesideCaches FileCounts) _ _ _ beside_caches_link (obeys_in_world FileCounts _ _ (gain_counts frame group analyzed))
-    (λ gained. obeys_bind (BesideCaches FileCounts) _ _ _ beside_caches_link (obeys_in_caches FileCounts _ _ files_rest (stores_rows_ends cause_of readable gained.cached gained.trees))
+    obeys_bind (BesideCaches FileCounts) _ _ _ beside_caches_link
+    (obeys_in_world FileCounts _ _ (gain_counts frame group analyzed))
+    (λ gained. obeys_bind (BesideCaches FileCounts) _ _ _ beside_caches_link
+    (obeys_in_caches FileCounts _ _ files_rest (stores_rows_ends cause_of readable gained.cached
+    gained.trees))
     (λ gone. obeys_yields (BesideCaches FileCounts) _ _ beside_caches_rest))
 
-pub saved_image_counts : (store name : List ℕ) (image : ImageDoc) → Obeys FileCounts cause_of (saves_image store name image)
+pub saved_image_counts : (store name : List ℕ) (image : ImageDoc)
+    → Obeys FileCounts cause_of (saves_image store name image)
 unfolding writes_image
 saved_image_counts store name image = of_images _ (writes_counts image_files.cause_of _ _)
 
-pub saved_readable_image_counts : (store name : List ℕ) (image : ImageDoc) → Obeys FileCounts cause_of (saves_readable_image store name image)
+pub saved_readable_image_counts : (store name : List ℕ) (image : ImageDoc)
+    → Obeys FileCounts cause_of (saves_readable_image store name image)
 saved_readable_image_counts store name image = of_images _ (images.written_image_counts store name image)
 
-read_needed_counts : {A : Type 0} (form : List ℕ → Result A DocFault) (folder name : List ℕ) → Obeys FileCounts cause_of (reads_needed form folder name)
+read_needed_counts : {A : Type 0} (form : List ℕ → Result A DocFault) (folder name : List ℕ)
+    → Obeys FileCounts cause_of (reads_needed form folder name)
 unfolding reads_needed
 read_needed_counts form folder name =
     obeys_bind _ _ _ _ files_link (obeys_gives _ _ _ files_rest)
@@ -131,18 +150,26 @@ read_given_counts words =
     obeys_bind _ _ _ _ files_link
     (obeys_bind _ _ _ _ files_link (of_fault _ (read_needed_counts _ words.work _))
     (λ group. obeys_bind _ _ _ _ files_link (obeys_gives _ _ _ files_rest) (λ allowed. obeys_yields _ _ _ files_rest)))
-    (λ group. obeys_bind _ _ _ _ files_link (of_fault _ (read_needed_counts _ words.work _)) (λ analyzed. obeys_gives _ _ _ files_rest))
+    (λ group. obeys_bind _ _ _ _ files_link (of_fault _ (read_needed_counts _ words.work _))
+    (λ analyzed. obeys_gives _ _ _ files_rest))
 
-finish_export_counts : (words : ExportWords) (exported : Exported) → Obeys (BesideCaches FileCounts) refusal_cause (finishes_export words exported)
+finish_export_counts : (words : ExportWords) (exported : Exported)
+    → Obeys (BesideCaches FileCounts) refusal_cause (finishes_export words exported)
 unfolding finishes_export
 finish_export_counts words exported =
-    obeys_bind (BesideCaches FileCounts) _ _ _ beside_caches_link (obeys_gives (BesideCaches FileCounts) _ _ beside_caches_rest)
-    (λ text. obeys_bind (BesideCaches FileCounts) _ _ _ beside_caches_link (obeys_in_world FileCounts _ _ (of_fault _ (saved_readable_image_counts words.store words.image exported.image)))
+    obeys_bind (BesideCaches FileCounts) _ _ _ beside_caches_link
+    (obeys_gives (BesideCaches FileCounts) _ _ beside_caches_rest)
+    (λ text. obeys_bind (BesideCaches FileCounts) _ _ _ beside_caches_link
+    (obeys_in_world FileCounts _ _ (of_fault _ (saved_readable_image_counts words.store words.image
+    exported.image)))
     (λ saved. obeys_yields (BesideCaches FileCounts) _ _ beside_caches_rest))
 
 pub export_counts : (words : ExportWords) → Obeys (BesideCaches FileCounts) refusal_cause (exports_command words)
 unfolding exports_command exports_given
 export_counts words =
-    obeys_bind (BesideCaches FileCounts) _ _ _ beside_caches_link (obeys_in_world FileCounts _ _ (read_given_counts words))
-    (λ given. obeys_bind (BesideCaches FileCounts) _ _ _ beside_caches_link (obeys_told (BesideCaches FileCounts) cause_of refusal_cause Fault _ (λ fault. refl) (exports_counts true given.frame given.group given.analyzed))
+    obeys_bind (BesideCaches FileCounts) _ _ _ beside_caches_link
+    (obeys_in_world FileCounts _ _ (read_given_counts words))
+    (λ given. obeys_bind (BesideCaches FileCounts) _ _ _ beside_caches_link
+    (obeys_told (BesideCaches FileCounts) cause_of refusal_cause Fault _ (λ fault. refl)
+    (exports_counts true given.frame given.group given.analyzed))
     (λ exported. finish_export_counts words exported))

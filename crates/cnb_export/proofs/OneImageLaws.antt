@@ -36,7 +36,8 @@ image_cause (image.Limit kind) = refl
 image_cause (image.File path) = refl
 image_cause image.Memory = refl
 
-of_image : {A : Type 0} (step : Seen → Result A ImageFault → Seen → Type 0) → AreDecided images.cause_of step → AreDecided cause_of (map_err of_image_fault step)
+of_image : {A : Type 0} (step : Seen → Result A ImageFault → Seen → Type 0) → AreDecided images.cause_of step
+    → AreDecided cause_of (map_err of_image_fault step)
 of_image step h = decided_told images.cause_of cause_of of_image_fault step image_cause h
 
 -- ---- what only reads
@@ -51,7 +52,8 @@ one_document store name = decided_reads images.cause_of _ _
 
 one_rows : (store name : List ℕ) → AreDecided cause_of (reads_layers store name)
 unfolding reads_layers
-one_rows store name = decided_bind cause_of _ _ (of_image _ (one_document store name)) (λ image. decided_yields cause_of image.layers)
+one_rows store name = decided_bind cause_of _ _ (of_image _ (one_document store name))
+    (λ image. decided_yields cause_of image.layers)
 
 one_previous : (store : List ℕ) (name : Option (List ℕ)) → AreDecided cause_of (reads_previous store name)
 one_previous store None = decided_yields cause_of _
@@ -66,21 +68,26 @@ one_cut app slices = decided_bind cause_of _ _ (of_store _ (decided_reads_tree a
 module _ (store : List ℕ) where
   one_links : (processes : List Process) → AreDecided cause_of (puts_links store processes)
   unfolding puts_links
-  one_links processes = decided_bind cause_of _ _ (decided_gives cause_of _) (λ tree. decided_bind cause_of _ _ (of_store _ (decided_puts store tree)) (λ digest. decided_yields cause_of (Some digest)))
+  one_links processes = decided_bind cause_of _ _ (decided_gives cause_of _)
+      (λ tree. decided_bind cause_of _ _ (of_store _ (decided_puts store tree))
+      (λ digest. decided_yields cause_of (Some digest)))
 
   one_whole : (app : List ℕ) → AreDecided cause_of (puts_whole store app)
   unfolding puts_whole
-  one_whole app = decided_bind cause_of _ _ (of_store _ (decided_puts_folder store app)) (λ digest. decided_gives cause_of _)
+  one_whole app = decided_bind cause_of _ _ (of_store _ (decided_puts_folder store app))
+      (λ digest. decided_gives cause_of _)
 
   one_part : (tree : Node) (digests : List (List ℕ)) → AreDecided cause_of (puts_part store tree digests)
   unfolding puts_part
-  one_part tree digests = decided_bind cause_of _ _ (of_store _ (decided_puts store tree)) (λ digest. decided_gives cause_of _)
+  one_part tree digests = decided_bind cause_of _ _ (of_store _ (decided_puts store tree))
+      (λ digest. decided_gives cause_of _)
 
   one_app : (app : List ℕ) (slices : Slices) → AreDecided cause_of (puts_app store app slices)
   unfolding puts_parts
   one_app app [] = one_whole app
   one_app app (slice ∷ slices) =
-      decided_bind cause_of _ _ (one_cut app (slice ∷ slices)) (λ parts. decided_each cause_of (puts_part store) parts [] (λ tree digests. one_part tree digests))
+      decided_bind cause_of _ _ (one_cut app (slice ∷ slices))
+      (λ parts. decided_each cause_of (puts_part store) parts [] (λ tree digests. one_part tree digests))
 
   one_process : (processes : List Process) → AreDecided cause_of (puts_process store processes)
   one_process [] = decided_yields cause_of None
@@ -102,19 +109,24 @@ module _ (frame : ExportFrame) where
       (λ run. decided_bind cause_of _ _ (one_previous frame.store analyzed.previous)
       (λ previous. decided_bind cause_of _ _ (one_group frame previous group)
       (λ gathered. decided_bind cause_of _ _ (one_trees _ _)
-      (λ digests. decided_bind cause_of _ _ (decided_gives cause_of _) (λ image. decided_bind cause_of _ _ (decided_gives cause_of _) (λ rows. decided_yields cause_of _))))))
+      (λ digests. decided_bind cause_of _ _ (decided_gives cause_of _)
+      (λ image. decided_bind cause_of _ _ (decided_gives cause_of _) (λ rows. decided_yields cause_of _))))))
 
 -- ---- the whole export, in which caches have no say
 
 module _ (frame : ExportFrame) (group : List GroupRow) (analyzed : Analyzed) where
   -- what was gained came to this end, or memory ran out while it was stored in caches
   abbrev Came : WorldAndCaches → Result Exported ExportFault → Type 0
-  Came old (Ok exported) = (gained : Gained) × (mid : Seen) × gains frame group analyzed old.world (Ok gained) mid × (exported.image ≡ gained.image) × (exported.rows ≡ gained.rows)
-  Came old (Err fault) = ((mid : Seen) × gains frame group analyzed old.world (Err fault) mid) ⊎ (cause_of fault ≡ OutOfMemory)
+  Came old (Ok exported) = (gained : Gained) × (mid : Seen) × gains frame group analyzed old.world (Ok gained) mid
+      × (exported.image ≡ gained.image) × (exported.rows ≡ gained.rows)
+  Came old (Err fault) = ((mid : Seen) × gains frame group analyzed old.world (Err fault) mid)
+      ⊎ (cause_of fault ≡ OutOfMemory)
 
-  came : (readable : Bool) (old new : WorldAndCaches) (result : Result Exported ExportFault) → exports readable frame group analyzed old result new → Came old result
+  came : (readable : Bool) (old new : WorldAndCaches) (result : Result Exported ExportFault)
+      → exports readable frame group analyzed old result new → Came old result
   unfolding exports ◌>>=◌ in_world in_caches stores_rows yields
-  came readable old new (Ok exported) (gained, mid, h, (gone, after, stored, made)) = (gained, mid.world, h.0, ap (λ e. e.image) made.0, ap (λ e. e.rows) made.0)
+  came readable old new (Ok exported) (gained, mid, h, (gone, after, stored, made)) =
+      (gained, mid.world, h.0, ap (λ e. e.image) made.0, ap (λ e. e.rows) made.0)
   came readable old new (Err fault) (inl h) = inl (new.world, h.0)
   came readable old new (Err fault) (inr (gained, mid, h, inl stored)) = inr stored.0.0
   came readable old new (Err fault) (inr (gained, mid, h, inr (gone, after, stored, never))) = absurd never
@@ -122,21 +134,34 @@ module _ (frame : ExportFrame) (group : List GroupRow) (analyzed : Analyzed) whe
   where_memory : (cause : Cause) (P : Type 0) → cause ≡ OutOfMemory → WhereDecided cause P
   where_memory cause P is = subst (λ c. WhereDecided c P) (sym is) tt
 
-  alike : (tree : Tree) (old old' : WorldAndCaches) (result other : Result Exported ExportFault) → old.world.files ≡ Some tree → old'.world.files ≡ Some tree → Came old result → Came old' other → AreOneImage result other
+  alike : (tree : Tree) (old old' : WorldAndCaches) (result other : Result Exported ExportFault)
+      → old.world.files ≡ Some tree → old'.world.files ≡ Some tree → Came old result → Came old' other
+      → AreOneImage result other
   alike tree old old' (Ok one) (Ok other) is is' (gained, mid, h, image, rows) (gained', mid', h', image', rows') =
-      let same : gained' ≡ gained = (one_gain frame group analyzed tree old.world mid old'.world mid' (Ok gained) (Ok gained') is is' h h').0 in
+      let same : gained' ≡ gained = (one_gain frame group analyzed tree old.world mid old'.world mid' (Ok gained)
+      (Ok gained') is is' h h').0 in
       (image' ∙ ap (λ g. g.image) same ∙ sym image, rows' ∙ ap (λ g. g.rows) same ∙ sym rows)
-  alike tree old old' (Ok one) (Err fault) is is' (gained, mid, h, image, rows) (inl (mid', h')) = one_gain frame group analyzed tree old.world mid old'.world mid' (Ok gained) (Err fault) is is' h h'
+  alike tree old old' (Ok one) (Err fault) is is' (gained, mid, h, image, rows)
+      (inl (mid', h')) = one_gain frame group analyzed tree old.world mid old'.world mid' (Ok gained)
+      (Err fault) is is' h h'
   alike tree old old' (Ok one) (Err fault) is is' h (inr memory) = where_memory (cause_of fault) ⊥ memory
-  alike tree old old' (Err fault) (Ok other) is is' (inl (mid, h)) (gained', mid', h', image', rows') = one_gain frame group analyzed tree old.world mid old'.world mid' (Err fault) (Ok gained') is is' h h'
+  alike tree old old' (Err fault) (Ok other) is is' (inl (mid, h))
+      (gained', mid', h', image', rows') = one_gain frame group analyzed tree old.world mid old'.world mid'
+      (Err fault) (Ok gained') is is' h h'
   alike tree old old' (Err fault) (Ok other) is is' (inr memory) h' = where_memory (cause_of fault) ⊥ memory
-  alike tree old old' (Err fault) (Err other) is is' (inl (mid, h)) (inl (mid', h')) = one_gain frame group analyzed tree old.world mid old'.world mid' (Err fault) (Err other) is is' h h'
+  alike tree old old' (Err fault) (Err other) is is' (inl (mid, h))
+      (inl (mid', h')) = one_gain frame group analyzed tree old.world mid old'.world mid' (Err fault)
+      (Err other) is is' h h'
   alike tree old old' (Err fault) (Err other) is is' (inr memory) h' = where_memory (cause_of fault) _ memory
-  alike tree old old' (Err fault) (Err other) is is' (inl h) (inr memory) = always (cause_of fault) _ (where_memory (cause_of other) _ memory)
+  alike tree old old' (Err fault) (Err other) is is' (inl h) (inr memory) = always (cause_of fault) _
+      (where_memory (cause_of other) _ memory)
 
-  pub one_image : (readable : Bool) (old new : WorldAndCaches) (result : Result Exported ExportFault) → exports readable frame group analyzed old result new → IsOneImage readable frame group analyzed old.world.files result
+  pub one_image : (readable : Bool) (old new : WorldAndCaches) (result : Result Exported ExportFault)
+      → exports readable frame group analyzed old result new → IsOneImage readable frame group analyzed
+      old.world.files result
   one_image readable old new result h = by old.world.files refl
     where
       by : (files : Option Tree) → old.world.files ≡ files → IsOneImage readable frame group analyzed files result
       by None is = tt
-      by (Some tree) is = λ old' new' other is' h'. alike tree old old' result other is is' (came readable old new result h) (came readable old' new' other h')
+      by (Some tree) is = λ old' new' other is' h'. alike tree old old' result other is is'
+          (came readable old new result h) (came readable old' new' other h')

@@ -25,14 +25,16 @@ abbrev pub saves_readable_image : List ℕ → List ℕ → ImageDoc → Seen �
 saves_readable_image store name image = map_err of_image_fault (writes_readable_image store name image)
 
 -- The text is made, and the image's document is written last, with bytes that read as the image.
-unfoldable pub finishes_export : ExportWords → Exported → WorldAndCaches → Result (List ℕ) ExportRefusal → WorldAndCaches → Type 0
+unfoldable pub finishes_export : ExportWords → Exported → WorldAndCaches → Result (List ℕ) ExportRefusal
+    → WorldAndCaches → Type 0
 finishes_export words exported = do
   text ← gives refusal_cause (Ok (exported_text words.image exported))
   saved ← in_world (map_err Fault (saves_readable_image words.store words.image exported.image))
   yields text
 
 -- The image is exported, with documents of the caches that read as their rows, and the export is finished.
-unfoldable pub exports_given : ExportWords → ExportGiven → WorldAndCaches → Result (List ℕ) ExportRefusal → WorldAndCaches → Type 0
+unfoldable pub exports_given : ExportWords → ExportGiven → WorldAndCaches → Result (List ℕ) ExportRefusal
+    → WorldAndCaches → Type 0
 exports_given words given = do
   exported ← map_err Fault (exports true given.frame given.group given.analyzed)
   finishes_export words exported

@@ -47,7 +47,8 @@ gains frame group analyzed = do
   yields (record { image = image; rows = rows; cached = gathered.cached; trees = gathered.trees })
 
 -- the same from where the run image and the layers of the previous image are read
-unfoldable pub gains_over : ExportFrame → List GroupRow → List ℕ → RunDoc → List LayerRow → Seen → Result Gained ExportFault → Seen → Type 0
+unfoldable pub gains_over : ExportFrame → List GroupRow → List ℕ → RunDoc → List LayerRow → Seen
+    → Result Gained ExportFault → Seen → Type 0
 gains_over frame group name run previous = do
   gathered ← exports_group frame previous group
   digests ← puts_trees frame gathered.slices gathered.processes
@@ -56,7 +57,8 @@ gains_over frame group name run previous = do
   yields (record { image = image; rows = rows; cached = gathered.cached; trees = gathered.trees })
 
 -- At last the layers that go into caches are stored, with documents that read as their rows where this is told.
-unfoldable pub exports : Bool → ExportFrame → List GroupRow → Analyzed → WorldAndCaches → Result Exported ExportFault → WorldAndCaches → Type 0
+unfoldable pub exports : Bool → ExportFrame → List GroupRow → Analyzed → WorldAndCaches
+    → Result Exported ExportFault → WorldAndCaches → Type 0
 exports readable frame group analyzed = do
   gained ← in_world (gains frame group analyzed)
   gone ← in_caches (stores_rows cause_of readable gained.cached gained.trees)

@@ -31,7 +31,8 @@ abbrev pub needed_at : {A : Type 0} → (List ℕ → Result A DocFault) → Lis
 needed_at form path None = Err (Document path Absent)
 needed_at form path (Some bytes) = value_at path (form bytes)
 
-unfoldable pub reads_needed : {A : Type 0} → (List ℕ → Result A DocFault) → List ℕ → List ℕ → Seen → Result A ExportFault → Seen → Type 0
+unfoldable pub reads_needed : {A : Type 0} → (List ℕ → Result A DocFault) → List ℕ → List ℕ → Seen
+    → Result A ExportFault → Seen → Type 0
 reads_needed form folder name = do
   path ← gives cause_of (Ok (joined folder name))
   found ← reads_document path

@@ -19,7 +19,12 @@ key_of row = row.key
 
 -- how the image is launched: the last process of each type, and the default type
 abbrev pub launch_of : List GroupRow → List Process → Option (List ℕ) → LaunchDoc
-launch_of group processes default = record { buildpacks = map key_of group; processes = last_of_each process_key processes; default = default }
+launch_of group processes default = record {
+  buildpacks = map key_of group;
+  processes = last_of_each process_key
+      processes;
+  default = default;
+}
 
 -- the image; a run image that was read has a row, whose digest is noted as its top
 abbrev pub image_of : List ℕ → RunDoc → List GroupRow → Gathered → Digests → ImageDoc

@@ -11,15 +11,18 @@ use Rattle.cnb_layers.specs.declared.fault.ExportFault.{ExportFault}
 use Rattle.cnb_export.specs.Exports.{exports}
 use Rattle.cnb_layers.specs.Refusals.{cause_of}
 
--- Two exports came to one image with the same layers, or to one refusal, unless a call failed or memory ran out in one of them.
+-- Two exports came to one image with the same layers, or to one refusal, unless a call failed or memory ran out in one
+-- of them.
 abbrev pub AreOneImage : Result Exported ExportFault → Result Exported ExportFault → Type 0
 AreOneImage (Ok one) (Ok other) = (other.image ≡ one.image) × (other.rows ≡ one.rows)
 AreOneImage (Ok one) (Err fault) = WhereDecided (cause_of fault) ⊥
 AreOneImage (Err fault) (Ok other) = WhereDecided (cause_of fault) ⊥
 AreOneImage (Err fault) (Err other) = WhereDecided (cause_of fault) (WhereDecided (cause_of other) (other ≡ fault))
 
--- Where the files are told, every export of the same from these files comes to the image of this one, whatever else is there.
-abbrev pub IsOneImage : Bool → ExportFrame → List GroupRow → Analyzed → Option Tree → Result Exported ExportFault → Type 0
+-- Where the files are told, every export of the same from these files comes to the image of this one, whatever else is
+-- there.
+abbrev pub IsOneImage : Bool → ExportFrame → List GroupRow → Analyzed → Option Tree → Result Exported ExportFault
+    → Type 0
 IsOneImage readable frame group analyzed files result =
     IfSome files (λ tree. (old new : WorldAndCaches) (other : Result Exported ExportFault) → old.world.files ≡ Some tree
     → exports readable frame group analyzed old other new → AreOneImage result other)

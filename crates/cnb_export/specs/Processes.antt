@@ -14,7 +14,8 @@ has_type (Some default) kind = bytes_eq default kind
 
 -- the default behind one more process: one that says so is it, and one that doesn't clears its type
 abbrev pub default_after : Option (List ℕ) → Process → Option (List ℕ)
-default_after default process = if process.default then Some process.kind else if has_type default process.kind then None else default
+default_after default process = if process.default then Some process.kind else if has_type default process.kind
+    then None else default
 
 -- the type of the default process
 abbrev pub default_of : List Process → Option (List ℕ)

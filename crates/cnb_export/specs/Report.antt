@@ -30,4 +30,5 @@ dropped_lines numbers = flat_map dropped_line numbers
 
 -- each layer, each cache that was dropped, and the image with how many rows it has
 abbrev pub exported_text : List ℕ → Exported → List ℕ
-exported_text name exported = layer_lines exported.rows ++ dropped_lines exported.gone ++ image_line name (length exported.image.rows)
+exported_text name exported = layer_lines exported.rows ++ dropped_lines exported.gone
+    ++ image_line name (length exported.image.rows)

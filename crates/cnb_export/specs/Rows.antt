@@ -27,7 +27,13 @@ abbrev pub layer_by : List GroupRow → LayerRow → List ℕ
 layer_by group row = plain (row.id ++ codes "@" ++ version_of group row.id ++ codes ":" ++ row.layer)
 
 abbrev pub layer_row : List GroupRow → ImageLayer → Row
-layer_row group layer = record { role = Layer; place = layer_place layer.row; digest = layer.row.digest; by = layer_by group layer.row }
+layer_row group layer = record {
+  role = Layer;
+  place = layer_place layer.row;
+  digest = layer.row.digest;
+  by =
+      layer_by group layer.row;
+}
 
 abbrev pub app_row : List ℕ → Row
 app_row digest = record { role = App; place = codes "/workspace"; digest = digest; by = codes "app" }
@@ -36,10 +42,17 @@ abbrev pub launcher_row : List ℕ → Row
 launcher_row digest = record { role = Launcher; place = codes "/cnb/lifecycle"; digest = digest; by = codes "launcher" }
 
 abbrev pub process_rows : Option (List ℕ) → List Row
-process_rows (Some digest) = record { role = Process; place = codes "/cnb/process"; digest = digest; by = codes "process" } ∷ []
+process_rows (Some digest) = record {
+  role = Process;
+  place = codes "/cnb/process";
+  digest = digest;
+  by = codes
+      "process";
+} ∷ []
 process_rows None = []
 
 -- the run image, the layers, the application, the launcher, and the links of the process types
 abbrev pub rows_of : List ℕ → RunDoc → List GroupRow → List ImageLayer → Digests → List Row
 rows_of name run group layers digests =
-    map (run_row name) run.rows ++ map (layer_row group) layers ++ map app_row digests.app ++ launcher_row digests.launcher ∷ [] ++ process_rows digests.process
+    map (run_row name) run.rows ++ map (layer_row group) layers ++ map app_row digests.app
+    ++ launcher_row digests.launcher ∷ [] ++ process_rows digests.process

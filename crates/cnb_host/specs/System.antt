@@ -9,7 +9,8 @@ pub record Ended : Type 0 where
   pub job : ChildJob
   pub end : End
 
--- the children that ended, in order, the counts of the calls that failed, and the path of the call on files that failed last
+-- the children that ended, in order, the counts of the calls that failed, and the path of the call on files that failed
+-- last
 pub record System : Type 0 where
   pub runs : List Ended
   pub file_faults : ℕ

@@ -51,10 +51,13 @@ image_same image.Memory = refl
 made_counts : (Says : List ℕ → Type 0) → Obeys {S = Seen} FileCounts cause_of (makes cause_of Says)
 unfolding makes
 made_counts Says old new (Ok bytes) h = subst (FileCounts _ old) (sym h.0) (files_rest.none old)
-made_counts Says old new (Err fault) h = subst (FileCounts _ old) (sym h.0) (subst (λ (cause : Cause). FileCounts (Some cause) old old) (sym h.1) (files_rest.memory old))
+made_counts Says old new (Err fault) h = subst (FileCounts _ old) (sym h.0)
+    (subst (λ (cause : Cause). FileCounts (Some cause) old old) (sym h.1) (files_rest.memory old))
 
-row_counts : (store root : List ℕ) (row : Row) (done : Unit {0}) → Obeys FileCounts cause_of (lays_row store root row done)
-row_counts store root row done = obeys_told FileCounts _ cause_of _ _ store_same (lay_stored_counts store row.digest root row.place)
+row_counts : (store root : List ℕ) (row : Row) (done : Unit {0})
+    → Obeys FileCounts cause_of (lays_row store root row done)
+row_counts store root row done = obeys_told FileCounts _ cause_of _ _ store_same
+    (lay_stored_counts store row.digest root row.place)
 
 lay_launch_counts : (root : List ℕ) (launch : LaunchDoc) → Obeys FileCounts cause_of (lays_launch root launch)
 unfolding lays_launch
@@ -65,21 +68,31 @@ lay_launch_counts root launch =
 lay_image_counts : (store root : List ℕ) (doc : ImageDoc) → Obeys FileCounts cause_of (lays_image store root doc)
 unfolding lays_image
 lay_image_counts store root doc =
-    obeys_bind FileCounts cause_of _ _ files_link (obeys_told FileCounts _ cause_of _ _ read_same (reads_counts read_cause _ _))
+    obeys_bind FileCounts cause_of _ _ files_link
+    (obeys_told FileCounts _ cause_of _ _ read_same (reads_counts read_cause _ _))
     (λ absent. obeys_bind FileCounts cause_of _ _ files_link (obeys_gives FileCounts cause_of _ files_rest)
-    (λ free. obeys_bind FileCounts cause_of _ _ files_link (obeys_each FileCounts cause_of _ files_link files_rest (row_counts store root) doc.rows tt) (λ laid. lay_launch_counts root doc.launch)))
+    (λ free. obeys_bind FileCounts cause_of _ _ files_link
+    (obeys_each FileCounts cause_of _ files_link files_rest (row_counts store root) doc.rows tt)
+    (λ laid. lay_launch_counts root doc.launch)))
 
 unpacking_counts : (store image root : List ℕ) → Obeys FileCounts cause_of (unpacks store image root)
 unfolding unpacks
 unpacking_counts store image root =
-    obeys_bind FileCounts cause_of _ _ files_link (obeys_told FileCounts _ cause_of _ _ image_same (image_counts store image)) (λ doc. lay_image_counts store root doc)
+    obeys_bind FileCounts cause_of _ _ files_link
+    (obeys_told FileCounts _ cause_of _ _ image_same (image_counts store image))
+    (λ doc. lay_image_counts store root doc)
 
 pub unpack_counts : (options : UnpackWords) → Obeys FileCounts cause_of (unpacks_command options)
 unfolding unpacks_command
 unpack_counts options =
     obeys_bind FileCounts cause_of _ _ files_link (obeys_gives FileCounts cause_of _ files_rest)
-    (λ text. obeys_bind FileCounts cause_of _ _ files_link (unpacking_counts options.store options.image options.root) (λ done. obeys_yields FileCounts cause_of text files_rest))
+    (λ text. obeys_bind FileCounts cause_of _ _ files_link
+    (unpacking_counts options.store options.image options.root)
+    (λ done. obeys_yields FileCounts cause_of text files_rest))
 
-pub launch_counts : (options : LaunchWords) (env : List Variable) → Obeys AllCounts cause_of (launches_command options env)
+pub launch_counts : (options : LaunchWords) (env : List Variable)
+    → Obeys AllCounts cause_of (launches_command options env)
 launch_counts options env =
-    command_obeys AllCounts all_link all_rest (λ A fits want. files_among cause_of _ (obeys_told FileCounts read_cause cause_of of_read_fault _ read_same (reads_counts read_cause fits want))) (runs_child_counts cause_of) options env
+    command_obeys AllCounts all_link all_rest (λ A fits want. files_among cause_of _
+    (obeys_told FileCounts read_cause cause_of of_read_fault _ read_same (reads_counts read_cause fits want)))
+    (runs_child_counts cause_of) options env

@@ -9,10 +9,14 @@ use Rattle.image_docs.specs.declared.launch_doc.LaunchDoc.{LaunchDoc}
 use Rattle.cnb_launch.specs.Documents.{launch_doc_at, launch_doc_under}
 use Rattle.cnb_launch.specs.Places.{launch_doc_path}
 
-pub doc_read : (root path : List ℕ) (o : Option Tree) (result : Result LaunchDoc ReadFault) → path ≡ launch_doc_path root → IfSome o (λ files. IsAnswer read_cause result (launch_doc_at path files)) → IfSome o (λ files. IsAnswer read_cause result (launch_doc_under root files))
+pub doc_read : (root path : List ℕ) (o : Option Tree) (result : Result LaunchDoc ReadFault)
+    → path ≡ launch_doc_path root → IfSome o (λ files. IsAnswer read_cause result (launch_doc_at path files))
+    → IfSome o (λ files. IsAnswer read_cause result (launch_doc_under root files))
 unfolding launch_doc_under
-doc_read root path o result same h = let P : List ℕ → Type 0 = λ p. IfSome o (λ files. IsAnswer read_cause result (launch_doc_at p files)) in subst P same h
+doc_read root path o result same h = let P : List ℕ → Type 0 = λ p. IfSome o
+    (λ files. IsAnswer read_cause result (launch_doc_at p files)) in subst P same h
 
-pub doc_refused : (root path : List ℕ) (o : Option Tree) (fault : ReadFault) → path ≡ launch_doc_path root → IfSome o (λ files. IsAnswer {A = LaunchDoc} read_cause (Err fault) (launch_doc_at path files))
+pub doc_refused : (root path : List ℕ) (o : Option Tree) (fault : ReadFault) → path ≡ launch_doc_path root
+    → IfSome o (λ files. IsAnswer {A = LaunchDoc} read_cause (Err fault) (launch_doc_at path files))
     → IfSome o (λ files. IsAnswer {A = LaunchDoc} read_cause (Err fault) (launch_doc_under root files))
 doc_refused root path o fault same h = doc_read root path o (Err fault) same h

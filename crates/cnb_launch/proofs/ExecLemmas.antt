@@ -19,17 +19,24 @@ unfolding runs_child
 not_run job old = (tt, record { files = refl; runs = refl }, refl, all_rest.memory old)
 
 -- the same job
-pub run_as : (job other : ChildJob) (old new : Seen) (result : Result End LaunchFault) → job ≡ other → runs_child cause_of job old result new → runs_child cause_of other old result new
-run_as job other old new result same h = let P : ChildJob → Type 0 = λ j. runs_child cause_of j old result new in subst P same h
+pub run_as : (job other : ChildJob) (old new : Seen) (result : Result End LaunchFault) → job ≡ other
+    → runs_child cause_of job old result new → runs_child cause_of other old result new
+run_as job other old new result same h = let P : ChildJob → Type 0 = λ j. runs_child cause_of j old result new
+    in subst P same h
 
-pub run_as_refused : (job other : ChildJob) (old new : Seen) (fault : LaunchFault) → job ≡ other → runs_child cause_of job old (Err fault) new → runs_child cause_of other old (Err fault) new
+pub run_as_refused : (job other : ChildJob) (old new : Seen) (fault : LaunchFault) → job ≡ other
+    → runs_child cause_of job old (Err fault) new → runs_child cause_of other old (Err fault) new
 run_as_refused job other old new fault same h = run_as job other old new (Err fault) same h
 
 -- a child that gave no end, and is counted where it failed
-pub child_counted : (T : Type 0) (fault : ChildFault) (given : LaunchFault) (old new : Seen) → new.file_faults ≡ old.file_faults → CountsChild {T = T} (Err fault) old.child_faults new.child_faults → given ≡ of_child_fault fault
+pub child_counted : (T : Type 0) (fault : ChildFault) (given : LaunchFault) (old new : Seen)
+    → new.file_faults ≡ old.file_faults → CountsChild {T = T} (Err fault) old.child_faults new.child_faults
+    → given ≡ of_child_fault fault
     → AllCounts (Some (cause_of given)) old new
-child_counted T fault given old new files children is = subst (λ f. AllCounts (Some (cause_of f)) old new) (sym is) (by fault children)
+child_counted T fault given old new files children is = subst (λ f. AllCounts (Some (cause_of f)) old new)
+    (sym is) (by fault children)
   where
-    by : (f : ChildFault) → CountsChild {T = T} (Err f) old.child_faults new.child_faults → AllCounts (Some (cause_of (of_child_fault f))) old new
+    by : (f : ChildFault) → CountsChild {T = T} (Err f) old.child_faults new.child_faults
+        → AllCounts (Some (cause_of (of_child_fault f))) old new
     by child_fault.Failed k = record { files = files; children = k }
     by child_fault.Memory k = record { files = omega (arith, files); children = omega (arith, k) }

@@ -24,12 +24,14 @@ module _ (image : ImageDoc) (readable : IsTrue (is_image_doc image)) where
   behind_base = (and_parts (is_base image.base) (are_rows image.rows && (is_env image.env && behind_env)) readable).1
 
   pub rows_can_be_laid : IsTrue (list_all is_row image.rows)
-  rows_can_be_laid = (and_parts (list_all is_row image.rows) (are_ordered image.rows) (and_parts (are_rows image.rows) (is_env image.env && behind_env) behind_base).0).0
+  rows_can_be_laid = (and_parts (list_all is_row image.rows) (are_ordered image.rows)
+      (and_parts (are_rows image.rows) (is_env image.env && behind_env) behind_base).0).0
 
   pub launch_can_be_read : IsTrue (is_launch_doc image.launch)
   launch_can_be_read =
       let from_env = (and_parts (are_rows image.rows) (is_env image.env && behind_env) behind_base).1 in
       let from_entrypoint = (and_parts (is_env image.env) behind_env from_env).1 in
-      let from_labels = (and_parts (is_short_path image.entrypoint) (list_all is_label image.labels && behind_labels) from_entrypoint).1 in
+      let from_labels = (and_parts (is_short_path image.entrypoint)
+      (list_all is_label image.labels && behind_labels) from_entrypoint).1 in
       let from_launch = (and_parts (list_all is_label image.labels) behind_labels from_labels).1 in
       (and_parts (is_launch_doc image.launch) (are_layers false image.layers && is_store image.store) from_launch).0

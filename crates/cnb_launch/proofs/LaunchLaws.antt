@@ -15,7 +15,9 @@ keeps_rest path =
     record { none = same; memory = same; decided = same }
 
 pub plan_keeps : (path root : List ℕ) (call : Call) (env : List Variable) → Preserves path (plans root call env)
-plan_keeps path = plan_obeys (λ last. Keeps path) (λ last. keeps_then path) (keeps_rest path) (λ A fits want. keeps_told path _ _ (keeps_reads path _ fits want)) (keeps_runs_child path _)
+plan_keeps path = plan_obeys (λ last. Keeps path) (λ last. keeps_then path) (keeps_rest path)
+    (λ A fits want. keeps_told path _ _ (keeps_reads path _ fits want)) (keeps_runs_child path _)
 
 pub launch_keeps : (path root : List ℕ) (call : Call) (env : List Variable) → Preserves path (launches root call env)
-launch_keeps path = launch_obeys (λ last. Keeps path) (λ last. keeps_then path) (keeps_rest path) (λ A fits want. keeps_told path _ _ (keeps_reads path _ fits want)) (keeps_runs_child path _)
+launch_keeps path = launch_obeys (λ last. Keeps path) (λ last. keeps_then path) (keeps_rest path)
+    (λ A fits want. keeps_told path _ _ (keeps_reads path _ fits want)) (keeps_runs_child path _)

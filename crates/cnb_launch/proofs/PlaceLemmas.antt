@@ -19,14 +19,20 @@ parts_of-both : (bytes more : List ℕ) → parts_of (bytes ++ 47 ∷ more) ≡ 
 parts_of-both [] more = refl
 parts_of-both (c ∷ cs) more = by (c == 47) (parts_of-both cs more)
   where
-    onto : parts_of (cs ++ 47 ∷ more) ≡ parts_of cs ++ parts_of more → onto_first c (parts_of (cs ++ 47 ∷ more)) ≡ onto_first c (parts_of cs) ++ parts_of more
-    onto e = let some = some_part cs in ap (onto_first c) e ∙ ap (λ parts. onto_first c (parts ++ parts_of more)) some.2 ∙ sym (ap (λ parts. onto_first c parts ++ parts_of more) some.2)
+    onto : parts_of (cs ++ 47 ∷ more) ≡ parts_of cs ++ parts_of more
+        → onto_first c (parts_of (cs ++ 47 ∷ more)) ≡ onto_first c (parts_of cs) ++ parts_of more
+    onto e = let some = some_part cs in ap (onto_first c) e
+        ∙ ap (λ parts. onto_first c (parts ++ parts_of more)) some.2
+        ∙ sym (ap (λ parts. onto_first c parts ++ parts_of more) some.2)
 
-    by : (v : Bool) → parts_of (cs ++ 47 ∷ more) ≡ parts_of cs ++ parts_of more → cond v ([] ∷ parts_of (cs ++ 47 ∷ more)) (onto_first c (parts_of (cs ++ 47 ∷ more))) ≡ cond v ([] ∷ parts_of cs) (onto_first c (parts_of cs)) ++ parts_of more
+    by : (v : Bool) → parts_of (cs ++ 47 ∷ more) ≡ parts_of cs ++ parts_of more
+        → cond v ([] ∷ parts_of (cs ++ 47 ∷ more)) (onto_first c (parts_of (cs ++ 47 ∷ more)))
+        ≡ cond v ([] ∷ parts_of cs) (onto_first c (parts_of cs)) ++ parts_of more
     by true e = ap (λ parts. [] ∷ parts) e
     by false e = onto e
 
-are_both_parts : (root place : List ℕ) → are_parts root ≡ true → are_parts place ≡ true → are_parts (root ++ place) ≡ true
+are_both_parts : (root place : List ℕ) → are_parts root ≡ true → are_parts place ≡ true
+    → are_parts (root ++ place) ≡ true
 are_both_parts [] place h k = absurd (cc)
 are_both_parts (c ∷ cs) [] h k = absurd (cc)
 are_both_parts (c ∷ cs) (d ∷ ds) h k =
@@ -56,18 +62,26 @@ or_path false root parts f p = absurd (cc)
 within : (n : ℕ) → n ≤ 32768 → nat_le n 32768 ≡ true
 within n h = grind (arith, nat_tests)
 
-pub place_is_path : (root place : List ℕ) → IsTrue (is_path root) → IsTrue (is_path place) → is_root root ≡ false → is_root place ≡ false → length root ≤ 4096 → length place ≤ 4096 → is_path (root ++ place) ≡ true
+pub place_is_path : (root place : List ℕ) → IsTrue (is_path root) → IsTrue (is_path place) → is_root root ≡ false
+    → is_root place ≡ false → length root ≤ 4096 → length place ≤ 4096 → is_path (root ++ place) ≡ true
 place_is_path root place h k a b short other =
-    or_path (nat_le (length (root ++ place)) 32768) (bytes_eq (root ++ place) (47 ∷ [])) (are_parts (root ++ place)) (within _ (let e = length-append root place in omega arith)) (are_both_parts root place (has_parts root h a) (has_parts place k b))
+    or_path (nat_le (length (root ++ place)) 32768) (bytes_eq (root ++ place) (47 ∷ []))
+    (are_parts (root ++ place)) (within _ (let e = length-append root place in omega arith))
+    (are_both_parts root place (has_parts root h a) (has_parts place k b))
 
 -- ---- the working folder of a process that was read
 
 short_dir : (dir : Option (List ℕ)) → is_working_dir dir ≡ true → IsShortDir dir
 short_dir None h = λ v e. absurd (cc)
-short_dir (Some place) h = let (short, path) = and_parts (nat_le (length place) 4096) (is_path place) h in λ v e. let same : place ≡ v = cc in let fits : nat_le (length v) 4096 ≡ true = ap (λ p. nat_le (length p) 4096) (sym same) ∙ short in leb-true (length v) 4096 fits
+short_dir (Some place) h = let (short, path) = and_parts (nat_le (length place) 4096) (is_path place) h
+    in λ v e. let same : place ≡ v = cc in let fits : nat_le (length v) 4096
+    ≡ true = ap (λ p. nat_le (length p) 4096) (sym same) ∙ short in leb-true (length v) 4096 fits
 
-pub process_dir : (process : Process) (dir : Option (List ℕ)) → dir ≡ process.dir → IsTrue (is_process process) → IsShortDir dir
-process_dir process dir same h = short_dir dir (ap is_working_dir same ∙ (and_parts (is_filled process.command) (is_working_dir process.dir) h).1)
+pub process_dir : (process : Process) (dir : Option (List ℕ)) → dir ≡ process.dir → IsTrue (is_process process)
+    → IsShortDir dir
+process_dir process dir same h = short_dir dir
+    (ap is_working_dir same ∙ (and_parts (is_filled process.command) (is_working_dir process.dir) h).1)
 
-pub one_of : (processes : List Process) (i : ℕ) (process : Process) → i < length processes → process ≡ get_or processes i process → IsTrue (list_all is_process processes) → IsTrue (is_process process)
+pub one_of : (processes : List Process) (i : ℕ) (process : Process) → i < length processes
+    → process ≡ get_or processes i process → IsTrue (list_all is_process processes) → IsTrue (is_process process)
 one_of processes i process lt is all = ap is_process is ∙ AllPass-from_list_all is_process processes all i process lt

@@ -22,7 +22,8 @@ or_bad path None = Err (BadExecOutput path)
 
 -- the environment behind a program that ended so
 abbrev pub after_exec : List ℕ → List Variable → End → Result (List Variable) LaunchFault
-after_exec path env end = if is_code 0 end.code then or_bad path (with_output end.side env) else Err (ExecFailed path end.code)
+after_exec path env end = if is_code 0 end.code then or_bad path (with_output end.side env) else Err
+    (ExecFailed path end.code)
 
 unfoldable pub runs_exec : List ℕ → List ℕ → List Variable → Seen → Result (List Variable) LaunchFault → Seen → Type 0
 runs_exec dir path env = do
@@ -30,9 +31,11 @@ runs_exec dir path env = do
   gives cause_of (after_exec path env end)
 
 -- those of one folder, each with what those before it put out
-abbrev pub runs_execs : List ℕ → List (List ℕ) → List Variable → Seen → Result (List Variable) LaunchFault → Seen → Type 0
+abbrev pub runs_execs : List ℕ → List (List ℕ) → List Variable → Seen → Result (List Variable) LaunchFault → Seen
+    → Type 0
 runs_execs dir = for_each (runs_exec dir)
 
 -- those of one folder after another
-abbrev pub runs_all : List ℕ → List (List (List ℕ)) → List Variable → Seen → Result (List Variable) LaunchFault → Seen → Type 0
+abbrev pub runs_all : List ℕ → List (List (List ℕ)) → List Variable → Seen → Result (List Variable) LaunchFault
+    → Seen → Type 0
 runs_all dir = for_each (runs_execs dir)

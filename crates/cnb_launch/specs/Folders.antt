@@ -26,7 +26,8 @@ is_wanted wanted other = false
 
 -- the paths of these names where such a thing stands
 abbrev pub wanted_among : Wanted → Tree → List ℕ → List (List ℕ) → List (List ℕ)
-wanted_among wanted files folder names = filter (λ path. is_wanted wanted (kind_of (item_at files path))) (map (joined folder) names)
+wanted_among wanted files folder names = filter (λ path. is_wanted wanted (kind_of (item_at files path)))
+    (map (joined folder) names)
 
 abbrev pub listed : Wanted → Tree → List ℕ → Result (List (List ℕ)) ReadFault
 listed wanted files folder = names_at files folder >>= (λ names. Ok (wanted_among wanted files folder names))
@@ -46,7 +47,8 @@ AreWithin room paths = All (λ path. length path ≤ room) paths
 -- ---- one folder after another
 
 -- those of one folder, in front of those behind it; the first that is refused decides
-abbrev pub in_front : Result (List (List ℕ)) ReadFault → Result (List (List (List ℕ))) ReadFault → Result (List (List (List ℕ))) ReadFault
+abbrev pub in_front : Result (List (List ℕ)) ReadFault → Result (List (List (List ℕ))) ReadFault
+    → Result (List (List (List ℕ))) ReadFault
 in_front (Ok paths) (Ok behind) = Ok (paths ∷ behind)
 in_front (Ok paths) (Err fault) = Err fault
 in_front (Err fault) behind = Err fault

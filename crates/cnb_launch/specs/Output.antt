@@ -1,4 +1,5 @@
--- What a program in `exec.d` puts out: a TOML table of texts (buildpack.md, "exec.d"). What counts as good is this project's
+-- What a program in `exec.d` puts out: a TOML table of texts (buildpack.md, "exec.d"). What counts as good is this
+-- project's
 -- own.
 use Rattle.std.specs.Prelude.{ℕ, ◌==◌, ◌&&◌, Bool, not, List, length, nat_lt, if◌then◌else◌, Option, Some, None}
 use Rattle.std.specs.List.{list_any}
@@ -11,7 +12,8 @@ use Rattle.cnb_toml.specs.Document.{document_in}
 
 -- a name that a variable can have, and a value
 abbrev pub is_variable : List ℕ → List ℕ → Bool
-is_variable name text = not (length name == 0) && not (list_any (λ byte. byte == 61) name) && not (list_any (λ byte. byte == 0) text)
+is_variable name text = not (length name == 0) && not (list_any (λ byte. byte == 61) name)
+    && not (list_any (λ byte. byte == 0) text)
 
 abbrev pub with_string : List ℕ → Option (List ℕ) → List Variable → Option (List Variable)
 with_string name None env = None

@@ -48,20 +48,24 @@ prepared_of root chosen env execs = record {
 }
 
 -- the layers' environment files and the names of their programs, for the process that is run
-unfoldable pub prepares_in : List ℕ → List Variable → ChosenProcess → List (List (List ℕ)) → Seen → Result Prepared LaunchFault → Seen → Type 0
+unfoldable pub prepares_in : List ℕ → List Variable → ChosenProcess → List (List (List ℕ)) → Seen
+    → Result Prepared LaunchFault → Seen → Type 0
 prepares_in root env chosen sets = do
-  start ← map_err of_read_fault (reads read_cause (λ files. are_fit_launch_sets chosen.kind files sets) (launch_env sets chosen.kind env))
+  start ← map_err of_read_fault (reads read_cause (λ files. are_fit_launch_sets chosen.kind files sets)
+      (launch_env sets chosen.kind env))
   execs ← map_err of_read_fault (reads read_cause (are_fit_execs chosen.kind sets) (execs_in chosen.kind sets))
   gives cause_of (Ok (prepared_of root chosen start execs))
 
 -- the process, and the layers
-unfoldable pub prepares_of : List ℕ → Call → List Variable → LaunchDoc → Seen → Result Prepared LaunchFault → Seen → Type 0
+unfoldable pub prepares_of : List ℕ → Call → List Variable → LaunchDoc → Seen → Result Prepared LaunchFault → Seen
+    → Type 0
 prepares_of root call env doc = do
   chosen ← gives cause_of (chosen_in doc call)
   sets ← map_err of_read_fault (reads read_cause (are_fit_layers root doc.buildpacks) (sets_in root doc.buildpacks))
   prepares_in root env chosen sets
 
--- The document, the process, the layers, their environment files, the names of their programs: all of it is read before the
+-- The document, the process, the layers, their environment files, the names of their programs: all of it is read before
+-- the
 -- first program runs.
 unfoldable pub prepares : List ℕ → Call → List Variable → Seen → Result Prepared LaunchFault → Seen → Type 0
 prepares root call env = do
@@ -88,7 +92,14 @@ args_of [] = []
 args_of (program ∷ args) = args
 
 abbrev pub launch_job : LaunchPlan → ChildJob
-launch_job plan = record { program = program_of plan.command; args = args_of plan.command; env = plan.env; dir = plan.dir; side = false }
+launch_job plan = record {
+  program = program_of plan.command;
+  args = args_of plan.command;
+  env = plan.env;
+  dir =
+      plan.dir;
+  side = false;
+}
 
 -- it is run once
 unfoldable pub launches : List ℕ → Call → List Variable → Seen → Result End LaunchFault → Seen → Type 0

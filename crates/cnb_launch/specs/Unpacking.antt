@@ -1,4 +1,5 @@
--- How an image is laid out under a root (platform.md, "exporter": its layers; the overlay and the document of the launch are
+-- How an image is laid out under a root (platform.md, "exporter": its layers; the overlay and the document of the
+-- launch are
 -- this project's own).
 use Rattle.std.specs.Prelude.{ℕ, ◌≡◌, Bool, true, false, List, codes, if◌then◌else◌, Result, Ok, Err}
 use Rattle.cnb_world.specs.Tree.{item_at, kind_of}
@@ -54,7 +55,8 @@ lays_launch root launch = do
 -- the root must be absent, the rows are laid in their order, and then the document of the launch
 unfoldable pub lays_image : List ℕ → List ℕ → ImageDoc → Seen → Result (Unit {0}) LaunchFault → Seen → Type 0
 lays_image store root doc = do
-  absent ← map_err of_read_fault (reads read_cause (λ files. true) (λ files. Ok (is_absent (kind_of (item_at files root)))))
+  absent ← map_err of_read_fault (reads read_cause (λ files. true)
+      (λ files. Ok (is_absent (kind_of (item_at files root)))))
   free ← gives cause_of (if_absent root absent)
   laid ← for_each (lays_row store root) doc.rows tt
   lays_launch root doc.launch

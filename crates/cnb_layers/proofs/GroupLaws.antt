@@ -35,7 +35,8 @@ use Rattle.cnb_layers.proofs.PatternLaws.{decided_slices}
 stored_cause : (fault : StoreFault) → cause_of (Store fault) ≡ stored.cause_of fault
 stored_cause fault = refl
 
-pub of_store : {A : Type 0} (step : Seen → Result A StoreFault → Seen → Type 0) → AreDecided stored.cause_of step → AreDecided cause_of (map_err Store step)
+pub of_store : {A : Type 0} (step : Seen → Result A StoreFault → Seen → Type 0) → AreDecided stored.cause_of step
+    → AreDecided cause_of (map_err Store step)
 of_store step h = decided_told stored.cause_of cause_of Store step stored_cause h
 
 -- ---- what only reads
@@ -50,7 +51,9 @@ one_some form at = decided_bind cause_of _ _ (decided_reads cause_of _ _) (λ fo
 
 one_launch : (folder id : List ℕ) → AreDecided cause_of (reads_launch folder id)
 unfolding reads_launch
-one_launch folder id = decided_bind cause_of _ _ (decided_gives cause_of _) (λ at. decided_bind cause_of _ _ (one_as launch_in at) (λ launch. decided_gives cause_of (one_default id launch)))
+one_launch folder id = decided_bind cause_of _ _ (decided_gives cause_of _)
+    (λ at. decided_bind cause_of _ _ (one_as launch_in at)
+    (λ launch. decided_gives cause_of (one_default id launch)))
 
 one_store : (folder : List ℕ) → AreDecided cause_of (reads_store_document folder)
 unfolding reads_store_document
@@ -66,7 +69,8 @@ one_names folder = decided_bind cause_of _ _ (decided_reads cause_of _ _) (λ ki
 
 one_layer_names : (folder : List ℕ) → AreDecided cause_of (reads_layer_names folder)
 unfolding reads_layer_names
-one_layer_names folder = decided_bind cause_of _ _ (one_names folder) (λ names. decided_gives cause_of (Ok (layers_among names)))
+one_layer_names folder = decided_bind cause_of _ _ (one_names folder)
+    (λ names. decided_gives cause_of (Ok (layers_among names)))
 
 one_layer_document : (at : List ℕ) → AreDecided cause_of (reads_layer at)
 unfolding reads_layer
@@ -82,9 +86,11 @@ one_tree_look store digest = decided_reads stored.cause_of _ _
 
 one_stored : (store digest : List ℕ) → AreDecided cause_of (looks_for_stored store digest)
 unfolding looks_for_stored
-one_stored store digest = decided_bind cause_of _ _ (of_store _ (one_tree_look store digest)) (λ stored. decided_gives cause_of _)
+one_stored store digest = decided_bind cause_of _ _ (of_store _ (one_tree_look store digest))
+    (λ stored. decided_gives cause_of _)
 
-one_check : (store : List ℕ) (digest : Option (List ℕ)) (before : Option LayerRow) → AreDecided cause_of (checks_reused store digest before)
+one_check : (store : List ℕ) (digest : Option (List ℕ)) (before : Option LayerRow)
+    → AreDecided cause_of (checks_reused store digest before)
 one_check store (Some digest) before = decided_yields cause_of tt
 one_check store None None = decided_yields cause_of tt
 one_check store None (Some row) = one_stored store row.digest
@@ -98,8 +104,10 @@ module _ (store : List ℕ) where
 
   one_there : (cache launch : Bool) (at : List ℕ) → AreDecided cause_of (takes_there store cache launch at)
   unfolding takes_whole puts_contents
-  one_there true launch at = decided_bind cause_of _ _ (of_store _ (decided_reads_tree at)) (λ tree. decided_bind cause_of _ _ (one_tree launch tree) (λ digest. decided_yields cause_of _))
-  one_there false true at = decided_bind cause_of _ _ (of_store _ (decided_puts_folder store at)) (λ digest. decided_yields cause_of _)
+  one_there true launch at = decided_bind cause_of _ _ (of_store _ (decided_reads_tree at))
+      (λ tree. decided_bind cause_of _ _ (one_tree launch tree) (λ digest. decided_yields cause_of _))
+  one_there false true at = decided_bind cause_of _ _ (of_store _ (decided_puts_folder store at))
+      (λ digest. decided_yields cause_of _)
   one_there false false at = decided_yields cause_of _
 
   one_taken : (flags : Flags) (at : List ℕ) (there : Bool) → AreDecided cause_of (takes_contents store flags at there)
@@ -108,48 +116,67 @@ module _ (store : List ℕ) where
 
   one_contents : (folder layer : List ℕ) (flags : Flags) → AreDecided cause_of (finds_contents store folder layer flags)
   unfolding finds_contents
-  one_contents folder layer flags = decided_bind cause_of _ _ (decided_gives cause_of _) (λ at. decided_bind cause_of _ _ (one_look at) (λ there. one_taken flags at there))
+  one_contents folder layer flags = decided_bind cause_of _ _ (decided_gives cause_of _)
+      (λ at. decided_bind cause_of _ _ (one_look at) (λ there. one_taken flags at there))
 
-  one_settled : (line : ExportRow) (id layer : List ℕ) (digest : Option (List ℕ)) (before : Option LayerRow) → AreDecided cause_of (settles_by line store id layer digest before)
+  one_settled : (line : ExportRow) (id layer : List ℕ) (digest : Option (List ℕ)) (before : Option LayerRow)
+      → AreDecided cause_of (settles_by line store id layer digest before)
   unfolding reuses
   one_settled table.Skip id layer digest before = decided_yields cause_of _
   one_settled table.Add id layer digest before = decided_yields cause_of _
-  one_settled table.Reuse id layer digest before = decided_bind cause_of _ _ (one_check store digest before) (λ checked. decided_yields cause_of _)
+  one_settled table.Reuse id layer digest before = decided_bind cause_of _ _ (one_check store digest before)
+      (λ checked. decided_yields cause_of _)
   one_settled table.NoContents id layer digest before = decided_gives cause_of _
   one_settled table.NoPrevious id layer digest before = decided_gives cause_of _
 
-  one_found : (previous : List LayerRow) (id folder layer : List ℕ) (doc : Option LayerDoc) → AreDecided cause_of (keeps_found store previous id folder layer doc)
+  one_found : (previous : List LayerRow) (id folder layer : List ℕ) (doc : Option LayerDoc)
+      → AreDecided cause_of (keeps_found store previous id folder layer doc)
   unfolding keeps_documented
   one_found previous id folder layer None = decided_yields cause_of None
   one_found previous id folder layer (Some doc) =
       decided_bind cause_of _ _ (one_contents folder layer (flags_of doc))
-      (λ contents. decided_bind cause_of _ _ (one_settled (decision_of (flags_of doc) contents (row_of previous id layer)) id layer contents.digest (row_of previous id layer))
+      (λ contents. decided_bind cause_of _ _ (one_settled
+      (decision_of (flags_of doc) contents (row_of previous id layer)) id layer contents.digest
+      (row_of previous id layer))
       (λ settled. decided_gives cause_of _))
 
-  one_layer : (previous : List LayerRow) (id folder layer : List ℕ) → AreDecided cause_of (keeps_layer store previous id folder layer)
+  one_layer : (previous : List LayerRow) (id folder layer : List ℕ)
+      → AreDecided cause_of (keeps_layer store previous id folder layer)
   unfolding keeps_layer
-  one_layer previous id folder layer = decided_bind cause_of _ _ (decided_gives cause_of _) (λ document. decided_bind cause_of _ _ (one_layer_document document) (λ doc. one_found previous id folder layer doc))
+  one_layer previous id folder layer = decided_bind cause_of _ _ (decided_gives cause_of _)
+      (λ document. decided_bind cause_of _ _ (one_layer_document document)
+      (λ doc. one_found previous id folder layer doc))
 
-  one_of : (previous : List LayerRow) (id folder layer : List ℕ) (gathered : Gathered) → AreDecided cause_of (exports_layer store previous id folder layer gathered)
+  one_of : (previous : List LayerRow) (id folder layer : List ℕ) (gathered : Gathered)
+      → AreDecided cause_of (exports_layer store previous id folder layer gathered)
   unfolding exports_layer
-  one_of previous id folder layer gathered = decided_bind cause_of _ _ (one_layer previous id folder layer) (λ kept. decided_gives cause_of _)
+  one_of previous id folder layer gathered = decided_bind cause_of _ _ (one_layer previous id folder layer)
+      (λ kept. decided_gives cause_of _)
 
-  one_layers : (previous : List LayerRow) (id folder : List ℕ) (gathered : Gathered) → AreDecided cause_of (exports_layers store previous id folder gathered)
+  one_layers : (previous : List LayerRow) (id folder : List ℕ) (gathered : Gathered)
+      → AreDecided cause_of (exports_layers store previous id folder gathered)
   unfolding exports_layers
   one_layers previous id folder gathered =
-      decided_bind cause_of _ _ (one_layer_names folder) (λ names. decided_each cause_of (exports_layer store previous id folder) names gathered (λ layer so_far. one_of previous id folder layer so_far))
+      decided_bind cause_of _ _ (one_layer_names folder)
+      (λ names. decided_each cause_of (exports_layer store previous id folder) names gathered
+      (λ layer so_far. one_of previous id folder layer so_far))
 
 one_documents : (folder id : List ℕ) (gathered : Gathered) → AreDecided cause_of (exports_documents folder id gathered)
 unfolding exports_documents exports_store_document
 one_documents folder id gathered =
     decided_bind cause_of _ _ (one_launch folder id)
-    (λ launch. decided_bind cause_of _ _ (decided_slices id launch.slices) (λ slices. decided_bind cause_of _ _ (one_store folder) (λ store. decided_gives cause_of _)))
+    (λ launch. decided_bind cause_of _ _ (decided_slices id launch.slices)
+    (λ slices. decided_bind cause_of _ _ (one_store folder) (λ store. decided_gives cause_of _)))
 
-one_buildpack : (frame : ExportFrame) (previous : List LayerRow) (row : GroupRow) (gathered : Gathered) → AreDecided cause_of (exports_buildpack frame previous row gathered)
+one_buildpack : (frame : ExportFrame) (previous : List LayerRow) (row : GroupRow) (gathered : Gathered)
+    → AreDecided cause_of (exports_buildpack frame previous row gathered)
 unfolding exports_buildpack
 one_buildpack frame previous row gathered =
     decided_bind cause_of _ _ (decided_gives cause_of _)
-    (λ folder. decided_bind cause_of _ _ (one_documents folder row.key.id gathered) (λ documents. one_layers frame.store previous row.key.id folder documents))
+    (λ folder. decided_bind cause_of _ _ (one_documents folder row.key.id gathered)
+    (λ documents. one_layers frame.store previous row.key.id folder documents))
 
-pub one_group : (frame : ExportFrame) (previous : List LayerRow) (group : List GroupRow) → AreDecided cause_of (exports_group frame previous group)
-one_group frame previous group = decided_each cause_of (exports_buildpack frame previous) group nothing_gathered (λ row so_far. one_buildpack frame previous row so_far)
+pub one_group : (frame : ExportFrame) (previous : List LayerRow) (group : List GroupRow)
+    → AreDecided cause_of (exports_group frame previous group)
+one_group frame previous group = decided_each cause_of (exports_buildpack frame previous) group nothing_gathered
+    (λ row so_far. one_buildpack frame previous row so_far)

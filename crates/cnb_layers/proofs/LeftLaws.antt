@@ -46,27 +46,32 @@ one_is id read launch h = by (nat_lt 1 (length (defaults_of read.processes))) h
     by true e = absurd (cc)
     by false e = cc
 
-pub launch_left : (folder id : List ℕ) (old new : Seen) (launch : LaunchToml) → reads_launch folder id old (Ok launch) new → is_launch_toml launch ≡ true
+pub launch_left : (folder id : List ℕ) (old new : Seen) (launch : LaunchToml)
+    → reads_launch folder id old (Ok launch) new → is_launch_toml launch ≡ true
 unfolding reads_launch reads_as ◌>>=◌ gives
 launch_left folder id old new launch (path, m1, at, (read, m2, (found, m3, reading, (s1, is, c1)), (s2, one, c2))) =
-    subst (λ l. is_launch_toml l ≡ true) (one_is id read launch one) (launch_readable (unwrap_or found []) read (value_read path (launch_in (unwrap_or found [])) read is))
+    subst (λ l. is_launch_toml l ≡ true) (one_is id read launch one)
+    (launch_readable (unwrap_or found []) read (value_read path (launch_in (unwrap_or found [])) read is))
 
 abbrev pub is_store_left : Option StoreToml → Bool
 is_store_left None = true
 is_store_left (Some store) = is_store_toml store
 
-pub store_left : (folder : List ℕ) (old new : Seen) (store : Option StoreToml) → reads_store_document folder old (Ok store) new → is_store_left store ≡ true
+pub store_left : (folder : List ℕ) (old new : Seen) (store : Option StoreToml)
+    → reads_store_document folder old (Ok store) new → is_store_left store ≡ true
 unfolding reads_store_document reads_some ◌>>=◌ gives
 store_left folder old new None h = refl
 store_left folder old new (Some store) (path, m1, at, (found, m2, reading, (same, is, cause))) =
     let (bytes, e) = some_value_read store_in path found store is in store_readable bytes store e
 
 -- no name of a layer stands twice
-pub names_left : (folder : List ℕ) (old new : Seen) (names : List (List ℕ)) → reads_layer_names folder old (Ok names) new → are_distinct bytes_eq same_name names ≡ true
+pub names_left : (folder : List ℕ) (old new : Seen) (names : List (List ℕ))
+    → reads_layer_names folder old (Ok names) new → are_distinct bytes_eq same_name names ≡ true
 unfolding reads_layer_names ◌>>=◌ gives
 names_left folder old new names (listed, mid, reading, (same, is, cause)) =
     let e : layers_among listed ≡ names = cc in
-    subst (λ all. are_distinct bytes_eq same_name all ≡ true) e (ascending_distinct is_layer_name (filter_map stem_of listed))
+    subst (λ all. are_distinct bytes_eq same_name all ≡ true) e
+    (ascending_distinct is_layer_name (filter_map stem_of listed))
 
 -- ---- a layer
 
@@ -74,7 +79,8 @@ abbrev is_doc_left : Option LayerDoc → Bool
 is_doc_left None = true
 is_doc_left (Some doc) = is_layer_doc doc
 
-doc_left : (path : List ℕ) (old new : Seen) (doc : Option LayerDoc) → reads_layer path old (Ok doc) new → is_doc_left doc ≡ true
+doc_left : (path : List ℕ) (old new : Seen) (doc : Option LayerDoc) → reads_layer path old (Ok doc) new
+    → is_doc_left doc ≡ true
 unfolding reads_layer ◌>>=◌ gives
 doc_left path old new None h = refl
 doc_left path old new (Some doc) (found, mid, reading, (same, is, cause)) =
@@ -86,51 +92,67 @@ IsCached row tree = IfSome tree (λ t. (row.flags.cache ≡ true) × (row.digest
 
 -- contents whose tree is held are those of a layer that is cached, and have the digest of that tree
 abbrev AreHeld : Flags → Contents → Type 0
-AreHeld flags contents = IfSome contents.tree (λ tree. (flags.cache ≡ true) × (contents.digest ≡ Some (digest_of_tree tree)))
+AreHeld flags contents = IfSome contents.tree
+    (λ tree. (flags.cache ≡ true) × (contents.digest ≡ Some (digest_of_tree tree)))
 
 -- a tree that was put has the digest that is answered
-put_digest : (store : List ℕ) (tree : Node) (old : Seen) (digest : List ℕ) (new : Seen) → puts_tree store tree old (Ok digest) new → digest ≡ digest_of_tree tree
+put_digest : (store : List ℕ) (tree : Node) (old : Seen) (digest : List ℕ) (new : Seen)
+    → puts_tree store tree old (Ok digest) new → digest ≡ digest_of_tree tree
 unfolding puts_tree
 put_digest store tree old digest new h = h.leaves.0
 
-tree_digest : (store : List ℕ) (launch : Bool) (tree : Node) (old new : Seen) (digest : List ℕ) → keeps_tree store launch tree old (Ok digest) new → digest ≡ digest_of_tree tree
+tree_digest : (store : List ℕ) (launch : Bool) (tree : Node) (old new : Seen) (digest : List ℕ)
+    → keeps_tree store launch tree old (Ok digest) new → digest ≡ digest_of_tree tree
 unfolding gives map_err
 tree_digest store true tree old new digest h = put_digest store tree old digest new h
 tree_digest store false tree old new digest (same, is, cause) = cc
 
-there_held : (store : List ℕ) (flags : Flags) (cache launch : Bool) (path : List ℕ) (old new : Seen) (contents : Contents) → flags.cache ≡ cache → takes_there store cache launch path old (Ok contents) new → AreHeld flags contents
+there_held : (store : List ℕ) (flags : Flags) (cache launch : Bool) (path : List ℕ) (old new : Seen)
+    (contents : Contents) → flags.cache ≡ cache → takes_there store cache launch path old (Ok contents) new
+    → AreHeld flags contents
 unfolding takes_whole puts_contents ◌>>=◌ yields
 there_held store flags true launch path old new contents cache (tree, m1, read, (digest, m2, keep, (is, same))) =
     subst (AreHeld flags) (sym is) (cache, ap Some (tree_digest store launch tree m1 m2 digest keep))
-there_held store flags false true path old new contents cache (digest, m1, put, (is, same)) = subst (AreHeld flags) (sym is) tt
+there_held store flags false true path old new contents cache (digest, m1, put, (is, same)) = subst
+    (AreHeld flags) (sym is) tt
 there_held store flags false false path old new contents cache (is, same) = subst (AreHeld flags) (sym is) tt
 
-taken_held : (store : List ℕ) (flags : Flags) (path : List ℕ) (there : Bool) (old new : Seen) (contents : Contents) → takes_contents store flags path there old (Ok contents) new → AreHeld flags contents
+taken_held : (store : List ℕ) (flags : Flags) (path : List ℕ) (there : Bool) (old new : Seen)
+    (contents : Contents) → takes_contents store flags path there old (Ok contents) new → AreHeld flags contents
 unfolding yields
-taken_held store flags path true old new contents h = there_held store flags flags.cache flags.launch path old new contents refl h
+taken_held store flags path true old new contents h = there_held store flags flags.cache flags.launch path old new
+    contents refl h
 taken_held store flags path false old new contents (is, same) = subst (AreHeld flags) (sym is) tt
 
-contents_held : (store folder layer : List ℕ) (flags : Flags) (old new : Seen) (contents : Contents) → finds_contents store folder layer flags old (Ok contents) new → AreHeld flags contents
+contents_held : (store folder layer : List ℕ) (flags : Flags) (old new : Seen) (contents : Contents)
+    → finds_contents store folder layer flags old (Ok contents) new → AreHeld flags contents
 unfolding finds_contents ◌>>=◌
-contents_held store folder layer flags old new contents (path, m1, at, (there, m2, look, take)) = taken_held store flags path there m2 new contents take
+contents_held store folder layer flags old new contents
+    (path, m1, at, (there, m2, look, take)) = taken_held store flags path there m2 new contents take
 
 -- where contents have a digest, the layer has that one
 abbrev HasDigest : Option (List ℕ) → Option Settled → Type 0
 HasDigest digest settled = IfSome digest (λ d. IfSome settled (λ s. s.digest ≡ d))
 
-settled_digest : (reused : Option Bool) (digest : Option (List ℕ)) (settled : Option Settled) → settled ≡ settled_as reused digest → HasDigest digest settled
+settled_digest : (reused : Option Bool) (digest : Option (List ℕ)) (settled : Option Settled)
+    → settled ≡ settled_as reused digest → HasDigest digest settled
 settled_digest reused None settled is = tt
-settled_digest reused (Some d) settled is = subst (λ (s : Option Settled). IfSome s (λ one. one.digest ≡ d)) (sym is) refl
+settled_digest reused (Some d) settled is = subst (λ (s : Option Settled). IfSome s (λ one. one.digest ≡ d))
+    (sym is) refl
 
-reused_digest : (digest : Option (List ℕ)) (before : Option LayerRow) (settled : Option Settled) → settled ≡ settled_as (Some true) (digest_or digest before) → HasDigest digest settled
+reused_digest : (digest : Option (List ℕ)) (before : Option LayerRow) (settled : Option Settled)
+    → settled ≡ settled_as (Some true) (digest_or digest before) → HasDigest digest settled
 reused_digest None before settled is = tt
 reused_digest (Some d) before settled is = settled_digest (Some true) (Some d) settled is
 
-settled_so : (row : ExportRow) (store id layer : List ℕ) (digest : Option (List ℕ)) (before : Option LayerRow) (old new : Seen) (settled : Option Settled) → settles_by row store id layer digest before old (Ok settled) new → HasDigest digest settled
+settled_so : (row : ExportRow) (store id layer : List ℕ) (digest : Option (List ℕ)) (before : Option LayerRow)
+    (old new : Seen) (settled : Option Settled) → settles_by row store id layer digest before old (Ok settled) new
+    → HasDigest digest settled
 unfolding reuses ◌>>=◌ gives yields
 settled_so Skip store id layer digest before old new settled (is, same) = settled_digest None digest settled is
 settled_so Add store id layer digest before old new settled (is, same) = settled_digest (Some false) digest settled is
-settled_so Reuse store id layer digest before old new settled (checked, mid, check, (is, same)) = reused_digest digest before settled is
+settled_so Reuse store id layer digest before old new settled
+    (checked, mid, check, (is, same)) = reused_digest digest before settled is
 settled_so NoContents store id layer digest before old new settled (same, is, cause) = absurd (cc)
 settled_so NoPrevious store id layer digest before old new settled (same, is, cause) = absurd (cc)
 
@@ -144,32 +166,50 @@ pub record IsKeptLayer (id layer : List ℕ) (kept : Kept) : Type 0 where
 abbrev pub Keeps : List ℕ → List ℕ → Option Kept → Type 0
 Keeps id layer kept = IfSome kept (IsKeptLayer id layer)
 
-tree_cached : (id layer : List ℕ) (flags : Flags) (meta : Meta) (digest : Option (List ℕ)) (tree : Option Node) (settled : Settled) → IfSome tree (λ t. (flags.cache ≡ true) × (digest ≡ Some (digest_of_tree t))) → HasDigest digest (Some settled)
+tree_cached : (id layer : List ℕ) (flags : Flags) (meta : Meta) (digest : Option (List ℕ)) (tree : Option Node)
+    (settled : Settled) → IfSome tree (λ t. (flags.cache ≡ true) × (digest ≡ Some (digest_of_tree t)))
+    → HasDigest digest (Some settled)
     → IsCached (kept_with id layer flags meta tree settled).row tree
 tree_cached id layer flags meta digest None settled held has = tt
-tree_cached id layer flags meta digest (Some tree) settled (cache, is) has = (cache, subst (λ d. HasDigest d (Some settled)) is has)
+tree_cached id layer flags meta digest (Some tree) settled (cache, is) has =
+    (cache, subst (λ d. HasDigest d (Some settled)) is has)
 
-kept_is : (id layer : List ℕ) (flags : Flags) (meta : Meta) (contents : Contents) (settled : Option Settled) → is_kept meta ≡ true → AreHeld flags contents → HasDigest contents.digest settled
+kept_is : (id layer : List ℕ) (flags : Flags) (meta : Meta) (contents : Contents) (settled : Option Settled)
+    → is_kept meta ≡ true → AreHeld flags contents → HasDigest contents.digest settled
     → Keeps id layer (kept_of id layer flags meta contents.tree settled)
 kept_is id layer flags meta contents None kept held has = tt
 kept_is id layer flags meta contents (Some settled) kept held has =
-    record { of_buildpack = refl; of_layer = refl; meta = kept; cached = tree_cached id layer flags meta contents.digest contents.tree settled held has }
+    record {
+      of_buildpack = refl;
+      of_layer = refl;
+      meta = kept;
+      cached = tree_cached id layer flags meta
+          contents.digest contents.tree settled held has;
+    }
 
-doc_kept : (store : List ℕ) (previous : List LayerRow) (id folder layer : List ℕ) (doc : Option LayerDoc) (old new : Seen) (kept : Option Kept) → is_doc_left doc ≡ true → keeps_found store previous id folder layer doc old (Ok kept) new → Keeps id layer kept
+doc_kept : (store : List ℕ) (previous : List LayerRow) (id folder layer : List ℕ) (doc : Option LayerDoc)
+    (old new : Seen) (kept : Option Kept) → is_doc_left doc ≡ true
+    → keeps_found store previous id folder layer doc old (Ok kept) new → Keeps id layer kept
 unfolding keeps_documented ◌>>=◌ gives yields
 doc_kept store previous id folder layer None old new kept left (is, same) = subst (Keeps id layer) (sym is) tt
-doc_kept store previous id folder layer (Some doc) old new kept left (contents, m1, find, (settled, m2, settle, (same, is, cause))) =
+doc_kept store previous id folder layer (Some doc) old new kept left
+    (contents, m1, find, (settled, m2, settle, (same, is, cause))) =
     let e : kept_of id layer (flags_of doc) doc.meta contents.tree settled ≡ kept = cc in
-    subst (Keeps id layer) e (kept_is id layer (flags_of doc) doc.meta contents settled left (contents_held store folder layer (flags_of doc) old m1 contents find)
-    (settled_so (decision_of (flags_of doc) contents (row_of previous id layer)) store id layer contents.digest (row_of previous id layer) m1 m2 settled settle))
+    subst (Keeps id layer) e (kept_is id layer (flags_of doc) doc.meta contents settled left
+    (contents_held store folder layer (flags_of doc) old m1 contents find)
+    (settled_so (decision_of (flags_of doc) contents (row_of previous id layer)) store id layer contents.digest
+    (row_of previous id layer) m1 m2 settled settle))
 
-layer_kept : (store : List ℕ) (previous : List LayerRow) (id folder layer : List ℕ) (old new : Seen) (kept : Option Kept) → keeps_layer store previous id folder layer old (Ok kept) new → Keeps id layer kept
+layer_kept : (store : List ℕ) (previous : List LayerRow) (id folder layer : List ℕ) (old new : Seen)
+    (kept : Option Kept) → keeps_layer store previous id folder layer old (Ok kept) new → Keeps id layer kept
 unfolding keeps_layer ◌>>=◌
 layer_kept store previous id folder layer old new kept (document, m1, at, (doc, m2, read, found)) =
     doc_kept store previous id folder layer doc m2 new kept (doc_left document m1 m2 doc read) found
 
 -- what comes of one layer
-pub layer_exported : (store : List ℕ) (previous : List LayerRow) (id folder layer : List ℕ) (gathered all : Gathered) (old new : Seen) → exports_layer store previous id folder layer gathered old (Ok all) new
+pub layer_exported : (store : List ℕ) (previous : List LayerRow) (id folder layer : List ℕ)
+    (gathered all : Gathered) (old new : Seen) → exports_layer store previous id folder layer gathered old
+    (Ok all) new
     → (kept : Option Kept) × Keeps id layer kept × (all ≡ with_kept gathered kept)
 unfolding exports_layer ◌>>=◌ gives
 layer_exported store previous id folder layer gathered all old new (kept, mid, keep, (same, is, cause)) =

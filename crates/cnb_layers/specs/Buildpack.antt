@@ -61,7 +61,8 @@ with_documents gathered id launch slices store_document = record {
 }
 
 -- `store.toml`, behind what `launch.toml` has
-unfoldable pub exports_store_document : List ℕ → List ℕ → Gathered → LaunchToml → Slices → Seen → Result Gathered ExportFault → Seen
+unfoldable pub exports_store_document : List ℕ → List ℕ → Gathered → LaunchToml → Slices → Seen
+    → Result Gathered ExportFault → Seen
     → Type 0
 exports_store_document folder id gathered launch slices = do
   store_document ← reads_store_document folder
@@ -75,17 +76,20 @@ exports_documents folder id gathered = do
   exports_store_document folder id gathered launch slices
 
 -- the layers, ascending
-unfoldable pub exports_layers : List ℕ → List LayerRow → List ℕ → List ℕ → Gathered → Seen → Result Gathered ExportFault → Seen → Type 0
+unfoldable pub exports_layers : List ℕ → List LayerRow → List ℕ → List ℕ → Gathered → Seen
+    → Result Gathered ExportFault → Seen → Type 0
 exports_layers store previous id folder gathered = do
   names ← reads_layer_names folder
   for_each (exports_layer store previous id folder) names gathered
 
-unfoldable pub exports_buildpack : ExportFrame → List LayerRow → GroupRow → Gathered → Seen → Result Gathered ExportFault → Seen → Type 0
+unfoldable pub exports_buildpack : ExportFrame → List LayerRow → GroupRow → Gathered → Seen
+    → Result Gathered ExportFault → Seen → Type 0
 exports_buildpack frame previous row gathered = do
   folder ← gives cause_of (Ok (layers_folder frame.layers row.key.id))
   documents ← exports_documents folder row.key.id gathered
   exports_layers frame.store previous row.key.id folder documents
 
 -- the buildpacks of a group, in order
-abbrev pub exports_group : ExportFrame → List LayerRow → List GroupRow → Seen → Result Gathered ExportFault → Seen → Type 0
+abbrev pub exports_group : ExportFrame → List LayerRow → List GroupRow → Seen → Result Gathered ExportFault → Seen
+    → Type 0
 exports_group frame previous group = for_each (exports_buildpack frame previous) group nothing_gathered

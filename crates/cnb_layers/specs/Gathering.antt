@@ -19,7 +19,15 @@ use Rattle.cnb_layers.specs.Refusals.{cause_of}
 use Rattle.cnb_layers.specs.Settling.{settles}
 
 abbrev pub nothing_gathered : Gathered
-nothing_gathered = record { labels = []; processes = []; slices = []; store_rows = []; layers = []; cached = []; trees = [] }
+nothing_gathered = record {
+  labels = [];
+  processes = [];
+  slices = [];
+  store_rows = [];
+  layers = [];
+  cached = [];
+  trees = [];
+}
 
 abbrev pub layer_of : ImageLayer → LayerRow
 layer_of layer = layer.row
@@ -65,25 +73,29 @@ abbrev pub kept_of : List ℕ → List ℕ → Flags → Meta → Option Node �
 kept_of id layer flags meta tree settled = option_map (kept_with id layer flags meta tree) settled
 
 -- the contents of a layer that has a document are found, and what becomes of it is settled
-unfoldable pub keeps_documented : List ℕ → List LayerRow → List ℕ → List ℕ → List ℕ → LayerDoc → Seen → Result (Option Kept) ExportFault → Seen → Type 0
+unfoldable pub keeps_documented : List ℕ → List LayerRow → List ℕ → List ℕ → List ℕ → LayerDoc → Seen
+    → Result (Option Kept) ExportFault → Seen → Type 0
 keeps_documented store previous id folder layer doc = do
   contents ← finds_contents store folder layer (flags_of doc)
   settled ← settles store previous id layer (flags_of doc) contents
   gives cause_of (Ok (kept_of id layer (flags_of doc) doc.meta contents.tree settled))
 
-abbrev pub keeps_found : List ℕ → List LayerRow → List ℕ → List ℕ → List ℕ → Option LayerDoc → Seen → Result (Option Kept) ExportFault → Seen → Type 0
+abbrev pub keeps_found : List ℕ → List LayerRow → List ℕ → List ℕ → List ℕ → Option LayerDoc → Seen
+    → Result (Option Kept) ExportFault → Seen → Type 0
 keeps_found store previous id folder layer None = yields None
 keeps_found store previous id folder layer (Some doc) = keeps_documented store previous id folder layer doc
 
 -- a layer's document is read, and then its contents
-unfoldable pub keeps_layer : List ℕ → List LayerRow → List ℕ → List ℕ → List ℕ → Seen → Result (Option Kept) ExportFault → Seen → Type 0
+unfoldable pub keeps_layer : List ℕ → List LayerRow → List ℕ → List ℕ → List ℕ → Seen
+    → Result (Option Kept) ExportFault → Seen → Type 0
 keeps_layer store previous id folder layer = do
   document ← gives cause_of (Ok (layer_document folder layer))
   doc ← reads_layer document
   keeps_found store previous id folder layer doc
 
 -- a layer is read, and added to what was gathered
-unfoldable pub exports_layer : List ℕ → List LayerRow → List ℕ → List ℕ → List ℕ → Gathered → Seen → Result Gathered ExportFault → Seen → Type 0
+unfoldable pub exports_layer : List ℕ → List LayerRow → List ℕ → List ℕ → List ℕ → Gathered → Seen
+    → Result Gathered ExportFault → Seen → Type 0
 exports_layer store previous id folder layer gathered = do
   kept ← keeps_layer store previous id folder layer
   gives cause_of (Ok (with_kept gathered kept))

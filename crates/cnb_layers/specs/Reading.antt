@@ -12,7 +12,8 @@ use Rattle.cnb_layers.specs.declared.fault.ExportFault.{ExportFault}
 use Rattle.cnb_layers.specs.Refusals.{cause_of, of_read_fault}
 
 -- files are read
-abbrev pub reads_files : {A : Type 0} → (Tree → Bool) → (Tree → Result A ReadFault) → Seen → Result A ExportFault → Seen → Type 0
+abbrev pub reads_files : {A : Type 0} → (Tree → Bool) → (Tree → Result A ReadFault) → Seen → Result A ExportFault
+    → Seen → Type 0
 reads_files fits want = reads cause_of fits (λ files. with_fault of_read_fault (want files))
 
 -- what stands at a path
@@ -28,18 +29,21 @@ abbrev pub value_at : {A : Type 0} → List ℕ → Result A DocFault → Result
 value_at path answer = with_fault of_read_fault (read_at path answer)
 
 -- the same, where there is a document
-abbrev pub some_value_at : {A : Type 0} → (List ℕ → Result A DocFault) → List ℕ → Option (List ℕ) → Result (Option A) ExportFault
+abbrev pub some_value_at : {A : Type 0} → (List ℕ → Result A DocFault) → List ℕ → Option (List ℕ)
+    → Result (Option A) ExportFault
 some_value_at form path None = Ok None
 some_value_at form path (Some bytes) = and_then (value_at path (form bytes)) (λ value. Ok (Some value))
 
 -- a document is read; one that isn't there is empty
-unfoldable pub reads_as : {A : Type 0} → (List ℕ → Result A DocFault) → List ℕ → Seen → Result A ExportFault → Seen → Type 0
+unfoldable pub reads_as : {A : Type 0} → (List ℕ → Result A DocFault) → List ℕ → Seen → Result A ExportFault
+    → Seen → Type 0
 reads_as form path = do
   found ← reads_document path
   gives cause_of (value_at path (form (unwrap_or found [])))
 
 -- a document is read, where one is there
-unfoldable pub reads_some : {A : Type 0} → (List ℕ → Result A DocFault) → List ℕ → Seen → Result (Option A) ExportFault → Seen → Type 0
+unfoldable pub reads_some : {A : Type 0} → (List ℕ → Result A DocFault) → List ℕ → Seen
+    → Result (Option A) ExportFault → Seen → Type 0
 reads_some form path = do
   found ← reads_document path
   gives cause_of (some_value_at form path found)

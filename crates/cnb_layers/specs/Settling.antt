@@ -49,18 +49,21 @@ looks_for_stored store digest = do
   stored ← map_err Store (looks_for_tree store digest)
   gives cause_of (if_stored digest stored)
 
-abbrev pub checks_reused : List ℕ → Option (List ℕ) → Option LayerRow → Seen → Result (Unit {0}) ExportFault → Seen → Type 0
+abbrev pub checks_reused : List ℕ → Option (List ℕ) → Option LayerRow → Seen → Result (Unit {0}) ExportFault
+    → Seen → Type 0
 checks_reused store (Some digest) before = yields tt
 checks_reused store None None = yields tt
 checks_reused store None (Some row) = looks_for_stored store row.digest
 
-unfoldable pub reuses : List ℕ → Option (List ℕ) → Option LayerRow → Seen → Result (Option Settled) ExportFault → Seen → Type 0
+unfoldable pub reuses : List ℕ → Option (List ℕ) → Option LayerRow → Seen → Result (Option Settled) ExportFault
+    → Seen → Type 0
 reuses store digest before = do
   checked ← checks_reused store digest before
   yields (settled_as (Some true) (digest_or digest before))
 
 -- by the line of the table that fits
-abbrev pub settles_by : ExportRow → List ℕ → List ℕ → List ℕ → Option (List ℕ) → Option LayerRow → Seen → Result (Option Settled) ExportFault → Seen → Type 0
+abbrev pub settles_by : ExportRow → List ℕ → List ℕ → List ℕ → Option (List ℕ) → Option LayerRow → Seen
+    → Result (Option Settled) ExportFault → Seen → Type 0
 settles_by Skip store id layer digest before = yields (settled_as None digest)
 settles_by Add store id layer digest before = yields (settled_as (Some false) digest)
 settles_by Reuse store id layer digest before = reuses store digest before
@@ -68,6 +71,8 @@ settles_by NoContentsRow store id layer digest before = gives cause_of (Err (NoC
 settles_by NoPreviousRow store id layer digest before = gives cause_of (Err (NoPrevious id layer))
 
 -- what becomes of a layer
-abbrev pub settles : List ℕ → List LayerRow → List ℕ → List ℕ → Flags → Contents → Seen → Result (Option Settled) ExportFault → Seen → Type 0
+abbrev pub settles : List ℕ → List LayerRow → List ℕ → List ℕ → Flags → Contents → Seen
+    → Result (Option Settled) ExportFault → Seen → Type 0
 settles store previous id layer flags contents =
-    settles_by (decision_of flags contents (row_of previous id layer)) store id layer contents.digest (row_of previous id layer)
+    settles_by (decision_of flags contents (row_of previous id layer)) store id layer contents.digest
+    (row_of previous id layer)

@@ -51,7 +51,8 @@ above_first : (rows : List Row) → run_rows_first rows ≡ true → has_no_run_
 above_first [] h = refl
 above_first (row ∷ rows) h = by (is_run row) refl h (above_first rows)
   where
-    by : (run : Bool) → is_run row ≡ run → cond run (run_rows_first rows) (has_no_run_row rows) ≡ true → (run_rows_first rows ≡ true → has_no_run_row (rows_above rows) ≡ true)
+    by : (run : Bool) → is_run row ≡ run → cond run (run_rows_first rows) (has_no_run_row rows) ≡ true
+        → (run_rows_first rows ≡ true → has_no_run_row (rows_above rows) ≡ true)
         → has_no_run_row (drop (cond run (1 + prefix_len is_run rows) 0) (row ∷ rows)) ≡ true
     by true e k later = ap (λ n. has_no_run_row (drop n (row ∷ rows))) (one_more (prefix_len is_run rows)) ∙ later k
     by false e k later = and_from (not (is_run row)) (has_no_run_row rows) (ap not e) k
@@ -60,36 +61,48 @@ above_first (row ∷ rows) h = by (is_run row) refl h (above_first rows)
 
 -- what stays of an image
 abbrev keeps : ImageDoc → Bool
-keeps image = is_short_path image.entrypoint && (list_all is_label image.labels && (is_launch_doc image.launch && (are_layers false image.layers && is_store image.store)))
+keeps image = is_short_path image.entrypoint && (list_all is_label image.labels
+    && (is_launch_doc image.launch && (are_layers false image.layers && is_store image.store)))
 
-on_run_readable : (image : ImageDoc) (name : List ℕ) (run : RunDoc) → is_image_name name ≡ true → is_image_doc image ≡ true → is_run_doc run ≡ true → is_image_doc (on_run image name run) ≡ true
+on_run_readable : (image : ImageDoc) (name : List ℕ) (run : RunDoc) → is_image_name name ≡ true
+    → is_image_doc image ≡ true → is_run_doc run ≡ true → is_image_doc (on_run image name run) ≡ true
 on_run_readable image name run named h k =
     let behind_base = (and_parts (is_base image.base) (are_rows image.rows && (is_env image.env && keeps image)) h).1 in
     let at_rows = and_parts (are_rows image.rows) (is_env image.env && keeps image) behind_base in
     let rows = and_parts (list_all is_row image.rows) (are_ordered image.rows) at_rows.0 in
     let kept = (and_parts (is_env image.env) (keeps image) at_rows.1).1 in
     and_from _ _ (base_readable name image.base.top run k)
-    (and_from _ _ (and_from _ _ (run_rows_sound name run.rows (rows_above image.rows) named (drop_sound (prefix_len is_run image.rows) image.rows rows.0))
-    (run_rows_ordered name run.rows (rows_above image.rows) (run_filled run k) (above_first image.rows (ordered_first image.rows rows.1))))
+    (and_from _ _ (and_from _ _ (run_rows_sound name run.rows (rows_above image.rows) named
+    (drop_sound (prefix_len is_run image.rows) image.rows rows.0))
+    (run_rows_ordered name run.rows (rows_above image.rows) (run_filled run k)
+    (above_first image.rows (ordered_first image.rows rows.1))))
     (and_from _ _ (env_readable run.env (run_env run k)) kept))
 
-pub rebased_readable : (image new : ImageDoc) (name : List ℕ) (run : RunDoc) → is_image_name name ≡ true → is_image_doc image ≡ true → is_run_doc run ≡ true → rebased image name run ≡ Ok new → is_image_doc new ≡ true
-rebased_readable image new name run named h k is = ap is_image_doc (sym (by (same_top image) (same_target image.base run) is)) ∙ on_run_readable image name run named h k
+pub rebased_readable : (image new : ImageDoc) (name : List ℕ) (run : RunDoc) → is_image_name name ≡ true
+    → is_image_doc image ≡ true → is_run_doc run ≡ true → rebased image name run ≡ Ok new
+    → is_image_doc new ≡ true
+rebased_readable image new name run named h k is = ap is_image_doc
+    (sym (by (same_top image) (same_target image.base run) is)) ∙ on_run_readable image name run named h k
   where
-    by : (top target : Result (Unit {0}) RebaseFault) → and_then top (λ one. and_then target (λ other. Ok (on_run image name run))) ≡ Ok new → on_run image name run ≡ new
+    by : (top target : Result (Unit {0}) RebaseFault) → and_then top
+        (λ one. and_then target (λ other. Ok (on_run image name run))) ≡ Ok new → on_run image name run ≡ new
     by (Ok one) (Ok other) e = cc
     by (Ok one) (Err fault) e = absurd (cc)
     by (Err fault) target e = absurd (cc)
 
 -- ---- an image that was changed where it stands
 
-pub put_readable : (image new : ImageDoc) (name : List ℕ) (run : RunDoc) (result : Result (Unit {0}) RebaseFault) → is_image_name name ≡ true → is_run_doc run ≡ true → IsAnswer cause_of (and_then result (λ done. Ok new)) (rebased image name run)
+pub put_readable : (image new : ImageDoc) (name : List ℕ) (run : RunDoc) (result : Result (Unit {0}) RebaseFault)
+    → is_image_name name ≡ true → is_run_doc run ≡ true → IsAnswer cause_of (and_then result (λ done. Ok new))
+    (rebased image name run)
     → is_image_doc image ≡ true → OnOk result (IsTrue (is_image_doc new))
 put_readable image new name run (Ok done) named k h readable = rebased_readable image new name run named readable k h
 put_readable image new name run (Err fault) named k h readable = tt
 
-pub put_so : (image new : ImageDoc) (name : List ℕ) (run : RunDoc) (result : Result (Unit {0}) RebaseFault) (old : Seen) → IsAnswer cause_of (and_then result (λ done. Ok new)) (rebased image name run)
-    → IfErr result (λ fault. IsGivenCause (cause_of fault)) → gives cause_of (rebased image name run) old (and_then result (λ done. Ok new)) old
+pub put_so : (image new : ImageDoc) (name : List ℕ) (run : RunDoc) (result : Result (Unit {0}) RebaseFault)
+    (old : Seen) → IsAnswer cause_of (and_then result (λ done. Ok new)) (rebased image name run)
+    → IfErr result (λ fault. IsGivenCause (cause_of fault))
+    → gives cause_of (rebased image name run) old (and_then result (λ done. Ok new)) old
 unfolding gives
 put_so image new name run (Ok done) old h cause = (refl, h, tt)
 put_so image new name run (Err fault) old h cause = (refl, h, cause)
@@ -100,23 +113,32 @@ more_filled : (digests : List (List ℕ)) (digest : List ℕ) → is_filled (dig
 more_filled [] digest = refl
 more_filled (first ∷ rest) digest = refl
 
-next_filled : (store folder : List ℕ) (digests all : List (List ℕ)) (old new : Seen) → puts_next store folder digests old (Ok all) new → is_filled all ≡ true
+next_filled : (store folder : List ℕ) (digests all : List (List ℕ)) (old new : Seen)
+    → puts_next store folder digests old (Ok all) new → is_filled all ≡ true
 unfolding puts_next ◌>>=◌ gives
 next_filled store folder digests all old new (digest, mid, put, (same, is, cause)) =
     let now : digests ++ digest ∷ [] ≡ all = cc in
     ap is_filled (sym now) ∙ more_filled digests digest
 
-stay_filled : (store : List ℕ) (folders digests all : List (List ℕ)) (old new : Seen) → is_filled digests ≡ true → for_each (puts_next store) folders digests old (Ok all) new → is_filled all ≡ true
+stay_filled : (store : List ℕ) (folders digests all : List (List ℕ)) (old new : Seen) → is_filled digests ≡ true
+    → for_each (puts_next store) folders digests old (Ok all) new → is_filled all ≡ true
 unfolding for_each ◌>>=◌ yields
 stay_filled store [] digests all old new h (is, same) = ap is_filled is ∙ h
-stay_filled store (folder ∷ folders) digests all old new h (more, mid, put, rest) = stay_filled store folders more all mid new (next_filled store folder digests more old mid put) rest
+stay_filled store (folder ∷ folders) digests all old new h
+    (more, mid, put, rest) = stay_filled store folders more all mid new
+    (next_filled store folder digests more old mid put) rest
 
-pub folders_filled : (store : List ℕ) (folders all : List (List ℕ)) (old new : Seen) → 1 ≤ length folders → puts_folders store folders old (Ok all) new → is_filled all ≡ true
+pub folders_filled : (store : List ℕ) (folders all : List (List ℕ)) (old new : Seen) → 1 ≤ length folders
+    → puts_folders store folders old (Ok all) new → is_filled all ≡ true
 unfolding puts_folders for_each ◌>>=◌
 folders_filled store [] all old new some h = absurd (omega arith)
-folders_filled store (folder ∷ folders) all old new some (more, mid, put, rest) = stay_filled store folders more all mid new (next_filled store folder [] more old mid put) rest
+folders_filled store (folder ∷ folders) all old new some
+    (more, mid, put, rest) = stay_filled store folders more all mid new
+    (next_filled store folder [] more old mid put) rest
 
-pub made_readable : (os os' arch arch' : List ℕ) (rows : List (List ℕ)) (env : List Variable) → os ≡ os' → arch ≡ arch' → env ≡ [] → is_target_name os' ≡ true → is_target_name arch' ≡ true → is_filled rows ≡ true
+pub made_readable : (os os' arch arch' : List ℕ) (rows : List (List ℕ)) (env : List Variable) → os ≡ os'
+    → arch ≡ arch' → env ≡ [] → is_target_name os' ≡ true → is_target_name arch' ≡ true → is_filled rows ≡ true
     → is_run_doc (record { os = os; arch = arch; rows = rows; env = env }) ≡ true
 made_readable os os' arch arch' rows env e f g is-os is-arch filled =
-    and_from _ _ (and_from _ _ (ap is_target_name e ∙ is-os) (ap is_target_name f ∙ is-arch)) (and_from _ _ filled (ap is_env g))
+    and_from _ _ (and_from _ _ (ap is_target_name e ∙ is-os) (ap is_target_name f ∙ is-arch))
+    (and_from _ _ filled (ap is_env g))

@@ -11,13 +11,17 @@ use Rattle.cnb_rebase.specs.Bases.{bases_command}
 use Rattle.cnb_rebase.specs.Rebases.{rebases_command, saves_rebased}
 use Rattle.cnb_rebase.specs.declared.refusal.RebaseFault.{RebaseFault}
 
-pub rebased_stands : (words : RebaseWords) (result : Result (List ℕ) RebaseFault) (old new : Seen) → rebases_command words old result new → OnOk result (ImageStands words.store words.image new.files)
+pub rebased_stands : (words : RebaseWords) (result : Result (List ℕ) RebaseFault) (old new : Seen)
+    → rebases_command words old result new → OnOk result (ImageStands words.store words.image new.files)
 unfolding rebases_command saves_rebased ◌>>=◌ map_err yields
 rebased_stands words (Err fault) old new h = tt
 rebased_stands words (Ok text) old new (image, m1, rebasing, (told, m2, telling, (done, m3, write, (is, end)))) =
-    subst (λ (s : Seen). ImageStands words.store words.image s.files) (sym end) (image_stands words.store words.image image m2 m3 done write)
+    subst (λ (s : Seen). ImageStands words.store words.image s.files) (sym end)
+    (image_stands words.store words.image image m2 m3 done write)
 
-pub based_stands : (words : BaseWords) (text : List ℕ) (old new : Seen) → bases_command words old (Ok text) new → RunImageStands words.store words.run new.files
+pub based_stands : (words : BaseWords) (text : List ℕ) (old new : Seen) → bases_command words old (Ok text) new
+    → RunImageStands words.store words.run new.files
 unfolding bases_command ◌>>=◌ map_err yields
 based_stands words text old new (image, m1, making, (told, m2, telling, (done, m3, write, (is, end)))) =
-    subst (λ (s : Seen). RunImageStands words.store words.run s.files) (sym end) (run_image_stands words.store words.run image m2 m3 done write)
+    subst (λ (s : Seen). RunImageStands words.store words.run s.files) (sym end)
+    (run_image_stands words.store words.run image m2 m3 done write)

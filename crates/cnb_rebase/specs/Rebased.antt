@@ -28,7 +28,8 @@ last_run other (row ∷ rows) = if is_run row then last_run row.digest rows else
 -- the image notes the topmost run row that it has
 abbrev pub same_top : ImageDoc → Result (Unit {0}) RebaseFault
 same_top image =
-    if bytes_eq image.base.top (last_run image.base.top image.rows) then Ok tt else Err (TopDiffers image.base.top (last_run image.base.top image.rows))
+    if bytes_eq image.base.top (last_run image.base.top image.rows) then Ok tt else Err
+    (TopDiffers image.base.top (last_run image.base.top image.rows))
 
 abbrev pub target_text : List ℕ → List ℕ → List ℕ
 target_text os arch = os ++ codes "/" ++ arch

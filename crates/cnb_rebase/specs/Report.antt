@@ -13,7 +13,8 @@ line_feed = 10 ∷ []
 
 -- the image, and how many rows of its run image it has now
 abbrev pub rebased_text : List ℕ → ImageDoc → List ℕ
-rebased_text name image = codes "rebased " ++ name ++ codes " " ++ decimal (run_count image.rows) ++ codes " run rows" ++ line_feed
+rebased_text name image = codes "rebased " ++ name ++ codes " " ++ decimal (run_count image.rows)
+    ++ codes " run rows" ++ line_feed
 
 -- the run image, and how many rows it has
 abbrev pub base_text : List ℕ → RunDoc → List ℕ
@@ -21,7 +22,8 @@ base_text name image = codes "run " ++ name ++ codes " " ++ decimal (length imag
 
 -- a row: what it holds, where it stands, the digest of its tree, and what made it
 abbrev pub row_line : Row → List ℕ
-row_line row = role_text row.role ++ codes " " ++ row.place ++ codes " " ++ encode_lower row.digest ++ codes " " ++ row.by ++ line_feed
+row_line row = role_text row.role ++ codes " " ++ row.place ++ codes " " ++ encode_lower row.digest ++ codes " "
+    ++ row.by ++ line_feed
 
 -- what starts an image
 abbrev pub entrypoint_line : List ℕ → List ℕ

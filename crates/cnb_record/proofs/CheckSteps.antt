@@ -18,7 +18,8 @@ use Rattle.cnb_record.specs.declared.refusal.CheckRefusal.TheVariants.{Memory}
 use Rattle.cnb_record.specs.Refusals.{of_read_fault}
 
 -- a record that was refused
-pub follow_step : {S : Type 0} (fault : CheckFault) (want : Result Checked CheckFault) (old : S) → IsAnswer {A = Checked} check_cause (Err fault) want → gives check_cause want old (Err fault) old
+pub follow_step : {S : Type 0} (fault : CheckFault) (want : Result Checked CheckFault) (old : S)
+    → IsAnswer {A = Checked} check_cause (Err fault) want → gives check_cause want old (Err fault) old
 follow_step (check.Bad line) want old h = given_fault check_cause want old (check.Bad line) h tt
 follow_step check.Memory want old h = given_fault check_cause want old check.Memory tt tt
 
@@ -27,7 +28,8 @@ any_files None = tt
 any_files (Some files) = tt
 
 -- memory ran out before a file was read
-pub not_read : {T : Type 0} (fits : Tree → Bool) (want : Tree → Result T ReadFault) (old : Seen) → map_err of_read_fault (reads read_cause fits want) old (Err Memory) old
+pub not_read : {T : Type 0} (fits : Tree → Bool) (want : Tree → Result T ReadFault) (old : Seen)
+    → map_err of_read_fault (reads read_cause fits want) old (Err Memory) old
 unfolding reads
 not_read fits want old =
     mapped_fault of_read_fault (reads read_cause fits want) old old read.Memory

@@ -45,22 +45,29 @@ check_causes check.Memory = refl
 ordered_counts : (order_file buildpacks : List ℕ) → Obeys FileCounts cause_of (reads_ordered order_file buildpacks)
 unfolding reads_ordered
 ordered_counts order_file buildpacks =
-    obeys_bind _ _ _ _ files_link (obeys_told FileCounts read_cause cause_of of_read_fault _ read_causes (reads_counts read_cause _ _))
-    (λ order. obeys_bind _ _ _ _ files_link (obeys_told FileCounts read_cause cause_of of_read_fault _ read_causes (reads_counts read_cause _ _))
-    (λ catalog. obeys_bind _ _ _ _ files_link (obeys_told FileCounts order_cause cause_of of_order_fault _ order_causes (obeys_gives _ _ _ files_rest))
+    obeys_bind _ _ _ _ files_link (obeys_told FileCounts read_cause cause_of of_read_fault _ read_causes
+    (reads_counts read_cause _ _))
+    (λ order. obeys_bind _ _ _ _ files_link (obeys_told FileCounts read_cause cause_of of_read_fault _ read_causes
+    (reads_counts read_cause _ _))
+    (λ catalog. obeys_bind _ _ _ _ files_link (obeys_told FileCounts order_cause cause_of of_order_fault _
+    order_causes (obeys_gives _ _ _ files_rest))
     (λ groups. obeys_yields _ _ _ files_rest)))
 
 follow_counts : (path : List ℕ) (ordered : Ordered) → Obeys FileCounts cause_of (follows path ordered)
 unfolding follows
 follow_counts path ordered =
-    obeys_bind _ _ _ _ files_link (obeys_told FileCounts read_cause cause_of of_read_fault _ read_causes (reads_counts read_cause _ _))
+    obeys_bind _ _ _ _ files_link (obeys_told FileCounts read_cause cause_of of_read_fault _ read_causes
+    (reads_counts read_cause _ _))
     (λ bytes. obeys_told FileCounts check_cause cause_of of_check_fault _ check_causes (obeys_gives _ _ _ files_rest))
 
 prove_counts : (words : CheckWords) → Obeys FileCounts cause_of (proves words)
 unfolding proves
-prove_counts words = obeys_bind _ _ _ _ files_link (ordered_counts words.order words.buildpacks) (λ ordered. follow_counts words.proof_path ordered)
+prove_counts words = obeys_bind _ _ _ _ files_link (ordered_counts words.order words.buildpacks)
+    (λ ordered. follow_counts words.proof_path ordered)
 
-matched_rests : {A : Type 0} (path : List ℕ) (proved found : A) (s : Seen) (result : Result (Unit {0}) CheckRefusal) → IsMatched path proved found result → FileCounts (ended_by cause_of result) s s
+matched_rests : {A : Type 0} (path : List ℕ) (proved found : A) (s : Seen)
+    (result : Result (Unit {0}) CheckRefusal) → IsMatched path proved found result
+    → FileCounts (ended_by cause_of result) s s
 matched_rests path proved found s (Ok done) h = files_rest.none s
 matched_rests path proved found s (Err (RecordDiffers at)) h = files_rest.decided s
 matched_rests path proved found s (Err (File at)) h = absurd h
@@ -73,20 +80,23 @@ matched_rests path proved found s (Err (BadRecord line)) h = absurd h
 
 match_counts : {A : Type 0} (path : List ℕ) (proved found : A) → Obeys FileCounts cause_of (matches path proved found)
 unfolding matches
-match_counts path proved found old new result h = subst (FileCounts (ended_by cause_of result) old) (sym h.0) (matched_rests path proved found old result h.1)
+match_counts path proved found old new result h = subst (FileCounts (ended_by cause_of result) old) (sym h.0)
+    (matched_rests path proved found old result h.1)
 
 group_counts : (path : List ℕ) (proved : List GroupRow) → Obeys FileCounts cause_of (compares_group path proved)
 unfolding compares_group reads_group
 group_counts path proved =
     obeys_bind _ _ _ _ files_link
-    (obeys_bind _ _ _ _ files_link (obeys_told FileCounts read_cause cause_of of_read_fault _ read_causes (reads_counts read_cause _ _))
+    (obeys_bind _ _ _ _ files_link (obeys_told FileCounts read_cause cause_of of_read_fault _ read_causes
+    (reads_counts read_cause _ _))
     (λ group. obeys_bind _ _ _ _ files_link (obeys_gives _ _ _ files_rest) (λ known. obeys_yields _ _ _ files_rest)))
     (λ group. match_counts path proved group)
 
 plan_counts : (path : List ℕ) (proved : List PlanEntry) → Obeys FileCounts cause_of (compares_plan path proved)
 unfolding compares_plan
 plan_counts path proved =
-    obeys_bind _ _ _ _ files_link (obeys_told FileCounts read_cause cause_of of_read_fault _ read_causes (reads_counts read_cause _ _)) (λ plan. match_counts path proved plan)
+    obeys_bind _ _ _ _ files_link (obeys_told FileCounts read_cause cause_of of_read_fault _ read_causes
+    (reads_counts read_cause _ _)) (λ plan. match_counts path proved plan)
 
 compare_counts : (work : List ℕ) (proved : Checked) → Obeys FileCounts cause_of (compares work proved)
 unfolding compares

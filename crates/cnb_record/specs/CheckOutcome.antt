@@ -71,13 +71,15 @@ AreRefused work files proved refusal =
 -- why a check is refused: the record before the documents
 abbrev pub IsCheckRefused : CheckWords → Tree → CheckRefusal → Type 0
 IsCheckRefused words files refusal =
-    (proved_in words files ≡ Err refusal) ⊎ ((proved : Checked) × (proved_in words files ≡ Ok proved) × AreRefused words.work files proved refusal)
+    (proved_in words files ≡ Err refusal) ⊎ ((proved : Checked) × (proved_in words files ≡ Ok proved)
+    × AreRefused words.work files proved refusal)
 
 -- The record proves, and both documents have the values that it proves; or the first of them that doesn't decides.
 abbrev pub IsChecked : CheckWords → Tree → Result (List ℕ) CheckRefusal → Type 0
 IsChecked words files (Ok text) =
     (proved : Checked) × (proved_in words files ≡ Ok proved)
-    × (group_there (group_document words.work) files ≡ Ok proved.group) × (plan_there (plan_document words.work) files ≡ Ok proved.plan)
+    × (group_there (group_document words.work) files ≡ Ok proved.group)
+    × (plan_there (plan_document words.work) files ≡ Ok proved.plan)
     × (text ≡ checked_text proved.place proved.trial)
 IsChecked words files (Err refusal) = WhereDecided (cause_of refusal) (IsCheckRefused words files refusal)
 
@@ -88,7 +90,8 @@ is_fit_check words files =
     && is_fit_file (group_document words.work) files && is_fit_file (plan_document words.work) files
 
 -- What `check` comes to, by the files. It leaves them and all children as they were.
-pub record ComesToCheck (words : CheckWords) (old : Seen) (end : Result (List ℕ) CheckRefusal) (new : Seen) : Type 0 where
+pub record ComesToCheck (words : CheckWords) (old : Seen) (end : Result (List ℕ) CheckRefusal)
+    (new : Seen) : Type 0 where
   pub same : Same old new
   pub comes : IfSome old.files (λ files. IsChecked words files end)
   pub misused : MayMisuse (option_map (is_fit_check words) old.files) old.misused new.misused

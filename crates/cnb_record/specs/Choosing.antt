@@ -41,7 +41,15 @@ answers_of rans (key ∷ keys) = with_row key (recorded rans key) (answers_of ra
 -- the choice of a search that ended so, with the buildpacks that were asked and what they answered
 abbrev pub found_by : Bool → List Key → List AnswerRow → Option Ending → Result Recorded DetectRefusal
 found_by erred asked answers (Some (FirstTrial place resolved kept)) = Ok (record {
-  chosen = record { group = group_rows kept; plan = resolved.plan; place = place; trial = resolved.trial; trials = resolved.trials; asked = asked };
+  chosen = record {
+    group = group_rows kept;
+    plan = resolved.plan;
+    place = place;
+    trial = resolved.trial;
+    trials =
+        resolved.trials;
+    asked = asked;
+  };
   answers = answers;
 })
 found_by erred asked answers (Some (TooManyTrials place)) = Err (Limit Trials)
@@ -49,12 +57,14 @@ found_by erred asked answers None = Err (NoGroup erred)
 
 -- the buildpacks that have to be asked, by what the children answered
 abbrev pub asked_by : Prepared → List Ran → List Key
-asked_by prepared answers = asked_keys prepared.frame.target (says prepared.frame.target build_plan answers) prepared.catalog prepared.order
+asked_by prepared answers = asked_keys prepared.frame.target
+    (says prepared.frame.target build_plan answers) prepared.catalog prepared.order
 
 -- the choice and its answers by what the children answered
 unfoldable pub found_of : Prepared → List Ran → Result Recorded DetectRefusal
 found_of prepared answers =
-    found_by (has_erred prepared.frame.target (says prepared.frame.target build_plan answers) prepared.catalog prepared.order)
+    found_by (has_erred prepared.frame.target (says prepared.frame.target build_plan answers) prepared.catalog
+    prepared.order)
     (asked_by prepared answers) (answers_of answers (asked_by prepared answers))
     (first_trial (says prepared.frame.target build_plan answers) prepared.catalog prepared.order)
 
@@ -64,7 +74,8 @@ of_record_fault fault.Memory = Memory
 
 -- the canonical record of what was found, where it is within its limit
 abbrev pub record_in : Prepared → Recorded → Result (List ℕ) DetectRefusal
-record_in prepared found = with_fault of_record_fault (record_of prepared.catalog prepared.order prepared.frame.target found)
+record_in prepared found = with_fault of_record_fault
+    (record_of prepared.catalog prepared.order prepared.frame.target found)
 
 -- bytes that prove what was found
 abbrev pub Proves : Prepared → Recorded → List ℕ → Type 0
@@ -72,7 +83,8 @@ Proves prepared found bytes = check_of prepared.catalog prepared.order bytes ≡
 
 -- the canonical record is made, and proves what was found
 unfoldable pub makes_record : {S : Type 0} → Prepared → Recorded → S → Result (List ℕ) DetectRefusal → S → Type 0
-makes_record prepared found old result new = gives cause_of (record_in prepared found) old result new × IfOk result (Proves prepared found)
+makes_record prepared found old result new = gives cause_of (record_in prepared found) old result new
+    × IfOk result (Proves prepared found)
 
 -- the record is added to the choice
 unfoldable pub adds_record : {S : Type 0} → Prepared → Recorded → S → Result RecordedChoice DetectRefusal → S → Type 0
@@ -87,7 +99,8 @@ finds prepared = do
   adds_record prepared found
 
 -- The files are read, and then that is done; nothing is written.
-unfoldable pub chooses_recorded : TargetSource → ChoiceWords → List Variable → Outside → Result RecordedChoice DetectRefusal → Outside → Type 0
+unfoldable pub chooses_recorded : TargetSource → ChoiceWords → List Variable → Outside
+    → Result RecordedChoice DetectRefusal → Outside → Type 0
 chooses_recorded source options env = do
   prepared ← in_world (prepares source options env)
   finds prepared

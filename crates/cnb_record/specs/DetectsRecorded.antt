@@ -22,7 +22,8 @@ writes_recorded work path found = do
   yields text
 
 -- A group and its plan are chosen, the record of that is made, and all three are written.
-unfoldable pub detects_recorded : TargetSource → ChoiceWords → List ℕ → List Variable → Outside → Result (List ℕ) DetectRefusal → Outside → Type 0
+unfoldable pub detects_recorded : TargetSource → ChoiceWords → List ℕ → List Variable → Outside
+    → Result (List ℕ) DetectRefusal → Outside → Type 0
 detects_recorded source options path env = do
   found ← chooses_recorded source options env
   in_world (writes_recorded options.work path found)

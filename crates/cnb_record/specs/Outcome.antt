@@ -28,7 +28,8 @@ use Rattle.cnb_record.specs.Choosing.{Proves, found_of, record_in}
 
 -- What the children of this call answered decides, by the files, what was found; and this is its canonical record,
 -- which proves it, or why there is none.
-pub record IsFound (source : TargetSource) (options : ChoiceWords) (env : List Variable) (old new : Outside) (found : Recorded)
+pub record IsFound (source : TargetSource) (options : ChoiceWords) (env : List Variable) (old new : Outside)
+    (found : Recorded)
     (canonical : Result (List ℕ) DetectRefusal) : Type 0 where
   pub prepared : Prepared
   pub answers : List Ran
@@ -39,13 +40,15 @@ pub record IsFound (source : TargetSource) (options : ChoiceWords) (env : List V
   pub proves : IfOk canonical (Proves prepared found)
 
 -- The record is more than its limit, and nothing is written.
-pub record IsTooLarge (source : TargetSource) (options : ChoiceWords) (env : List Variable) (old : Outside) (refusal : DetectRefusal)
+pub record IsTooLarge (source : TargetSource) (options : ChoiceWords) (env : List Variable) (old : Outside)
+    (refusal : DetectRefusal)
     (new : Outside) : Type 0 where
   pub limit : refusal ≡ Limit Record
   pub found : Recorded
   pub is_found : IsFound source options env old new found (Err (Limit Record))
   pub same : Same old.world new.world
-  pub misused : MayMisuse (option_map (is_fit_preparation source options) old.world.files) old.world.misused new.world.misused
+  pub misused : MayMisuse (option_map (is_fit_preparation source options) old.world.files) old.world.misused
+      new.world.misused
 
 -- where the record was written, it stands whole; else its writing was refused
 abbrev pub IsKept : List ℕ → List ℕ → List ℕ → Option Tree → Result (List ℕ) DetectRefusal → Option Tree → Type 0
@@ -54,7 +57,8 @@ IsKept path bytes text middle (Err refusal) new = IsWriteCause path (cause_of re
 
 -- In the middle all is as `detect` leaves it without a record. Then the record's file is the old one or the whole new
 -- one, both documents stand, and nothing else is changed but what is made above and beside the record.
-pub record WritesRecord (source : TargetSource) (options : ChoiceWords) (path : List ℕ) (env : List Variable) (old : Outside)
+pub record WritesRecord (source : TargetSource) (options : ChoiceWords) (path : List ℕ) (env : List Variable)
+    (old : Outside)
     (end : Result (List ℕ) DetectRefusal) (new : Outside) : Type 0 where
   pub middle : Outside
   pub found : Recorded
@@ -63,16 +67,20 @@ pub record WritesRecord (source : TargetSource) (options : ChoiceWords) (path : 
   pub is_found : IsFound source options env old middle found (Ok bytes)
   pub file : IsOldOrNew middle.world.files new.world.files path (λ stored. stored ≡ bytes)
   pub kept : IsKept path bytes (text_of (choice_in found.chosen)) middle.world.files end new.world.files
-  pub group : standing new.world.files (group_document options.work) ≡ standing middle.world.files (group_document options.work)
-  pub plan : standing new.world.files (plan_document options.work) ≡ standing middle.world.files (plan_document options.work)
-  pub others : (other : List ℕ) → is_free (touched path) other ≡ true → standing new.world.files other ≡ standing middle.world.files other
+  pub group : standing new.world.files (group_document options.work)
+      ≡ standing middle.world.files (group_document options.work)
+  pub plan : standing new.world.files (plan_document options.work)
+      ≡ standing middle.world.files (plan_document options.work)
+  pub others : (other : List ℕ) → is_free (touched path) other ≡ true
+      → standing new.world.files other ≡ standing middle.world.files other
   pub spawners : new.spawners ≡ middle.spawners
   pub runs : new.world.runs ≡ middle.world.runs
   pub misused : MayMisuse (option_map (can_write path) middle.world.files) middle.world.misused new.world.misused
 
 -- What `detect` comes to where a record is asked for. Where it does its work, the choice and the record are written. It
 -- is refused as without a record, for a record that is too large, or by the writing of the record.
-abbrev pub ComesToRecorded : TargetSource → ChoiceWords → List ℕ → List Variable → Outside → Result (List ℕ) DetectRefusal → Outside → Type 0
+abbrev pub ComesToRecorded : TargetSource → ChoiceWords → List ℕ → List Variable → Outside
+    → Result (List ℕ) DetectRefusal → Outside → Type 0
 ComesToRecorded source options path env old (Ok text) new = WritesRecord source options path env old (Ok text) new
 ComesToRecorded source options path env old (Err refusal) new =
     ComesTo source options env old (Err refusal) new ⊎ IsTooLarge source options env old refusal new

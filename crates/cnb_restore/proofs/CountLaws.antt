@@ -35,7 +35,8 @@ use Rattle.cnb_restore.specs.Restores.{prepares_folder, restores, restores_build
 
 -- ---- `analyze`
 
-pub analyzes_counts : (store run : List ℕ) (previous : Option (List ℕ)) → Obeys FileCounts cause_of (analyzes store run previous)
+pub analyzes_counts : (store run : List ℕ) (previous : Option (List ℕ))
+    → Obeys FileCounts cause_of (analyzes store run previous)
 unfolding analyzes
 analyzes_counts store run previous =
     obeys_bind _ _ _ _ files_link (reads_counts cause_of _ _)
@@ -60,7 +61,8 @@ store_counts folder None = obeys_yields FileCounts cause_of tt files_rest
 store_counts folder (Some row) = writes_counts cause_of _ _
 
 -- a tree that is laid is refused for a failed call, or for want of memory
-laid_cause : (root : List ℕ) (fault : StoreFault) → IsCauseWithin root (tree_store.cause_of fault) → cause_of (of_laying_fault fault) ≡ tree_store.cause_of fault
+laid_cause : (root : List ℕ) (fault : StoreFault) → IsCauseWithin root (tree_store.cause_of fault)
+    → cause_of (of_laying_fault fault) ≡ tree_store.cause_of fault
 laid_cause root (store.File path) h = refl
 laid_cause root store.Memory h = refl
 laid_cause root (store.OddFile path) h = absurd h
@@ -69,13 +71,16 @@ laid_cause root (store.NoTree digest) h = absurd h
 laid_cause root (store.Damaged asked is bad) h = absurd h
 laid_cause root (store.Clash digest) h = absurd h
 
-laid_counts : (root place : List ℕ) (tree : Node) → Obeys FileCounts cause_of (map_err of_laying_fault (lays_tree root place tree))
+laid_counts : (root place : List ℕ) (tree : Node) → Obeys FileCounts cause_of
+    (map_err of_laying_fault (lays_tree root place tree))
 unfolding map_err lays_tree
 laid_counts root place tree old new (Ok done) h = lay_tree_counts root place tree old new (Ok done) h
 laid_counts root place tree old new (Err refusal) (fault, is, h) =
-    subst (λ (cause : Cause). FileCounts (Some cause) old new) (sym (ap cause_of is ∙ laid_cause root fault h.0)) (lay_tree_counts root place tree old new (Err fault) h)
+    subst (λ (cause : Cause). FileCounts (Some cause) old new) (sym (ap cause_of is ∙ laid_cause root fault h.0))
+    (lay_tree_counts root place tree old new (Err fault) h)
 
-contents_counts : (folder : List ℕ) (row : LayerRow) (tree : Node) → Obeys FileCounts cause_of (lays_contents folder row tree)
+contents_counts : (folder : List ℕ) (row : LayerRow) (tree : Node)
+    → Obeys FileCounts cause_of (lays_contents folder row tree)
 unfolding lays_contents
 contents_counts folder row tree = laid_counts _ _ tree
 
@@ -91,9 +96,11 @@ abbrev Beside : {E A : Type 0} → (E → Cause) → (WorldAndCaches → Result 
 Beside cause step = Obeys (BesideCaches FileCounts) cause step
 
 -- one after another
-follows : {E A B : Type 0} (cause : E → Cause) (first : WorldAndCaches → Result A E → WorldAndCaches → Type 0) (next : A → WorldAndCaches → Result B E → WorldAndCaches → Type 0)
+follows : {E A B : Type 0} (cause : E → Cause) (first : WorldAndCaches → Result A E → WorldAndCaches → Type 0)
+    (next : A → WorldAndCaches → Result B E → WorldAndCaches → Type 0)
     → Beside cause first → ((a : A) → Beside cause (next a)) → Beside cause (first >>= next)
-follows cause first next p q = obeys_bind (BesideCaches FileCounts) cause first next (beside_link FileCounts files_link) p q
+follows cause first next p q = obeys_bind (BesideCaches FileCounts) cause first next
+    (beside_link FileCounts files_link) p q
 
 known : {E A : Type 0} (cause : E → Cause) (want : Result A E) → Beside cause (gives cause want)
 known cause want = obeys_gives (BesideCaches FileCounts) cause want (beside_rest FileCounts files_rest)
@@ -101,76 +108,101 @@ known cause want = obeys_gives (BesideCaches FileCounts) cause want (beside_rest
 kept : {A : Type 0} (value : A) → Beside cause_of (yields value)
 kept value = obeys_yields (BesideCaches FileCounts) cause_of value (beside_rest FileCounts files_rest)
 
-over_world : {E A : Type 0} (cause : E → Cause) (step : Seen → Result A E → Seen → Type 0) → Obeys FileCounts cause step → Beside cause (in_world step)
+over_world : {E A : Type 0} (cause : E → Cause) (step : Seen → Result A E → Seen → Type 0)
+    → Obeys FileCounts cause step → Beside cause (in_world step)
 over_world cause step p = obeys_in_world FileCounts cause step p
 
-document_counts : (folder : List ℕ) (row : LayerRow) (contents : Bool) (restored : Restored) → Beside cause_of (restores_document folder row contents restored)
+document_counts : (folder : List ℕ) (row : LayerRow) (contents : Bool) (restored : Restored)
+    → Beside cause_of (restores_document folder row contents restored)
 unfolding restores_document
-document_counts folder row contents restored = follows _ _ _ (over_world _ _ (layer_counts folder row)) (λ written. known _ _)
+document_counts folder row contents restored = follows _ _ _ (over_world _ _ (layer_counts folder row))
+    (λ written. known _ _)
 
-laid_layer_counts : (folder : List ℕ) (row : LayerRow) (restored : Restored) (tree : Node) → Beside cause_of (restores_laid folder row restored tree)
+laid_layer_counts : (folder : List ℕ) (row : LayerRow) (restored : Restored) (tree : Node)
+    → Beside cause_of (restores_laid folder row restored tree)
 unfolding restores_laid
-laid_layer_counts folder row restored tree = follows _ _ _ (over_world _ _ (contents_counts folder row tree)) (λ laid. document_counts folder row true restored)
+laid_layer_counts folder row restored tree = follows _ _ _ (over_world _ _ (contents_counts folder row tree))
+    (λ laid. document_counts folder row true restored)
 
-found_counts : (folder : List ℕ) (row : LayerRow) (restored : Restored) (answer : Found) → Beside cause_of (restores_found folder row restored answer)
+found_counts : (folder : List ℕ) (row : LayerRow) (restored : Restored) (answer : Found)
+    → Beside cause_of (restores_found folder row restored answer)
 unfolding restores_found
 found_counts folder row restored found.None = kept restored
 found_counts folder row restored (found.Damaged asked is bad) = known _ _
 found_counts folder row restored (found.Tree tree) = laid_layer_counts folder row restored tree
 
-searched_counts : (folder : List ℕ) (row : LayerRow) (restored : Restored) → Beside cause_of (restores_contents folder row restored)
+searched_counts : (folder : List ℕ) (row : LayerRow) (restored : Restored)
+    → Beside cause_of (restores_contents folder row restored)
 unfolding restores_contents
 searched_counts folder row restored =
-    follows _ _ _ (obeys_in_caches FileCounts cause_of _ files_rest (finds_ends cause_of row.digest)) (λ search. follows _ _ _ (known _ _) (λ counted. found_counts folder row counted search.found))
+    follows _ _ _ (obeys_in_caches FileCounts cause_of _ files_rest (finds_ends cause_of row.digest))
+    (λ search. follows _ _ _ (known _ _) (λ counted. found_counts folder row counted search.found))
 
-part_counts : (folder : List ℕ) (source : Option LayerRow) (line : RestoreRow) (restored : Restored) → Beside cause_of (restores_part folder source line restored)
+part_counts : (folder : List ℕ) (source : Option LayerRow) (line : RestoreRow) (restored : Restored)
+    → Beside cause_of (restores_part folder source line restored)
 unfolding restores_part
 part_counts folder None line restored = kept restored
 part_counts folder (Some row) part.Nothing restored = kept restored
 part_counts folder (Some row) part.Meta restored = document_counts folder row false restored
 part_counts folder (Some row) part.Both restored = searched_counts folder row restored
 
-each_counts : (folder : List ℕ) (app cache : List LayerRow) (names : List (List ℕ)) (restored : Restored) → Beside cause_of (restores_each folder app cache names restored)
+each_counts : (folder : List ℕ) (app cache : List LayerRow) (names : List (List ℕ)) (restored : Restored)
+    → Beside cause_of (restores_each folder app cache names restored)
 unfolding restores_each restores_layer
 each_counts folder app cache names restored =
-    obeys_each (BesideCaches FileCounts) cause_of _ (beside_link FileCounts files_link) (beside_rest FileCounts files_rest) (λ name so_far. part_counts folder _ _ so_far) names restored
+    obeys_each (BesideCaches FileCounts) cause_of _ (beside_link FileCounts files_link)
+    (beside_rest FileCounts files_rest) (λ name so_far. part_counts folder _ _ so_far) names restored
 
-layers_counts : (folder : List ℕ) (app cache : List LayerRow) (restored : Restored) → Beside cause_of (restores_layers folder app cache restored)
+layers_counts : (folder : List ℕ) (app cache : List LayerRow) (restored : Restored)
+    → Beside cause_of (restores_layers folder app cache restored)
 unfolding restores_layers
 layers_counts folder app cache restored = follows _ _ _ (known _ _) (λ made. each_counts folder app cache _ restored)
 
-rows_counts : (folder : List ℕ) (sources : Sources) (id : List ℕ) (restored : Restored) → Beside cause_of (restores_rows folder sources id restored)
+rows_counts : (folder : List ℕ) (sources : Sources) (id : List ℕ) (restored : Restored)
+    → Beside cause_of (restores_rows folder sources id restored)
 unfolding restores_rows
 rows_counts folder sources id restored = follows _ _ _ (known _ _) (λ made. layers_counts folder _ _ restored)
 
-buildpack_counts : (layers : List ℕ) (sources : Sources) (id : List ℕ) (restored : Restored) → Beside cause_of (restores_buildpack layers sources id restored)
+buildpack_counts : (layers : List ℕ) (sources : Sources) (id : List ℕ) (restored : Restored)
+    → Beside cause_of (restores_buildpack layers sources id restored)
 unfolding restores_buildpack
-buildpack_counts layers sources id restored = follows _ _ _ (over_world _ _ (folder_counts _ id _)) (λ prepared. rows_counts _ sources id restored)
+buildpack_counts layers sources id restored = follows _ _ _ (over_world _ _ (folder_counts _ id _))
+    (λ prepared. rows_counts _ sources id restored)
 
-group_counts : (layers : List ℕ) (sources : Sources) (group : List GroupRow) (restored : Restored) → Beside cause_of (restores_group layers sources group restored)
+group_counts : (layers : List ℕ) (sources : Sources) (group : List GroupRow) (restored : Restored)
+    → Beside cause_of (restores_group layers sources group restored)
 unfolding restores_group
 group_counts layers sources group restored =
-    obeys_each (BesideCaches FileCounts) cause_of _ (beside_link FileCounts files_link) (beside_rest FileCounts files_rest) (λ row so_far. buildpack_counts layers sources row.key.id so_far) group restored
+    obeys_each (BesideCaches FileCounts) cause_of _ (beside_link FileCounts files_link)
+    (beside_rest FileCounts files_rest) (λ row so_far. buildpack_counts layers sources row.key.id so_far)
+    group restored
 
 -- ---- `restore`
 
-pub restores_counts : (store : List ℕ) (name : Option (List ℕ)) (group : List GroupRow) (layers : List ℕ) → Obeys (BesideCaches FileCounts) cause_of (restores store name group layers)
+pub restores_counts : (store : List ℕ) (name : Option (List ℕ)) (group : List GroupRow) (layers : List ℕ)
+    → Obeys (BesideCaches FileCounts) cause_of (restores store name group layers)
 unfolding restores
 restores_counts store name group layers =
     follows _ _ _ (over_world _ _ (reads_counts cause_of _ _))
     (λ previous. follows _ _ _ (obeys_in_caches FileCounts cause_of _ files_rest (gathers_ends cause_of))
     (λ gathered. follows _ _ _ (known _ _) (λ restored. group_counts layers _ group restored)))
 
-analyzed_counts : (words : RestoreWords) (analyzed : Analyzed) (group : List GroupRow) → Beside refusal_cause (restores_analyzed words analyzed group)
+analyzed_counts : (words : RestoreWords) (analyzed : Analyzed) (group : List GroupRow)
+    → Beside refusal_cause (restores_analyzed words analyzed group)
 unfolding restores_analyzed
 analyzed_counts words analyzed group =
     follows _ _ _ (known _ _)
-    (λ allowed. follows _ _ _ (obeys_told (BesideCaches FileCounts) cause_of refusal_cause _ _ (λ fault. refl) (restores_counts words.store analyzed.previous group words.layers)) (λ restored. known _ _))
+    (λ allowed. follows _ _ _ (obeys_told (BesideCaches FileCounts) cause_of refusal_cause _ _ (λ fault. refl)
+    (restores_counts words.store analyzed.previous group words.layers)) (λ restored. known _ _))
 
-read_counts : {A : Type 0} (step : Seen → Result A RestoreFault → Seen → Type 0) → Obeys FileCounts cause_of step → Beside refusal_cause (map_err Fault (in_world step))
-read_counts step p = obeys_told (BesideCaches FileCounts) cause_of refusal_cause Fault (in_world step) (λ fault. refl) (over_world cause_of step p)
+read_counts : {A : Type 0} (step : Seen → Result A RestoreFault → Seen → Type 0) → Obeys FileCounts cause_of step
+    → Beside refusal_cause (map_err Fault (in_world step))
+read_counts step p = obeys_told (BesideCaches FileCounts) cause_of refusal_cause Fault (in_world step)
+    (λ fault. refl) (over_world cause_of step p)
 
 pub restore_counts : (words : RestoreWords) → Obeys (BesideCaches FileCounts) refusal_cause (restores_command words)
 unfolding restores_command
 restore_counts words =
-    follows _ _ _ (read_counts _ (reads_counts cause_of _ _)) (λ analyzed. follows _ _ _ (read_counts _ (reads_counts cause_of _ _)) (λ group. analyzed_counts words analyzed group))
+    follows _ _ _ (read_counts _ (reads_counts cause_of _ _))
+    (λ analyzed. follows _ _ _ (read_counts _ (reads_counts cause_of _ _))
+    (λ group. analyzed_counts words analyzed group))

@@ -35,22 +35,39 @@ no_image : {A : Type 0} (value : A) (o : Option Tree) → IfSome o (λ files. Is
 no_image value None = tt
 no_image value (Some files) = refl
 
-pub read_nothing : {A : Type 0} (value : A) (old : Seen) → reads cause_of (λ files. true) (λ files. Ok value) old (Ok value) old
+pub read_nothing : {A : Type 0} (value : A) (old : Seen)
+    → reads cause_of (λ files. true) (λ files. Ok value) old (Ok value) old
 unfolding reads
-read_nothing value old = record { same = record { files = refl; runs = refl }; answer = no_image value old.files; cause = tt; allows = allowed_by (λ files. true) old.files old.misused old.misused refl; counts = files_rest.none old }
+read_nothing value old = record {
+  same = record { files = refl; runs = refl };
+  answer = no_image value old.files;
+  cause = tt;
+  allows = allowed_by (λ files. true) old.files old.misused old.misused refl;
+  counts =
+      files_rest.none old;
+}
 
 -- the same of a name that is equal
-pub previous_as : (store : List ℕ) (name want : Option (List ℕ)) (old : Seen) (result : Result (Option ImageDoc) RestoreFault) (new : Seen) → name ≡ want
-    → reads cause_of (is_fit_image store name) (previous_in store name) old result new → reads cause_of (is_fit_image store want) (previous_in store want) old result new
-previous_as store name want old result new same h = subst (λ n. reads cause_of (is_fit_image store n) (previous_in store n) old result new) same h
+pub previous_as : (store : List ℕ) (name want : Option (List ℕ)) (old : Seen)
+    (result : Result (Option ImageDoc) RestoreFault) (new : Seen) → name ≡ want
+    → reads cause_of (is_fit_image store name) (previous_in store name) old result new
+    → reads cause_of (is_fit_image store want) (previous_in store want) old result new
+previous_as store name want old result new same h = subst
+    (λ n. reads cause_of (is_fit_image store n) (previous_in store n) old result new) same h
 
-pub analyzes_as : (store run : List ℕ) (previous want : Option (List ℕ)) (old : Seen) (result : Result Analyzed RestoreFault) (new : Seen) → previous ≡ want → analyzes store run previous old result new → analyzes store run want old result new
+pub analyzes_as : (store run : List ℕ) (previous want : Option (List ℕ)) (old : Seen)
+    (result : Result Analyzed RestoreFault) (new : Seen) → previous ≡ want
+    → analyzes store run previous old result new → analyzes store run want old result new
 analyzes_as store run previous want old result new same h = subst (λ p. analyzes store run p old result new) same h
 
 -- a run image that was found was read
-pub readable_named : (found : Option RunDoc) (result : Result RunDoc RestoreFault) → IfSome found (IsRead table_in) → IfOk result (λ image. found ≡ Some image) → IfOk result (λ image. IsTrue (is_run_doc image))
+pub readable_named : (found : Option RunDoc) (result : Result RunDoc RestoreFault)
+    → IfSome found (IsRead table_in) → IfOk result (λ image. found ≡ Some image)
+    → IfOk result (λ image. IsTrue (is_run_doc image))
 readable_named found (Err fault) read is = tt
-readable_named found (Ok image) read is = run_image_readable image (let at : IfSome (Some image) (IsRead table_in) = subst (λ o. IfSome o (IsRead table_in)) is read in at)
+readable_named found (Ok image) read is = run_image_readable image
+    (let at : IfSome (Some image) (IsRead table_in) = subst (λ o. IfSome o (IsRead table_in)) is read in at)
 
 pub run_named : (run : RunDoc) → IsTrue (is_run_doc run) → IsTrue (is_target_name run.os && is_target_name run.arch)
-run_named run h = (and_parts (is_target_name run.os && is_target_name run.arch) (is_filled run.rows && is_env run.env) h).0
+run_named run h = (and_parts (is_target_name run.os && is_target_name run.arch)
+    (is_filled run.rows && is_env run.env) h).0

@@ -24,63 +24,99 @@ use Rattle.cnb_restore.specs.RestoresFrom.{restores_from}
 use Rattle.cnb_restore.specs.Rows.{restored_part, row_of, source_of}
 
 -- a layer by its rows
-pub layer_from : (folder : List ℕ) (app cache : List LayerRow) (name : List ℕ) (a b source : Option LayerRow) (part : RestoreRow) (restored : Restored) (old : WorldAndCaches) (result : Result Restored RestoreFault) (new : WorldAndCaches)
-    → a ≡ row_of name app → b ≡ row_of name cache → source ≡ source_of a b → part ≡ restored_part a b → restores_part folder source part restored old result new → restores_layer folder app cache name restored old result new
+pub layer_from : (folder : List ℕ) (app cache : List LayerRow) (name : List ℕ) (a b source : Option LayerRow)
+    (part : RestoreRow) (restored : Restored) (old : WorldAndCaches) (result : Result Restored RestoreFault)
+    (new : WorldAndCaches)
+    → a ≡ row_of name app → b ≡ row_of name cache → source ≡ source_of a b → part ≡ restored_part a b
+    → restores_part folder source part restored old result new
+    → restores_layer folder app cache name restored old result new
 unfolding restores_layer
 layer_from folder app cache name a b source part restored old result new is-a is-b is-source is-part h =
-    subst (λ x. restores_part folder (source_of x (row_of name cache)) (restored_part x (row_of name cache)) restored old result new) is-a
+    subst (λ x. restores_part folder (source_of x (row_of name cache))
+    (restored_part x (row_of name cache)) restored old result new) is-a
     (subst (λ y. restores_part folder (source_of a y) (restored_part a y) restored old result new) is-b
     (subst (λ s. restores_part folder s (restored_part a b) restored old result new) is-source
     (subst (λ p. restores_part folder source p restored old result new) is-part h)))
 
 -- the same of other lists that are equal
-pub each_as : (folder : List ℕ) (app cache : List LayerRow) (names want : List (List ℕ)) (restored : Restored) (old : WorldAndCaches) (result : Result Restored RestoreFault) (new : WorldAndCaches)
-    → names ≡ want → restores_each folder app cache names restored old result new → restores_each folder app cache want restored old result new
-each_as folder app cache names want restored old result new same h = subst (λ ns. restores_each folder app cache ns restored old result new) same h
+pub each_as : (folder : List ℕ) (app cache : List LayerRow) (names want : List (List ℕ)) (restored : Restored)
+    (old : WorldAndCaches) (result : Result Restored RestoreFault) (new : WorldAndCaches)
+    → names ≡ want → restores_each folder app cache names restored old result new
+    → restores_each folder app cache want restored old result new
+each_as folder app cache names want restored old result new same h = subst
+    (λ ns. restores_each folder app cache ns restored old result new) same h
 
-pub layers_as : (folder : List ℕ) (app cache app_rows cache_rows : List LayerRow) (restored : Restored) (old : WorldAndCaches) (result : Result Restored RestoreFault) (new : WorldAndCaches)
-    → app ≡ app_rows → cache ≡ cache_rows → restores_layers folder app cache restored old result new → restores_layers folder app_rows cache_rows restored old result new
+pub layers_as : (folder : List ℕ) (app cache app_rows cache_rows : List LayerRow) (restored : Restored)
+    (old : WorldAndCaches) (result : Result Restored RestoreFault) (new : WorldAndCaches)
+    → app ≡ app_rows → cache ≡ cache_rows → restores_layers folder app cache restored old result new
+    → restores_layers folder app_rows cache_rows restored old result new
 layers_as folder app cache app_rows cache_rows restored old result new a b h =
-    subst (λ x. restores_layers folder x cache_rows restored old result new) a (subst (λ y. restores_layers folder app y restored old result new) b h)
+    subst (λ x. restores_layers folder x cache_rows restored old result new) a
+    (subst (λ y. restores_layers folder app y restored old result new) b h)
 
-pub rows_as : (folder place : List ℕ) (sources : Sources) (id : List ℕ) (restored : Restored) (old : WorldAndCaches) (result : Result Restored RestoreFault) (new : WorldAndCaches)
-    → place ≡ folder → restores_rows place sources id restored old result new → restores_rows folder sources id restored old result new
-rows_as folder place sources id restored old result new same h = subst (λ p. restores_rows p sources id restored old result new) same h
+pub rows_as : (folder place : List ℕ) (sources : Sources) (id : List ℕ) (restored : Restored)
+    (old : WorldAndCaches) (result : Result Restored RestoreFault) (new : WorldAndCaches)
+    → place ≡ folder → restores_rows place sources id restored old result new
+    → restores_rows folder sources id restored old result new
+rows_as folder place sources id restored old result new same h = subst
+    (λ p. restores_rows p sources id restored old result new) same h
 
-pub prepared_as : (folder place id : List ℕ) (kept rows : List StoreRow) (old : Seen) (result : Result (Unit {0}) RestoreFault) (new : Seen)
-    → place ≡ folder → kept ≡ rows → prepares_folder place id kept old result new → prepares_folder folder id rows old result new
-prepared_as folder place id kept rows old result new same all h = subst (λ p. prepares_folder p id rows old result new) same (subst (λ k. prepares_folder place id k old result new) all h)
+pub prepared_as : (folder place id : List ℕ) (kept rows : List StoreRow) (old : Seen)
+    (result : Result (Unit {0}) RestoreFault) (new : Seen)
+    → place ≡ folder → kept ≡ rows → prepares_folder place id kept old result new
+    → prepares_folder folder id rows old result new
+prepared_as folder place id kept rows old result new same all h = subst
+    (λ p. prepares_folder p id rows old result new) same
+    (subst (λ k. prepares_folder place id k old result new) all h)
 
-pub stored_as : (folder : List ℕ) (kept row : Option StoreRow) (old : Seen) (result : Result (Unit {0}) RestoreFault) (new : Seen) → kept ≡ row → writes_store folder kept old result new → writes_store folder row old result new
+pub stored_as : (folder : List ℕ) (kept row : Option StoreRow) (old : Seen)
+    (result : Result (Unit {0}) RestoreFault) (new : Seen) → kept ≡ row → writes_store folder kept old result new
+    → writes_store folder row old result new
 stored_as folder kept row old result new same h = subst (λ k. writes_store folder k old result new) same h
 
-pub group_from : (layers : List ℕ) (group rows : List GroupRow) (previous : Option ImageDoc) (old : WorldAndCaches) (result : Result Restored RestoreFault) (new : WorldAndCaches)
-    → group ≡ rows → restores_from layers group previous old result new → restores_from layers rows previous old result new
-group_from layers group rows previous old result new same h = subst (λ g. restores_from layers g previous old result new) same h
+pub group_from : (layers : List ℕ) (group rows : List GroupRow) (previous : Option ImageDoc)
+    (old : WorldAndCaches) (result : Result Restored RestoreFault) (new : WorldAndCaches)
+    → group ≡ rows → restores_from layers group previous old result new
+    → restores_from layers rows previous old result new
+group_from layers group rows previous old result new same h = subst
+    (λ g. restores_from layers g previous old result new) same h
 
 -- a name in a list of borrowed names
 abbrev pub texts_of : List (Bor (List ℕ)) → List (List ℕ)
 texts_of names = map (λ name. name.now) names
 
-pub text_at : (names : List (Bor (List ℕ))) (i : ℕ) (other : Bor (List ℕ)) → i < length names → (get_or names i other).now ≡ get_or (texts_of names) i (get_or names i other).now
+pub text_at : (names : List (Bor (List ℕ))) (i : ℕ) (other : Bor (List ℕ)) → i < length names
+    → (get_or names i other).now ≡ get_or (texts_of names) i (get_or names i other).now
 text_at names i other lt = sym (get_or-map (λ (n : Bor (List ℕ)). n.now) names i other (get_or names i other).now lt)
 
 pub text_below : (names : List (Bor (List ℕ))) (i : ℕ) → i < length names → i < length (texts_of names)
-text_below names i lt = let same : length (texts_of names) ≡ length names = length-map names (λ (n : Bor (List ℕ)). n.now) in omega (arith, same, lt)
+text_below names i lt = let same : length (texts_of names)
+    ≡ length names = length-map names (λ (n : Bor (List ℕ)). n.now) in omega (arith, same, lt)
 
 pub texts_over : (names : List (Bor (List ℕ))) (i : ℕ) → length names ≤ i → length (texts_of names) ≤ i
-texts_over names i le = let same : length (texts_of names) ≡ length names = length-map names (λ (n : Bor (List ℕ)). n.now) in omega (arith, same, le)
+texts_over names i le = let same : length (texts_of names)
+    ≡ length names = length-map names (λ (n : Bor (List ℕ)). n.now) in omega (arith, same, le)
 
 -- a document of another name that is equal
-pub document_as : (folder name want : List ℕ) (Says : List ℕ → Type 0) (old : Seen) (result : Result (Unit {0}) RestoreFault) (new : Seen) → name ≡ want → writes cause_of (joined folder name) Says old result new → writes cause_of (joined folder want) Says old result new
-document_as folder name want Says old result new same h = subst (λ n. writes cause_of (joined folder n) Says old result new) same h
+pub document_as : (folder name want : List ℕ) (Says : List ℕ → Type 0) (old : Seen)
+    (result : Result (Unit {0}) RestoreFault) (new : Seen) → name ≡ want
+    → writes cause_of (joined folder name) Says old result new
+    → writes cause_of (joined folder want) Says old result new
+document_as folder name want Says old result new same h = subst
+    (λ n. writes cause_of (joined folder n) Says old result new) same h
 
-pub found_so : (folder : List ℕ) (row : LayerRow) (restored : Restored) (answer : Found) (tree : Node) (old : WorldAndCaches) (result : Result Restored RestoreFault) (new : WorldAndCaches)
-    → answer ≡ kinds.Tree tree → restores_laid folder row restored tree old result new → restores_found folder row restored answer old result new
+pub found_so : (folder : List ℕ) (row : LayerRow) (restored : Restored) (answer : Found) (tree : Node)
+    (old : WorldAndCaches) (result : Result Restored RestoreFault) (new : WorldAndCaches)
+    → answer ≡ kinds.Tree tree → restores_laid folder row restored tree old result new
+    → restores_found folder row restored answer old result new
 unfolding restores_found
-found_so folder row restored answer tree old result new is h = subst (λ f. restores_found folder row restored f old result new) (sym is) h
+found_so folder row restored answer tree old result new is h = subst
+    (λ f. restores_found folder row restored f old result new) (sym is) h
 
-pub meta_so : (folder : List ℕ) (row : LayerRow) (line : RestoreRow) (restored : Restored) (old : WorldAndCaches) (result : Result Restored RestoreFault) (new : WorldAndCaches)
-    → line ≡ parts.Meta → restores_document folder row false restored old result new → restores_part folder (Some row) line restored old result new
+pub meta_so : (folder : List ℕ) (row : LayerRow) (line : RestoreRow) (restored : Restored) (old : WorldAndCaches)
+    (result : Result Restored RestoreFault) (new : WorldAndCaches)
+    → line ≡ parts.Meta → restores_document folder row false restored old result new
+    → restores_part folder (Some row) line restored old result new
 unfolding restores_part
-meta_so folder row line restored old result new is h = subst (λ p. restores_part folder (Some row) p restored old result new) (sym is) h
+meta_so folder row line restored old result new is h = subst
+    (λ p. restores_part folder (Some row) p restored old result new) (sym is) h

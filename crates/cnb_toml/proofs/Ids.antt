@@ -43,12 +43,14 @@ folder_is_part id is =
     let (most, named) = and_parts _ (not (is_reserved id)) is in
     let (sized, bytes) = and_parts _ (list_all is_id_byte id) most in
     let (some, few) = and_parts (nat_lt 0 (length id)) (nat_le (length id) 128) sized in
-    let (dot, dots) = not_dots (bytes_eq id (codes "app")) (bytes_eq id (codes "config")) (bytes_eq id (46 ∷ [])) (bytes_eq id (46 ∷ 46 ∷ [])) named in
+    let (dot, dots) = not_dots (bytes_eq id (codes "app")) (bytes_eq id (codes "config")) (bytes_eq id (46 ∷ []))
+    (bytes_eq id (46 ∷ 46 ∷ [])) named in
     let same : length (folder_of id) ≡ length id = length-map id folder_byte in
     let within : nat_le (length id) 255 ≡ true = grind (arith, nat_tests) in
     rw (same, some, within, is_dot id, dot, is_dots id, dots, have_part_bytes id bytes) refl
 
-same_bytes : (a b : List ℕ) → list_all is_id_byte a ≡ true → list_all is_id_byte b ≡ true → folder_of a ≡ folder_of b → a ≡ b
+same_bytes : (a b : List ℕ) → list_all is_id_byte a ≡ true → list_all is_id_byte b ≡ true
+    → folder_of a ≡ folder_of b → a ≡ b
 same_bytes [] [] is-a is-b same = refl
 same_bytes [] (y ∷ b) is-a is-b same = cc
 same_bytes (x ∷ a) [] is-a is-b same = cc
@@ -60,7 +62,8 @@ same_bytes (x ∷ a) (y ∷ b) is-a is-b same =
     rw (same_byte x y first-a first-b first, same_bytes a b rest-a rest-b rest) refl
 
 -- distinct ids have distinct folders
-pub folder_distinct : (id other : List ℕ) → IsTrue (is_bp_id id) → IsTrue (is_bp_id other) → folder_of other ≡ folder_of id → other ≡ id
+pub folder_distinct : (id other : List ℕ) → IsTrue (is_bp_id id) → IsTrue (is_bp_id other)
+    → folder_of other ≡ folder_of id → other ≡ id
 folder_distinct id other is is-other same =
     let bytes = (and_parts _ (list_all is_id_byte id) (and_parts _ (not (is_reserved id)) is).0).1 in
     let bytes-other = (and_parts _ (list_all is_id_byte other) (and_parts _ (not (is_reserved other)) is-other).0).1 in

@@ -12,6 +12,7 @@ pub joined-none : {A : Type 0} (r : Result (List A) DocFault) → joined [] r �
 joined-none (Ok rest) = refl
 joined-none (Err fault) = refl
 
-pub joined-one : {A : Type 0} (done : List A) (a : A) (r : Result (List A) DocFault) → joined done (r >>= (λ rest. Ok (a ∷ rest))) ≡ joined (done ++ a ∷ []) r
+pub joined-one : {A : Type 0} (done : List A) (a : A) (r : Result (List A) DocFault)
+    → joined done (r >>= (λ rest. Ok (a ∷ rest))) ≡ joined (done ++ a ∷ []) r
 joined-one done a (Ok rest) = ap Ok (sym (append_assoc done (a ∷ []) rest))
 joined-one done a (Err fault) = refl

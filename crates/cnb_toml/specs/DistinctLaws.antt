@@ -26,28 +26,36 @@ module _ {A K : Type 0} (eq : K → K → Bool) (key_of : A → K) where
   none_seen seen empty key = ap (list_any (eq key)) empty
 
   pub one_more_seen : {S : Type 0} (before : List A) (row : A) (old new : HashSet K S) → HasKeysOf eq key_of before old
-      → ((key : K) → contains eq new key ≡ (eq (key_of row) key || contains eq old key)) → HasKeysOf eq key_of (before ++ row ∷ []) new
+      → ((key : K) → contains eq new key ≡ (eq (key_of row) key || contains eq old key))
+      → HasKeysOf eq key_of (before ++ row ∷ []) new
   one_more_seen before row old new had added key =
-      added key ∙ ap (λ b. eq (key_of row) key || b) (had key) ∙ either_order (eq (key_of row) key) (has_key eq key_of before key)
+      added key ∙ ap (λ b. eq (key_of row) key || b) (had key)
+      ∙ either_order (eq (key_of row) key) (has_key eq key_of before key)
       ∙ sym (list_any-append (λ other. eq (key_of other) key) before (row ∷ []))
 
   module _ (symmetric : (a b : K) → eq a b ≡ eq b a) where
     -- a later row's key is none of those before
-    not_before : (before : List A) (row : A) (rest : List A) → are_distinct eq key_of (before ++ row ∷ rest) ≡ true → has_key eq key_of before (key_of row) ≡ false
+    not_before : (before : List A) (row : A) (rest : List A)
+        → are_distinct eq key_of (before ++ row ∷ rest) ≡ true → has_key eq key_of before (key_of row) ≡ false
     not_before [] row rest h = refl
     not_before (first ∷ before) row rest h =
-        let parts = and_parts (not (has_key eq key_of (before ++ row ∷ rest) (key_of first))) (are_distinct eq key_of (before ++ row ∷ rest)) h in
+        let parts = and_parts (not (has_key eq key_of (before ++ row ∷ rest) (key_of first)))
+        (are_distinct eq key_of (before ++ row ∷ rest)) h in
         let none : has_key eq key_of (before ++ row ∷ rest) (key_of first) ≡ false = not-true _ parts.0 in
         let split = or_parts (has_key eq key_of before (key_of first)) (has_key eq key_of (row ∷ rest) (key_of first))
         (sym (list_any-append (λ other. eq (key_of other) (key_of first)) before (row ∷ rest)) ∙ none) in
         let other = or_parts (eq (key_of row) (key_of first)) (has_key eq key_of rest (key_of first)) split.1 in
         or_from _ _ (symmetric (key_of first) (key_of row) ∙ other.0) (not_before before row rest parts.1)
 
-    follow_on : (rows before : List A) → are_distinct eq key_of (before ++ rows) ≡ true → all_follow (is_new eq key_of) before rows ≡ true
+    follow_on : (rows before : List A) → are_distinct eq key_of (before ++ rows) ≡ true
+        → all_follow (is_new eq key_of) before rows ≡ true
     follow_on [] before h = refl
     follow_on (row ∷ rows) before h =
-        and_from _ _ (ap not (not_before before row rows h)) (follow_on rows (before ++ row ∷ []) (ap (are_distinct eq key_of) (append_assoc before (row ∷ []) rows) ∙ h))
+        and_from _ _ (ap not (not_before before row rows h))
+        (follow_on rows (before ++ row ∷ []) (ap (are_distinct eq key_of)
+        (append_assoc before (row ∷ []) rows) ∙ h))
 
     -- distinct rows may stand one behind another
-    pub distinct_follow : (rows : List A) → are_distinct eq key_of rows ≡ true → all_follow (is_new eq key_of) [] rows ≡ true
+    pub distinct_follow : (rows : List A) → are_distinct eq key_of rows ≡ true
+        → all_follow (is_new eq key_of) [] rows ≡ true
     distinct_follow rows h = follow_on rows [] h

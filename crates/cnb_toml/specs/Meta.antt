@@ -44,7 +44,8 @@ below key (Err fault) = Err (fault_below key fault)
 abbrev pub with_entry : List ℕ → Meta → List MetaEntry → List MetaEntry
 with_entry key value [] = record { key = key; value = value } ∷ []
 with_entry key value (entry ∷ entries) =
-    match_ordering (slice_cmp nat_cmp key entry.key) (record { key = key; value = value } ∷ entry ∷ entries) (record { key = key; value = value } ∷ entries)
+    match_ordering (slice_cmp nat_cmp key entry.key) (record { key = key; value = value } ∷ entry ∷ entries)
+    (record { key = key; value = value } ∷ entries)
     (entry ∷ with_entry key value entries)
 
 -- What stands at a key: truth values, whole numbers and texts, and lists and tables of such. The first that is
@@ -56,8 +57,10 @@ abbrev mutual
   meta_at depth key (string text) = standing depth key (Ok (variant.Text text))
   meta_at depth key (float number) = Err (MetaKind key)
   meta_at depth key (datetime moment) = Err (MetaKind key)
-  meta_at depth key (array items) = standing depth key (below key (items_at (depth + 1) 0 items) >>= (λ list. Ok (variant.List list)))
-  meta_at depth key (table members) = standing depth key (below key (members_at (depth + 1) members) >>= (λ entries. Ok (variant.Table entries)))
+  meta_at depth key (array items) = standing depth key
+      (below key (items_at (depth + 1) 0 items) >>= (λ list. Ok (variant.List list)))
+  meta_at depth key (table members) = standing depth key
+      (below key (members_at (depth + 1) members) >>= (λ entries. Ok (variant.Table entries)))
 
   pub items_at : ℕ → ℕ → Items → Result (List Meta) DocFault
   items_at depth place no_items = Ok []
@@ -139,7 +142,8 @@ abbrev pub entry_kept_at : MetaEntry → List ℕ × (ℕ → Bool)
 entry_kept_at = fold-MetaEntry (ℕ → Bool) (List ℕ × (ℕ → Bool)) kept_step kept_entry_step
 
 abbrev pub entries_kept_at : List MetaEntry → ℕ → Bool
-entries_kept_at entries depth = ascend (map (λ entry. entry.key) entries) && list_all (λ entry. is_kept_at entry.value depth) entries
+entries_kept_at entries depth = ascend (map (λ entry. entry.key) entries)
+    && list_all (λ entry. is_kept_at entry.value depth) entries
 
 -- kept metadata: a table, whose own values stand 1 deep
 abbrev pub is_kept : Meta → Bool

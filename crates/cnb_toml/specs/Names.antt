@@ -14,7 +14,8 @@ is_id_byte b = is_ascii_alphanumeric b || b == 46 || b == 47 || b == 45
 
 -- ids that name something else, in a folder of layers or in a path
 abbrev pub is_reserved : List ℕ → Bool
-is_reserved text = bytes_eq text (codes "app") || bytes_eq text (codes "config") || bytes_eq text (codes ".") || bytes_eq text (codes "..")
+is_reserved text = bytes_eq text (codes "app") || bytes_eq text (codes "config") || bytes_eq text (codes ".")
+    || bytes_eq text (codes "..")
 
 -- a buildpack's id
 abbrev pub is_bp_id : List ℕ → Bool
@@ -35,7 +36,8 @@ joined_numbers major minor patch = decimal major ++ (46 ∷ (decimal minor ++ (4
 
 -- a version as it is written: each number in plain decimal digits, and dots between
 abbrev pub IsJoinedNumbers : List ℕ → Type 0
-IsJoinedNumbers text = (major : ℕ) × (minor : ℕ) × (patch : ℕ) × (major < 2 ^ 64) × (minor < 2 ^ 64) × (patch < 2 ^ 64) × (text ≡ joined_numbers major minor patch)
+IsJoinedNumbers text = (major : ℕ) × (minor : ℕ) × (patch : ℕ) × (major < 2 ^ 64) × (minor < 2 ^ 64)
+    × (patch < 2 ^ 64) × (text ≡ joined_numbers major minor patch)
 
 -- the folder of an id: each `/` as `_`
 abbrev pub folder_byte : ℕ → ℕ
@@ -46,7 +48,8 @@ folder_of id = map folder_byte id
 
 -- names of documents that stand beside a buildpack's layers (buildpack.md, "Layers Directory")
 abbrev pub is_reserved_layer : List ℕ → Bool
-is_reserved_layer name = bytes_eq name (codes "build") || bytes_eq name (codes "launch") || bytes_eq name (codes "store")
+is_reserved_layer name = bytes_eq name (codes "build") || bytes_eq name (codes "launch")
+    || bytes_eq name (codes "store")
 
 -- a layer's name: a part of a path, of at most 200 bytes
 abbrev pub is_layer_name : List ℕ → Bool
@@ -58,7 +61,8 @@ is_type_byte byte = is_ascii_alphanumeric byte || byte == 46 || byte == 95 || by
 
 -- a process type (buildpack.md, "launch.toml (TOML)") that can be a file's name
 abbrev pub is_process_type : List ℕ → Bool
-is_process_type name = nat_le 1 (length name) && nat_le (length name) 128 && list_all is_type_byte name && not (bytes_eq name (codes ".")) && not (bytes_eq name (codes ".."))
+is_process_type name = nat_le 1 (length name) && nat_le (length name) 128 && list_all is_type_byte name
+    && not (bytes_eq name (codes ".")) && not (bytes_eq name (codes ".."))
 
 -- a lower-case letter, a digit, `.`, `_` or `-`
 abbrev pub is_image_byte : ℕ → Bool

@@ -20,4 +20,5 @@ is_kept_need need = is_kept need.meta
 
 -- what is written of it
 abbrev pub need_members : Need → Members
-need_members need = member (codes "metadata") (metadata_data need.meta) (member (codes "name") (string need.name) no_members)
+need_members need = member (codes "metadata") (metadata_data need.meta)
+    (member (codes "name") (string need.name) no_members)

@@ -38,4 +38,5 @@ dir_members (Some dir) = member (codes "working-dir") (string dir) no_members
 abbrev pub process_members : Process → Members
 process_members process =
     member (codes "args") (list_data string process.args) (member (codes "command") (list_data string process.command)
-    (member (codes "default") (boolean process.default) (member (codes "type") (string process.kind) (dir_members process.dir))))
+    (member (codes "default") (boolean process.default)
+    (member (codes "type") (string process.kind) (dir_members process.dir))))

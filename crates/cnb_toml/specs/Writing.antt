@@ -12,7 +12,8 @@ nesting_limit = 80
 abbrev pub put : List ℕ → Data → Members → Members
 put key value no_members = member key value no_members
 put key value (member other old members) =
-    match_ordering (slice_cmp nat_cmp key other) (member key value (member other old members)) (member other value members) (member other old (put key value members))
+    match_ordering (slice_cmp nat_cmp key other) (member key value (member other old members))
+    (member other value members) (member other old (put key value members))
 
 abbrev pub put_all : List (List ℕ × Data) → Members → Members
 put_all [] members = members

@@ -19,21 +19,25 @@ use Rattle.cnb_words.specs.declared.fault.WordsFault.{WordsFault}
 use Rattle.cnb_words.proofs.ReaderLemmas.{simple_reader}
 use Rattle.cnb_words.proofs.ReadingLaw.{read_where_no_fault, unread_where_fault}
 
-by_kind : (k : ErrorKind) (kinds : Kinds) (want : Option (Unit {0})) → (k ≡ kind.OutOfMemory) ⊎ IsAmong k kinds → ((kinds ≡ [] → ⊥) → want ≡ None)
+by_kind : (k : ErrorKind) (kinds : Kinds) (want : Option (Unit {0})) → (k ≡ kind.OutOfMemory) ⊎ IsAmong k kinds
+    → ((kinds ≡ [] → ⊥) → want ≡ None)
     → AreReadAs (Err (fault_of_reading k)) want
 by_kind kind.OutOfMemory kinds want h none = tt
 by_kind k kinds want (inl e) none = cc
 by_kind k kinds want (inr among) none = none (λ e. subst (IsAmong k) e among)
 
-module _ (once often words : List Text) (plain : list_all is_plain words ≡ true) (app : App) (is : app ≡ reader once often) where
+module _ (once often words : List Text) (plain : list_all is_plain words ≡ true) (app : App)
+    (is : app ≡ reader once often) where
   simple_app : is_simple_and_free app ≡ true
   simple_app = ap is_simple_and_free is ∙ simple_reader once often
 
   -- where `clap` fails, words are refused, unless memory ran out
-  pub refused_by : (e : Error) (fault : WordsFault) → fault ≡ fault_of_reading (kind_of e) → (is_simple_and_free app ≡ true → HasKind (fault_of app words) e)
+  pub refused_by : (e : Error) (fault : WordsFault) → fault ≡ fault_of_reading (kind_of e)
+      → (is_simple_and_free app ≡ true → HasKind (fault_of app words) e)
       → AreReadAs (Err fault) (option_and_then (checked_for once often) (options_in words))
   refused_by e fault says fails =
-      let kinds : HasKind (fault_of (reader once often) words) e = subst (λ a. HasKind (fault_of a words) e) is (fails simple_app) in
+      let kinds : HasKind (fault_of (reader once often) words) e = subst (λ a. HasKind (fault_of a words) e) is
+      (fails simple_app) in
       subst (λ f. AreReadAs (Err f) (option_and_then (checked_for once often) (options_in words))) (sym says)
       (by_kind (kind_of e) (fault_of (reader once often) words) _ kinds (unread_where_fault once often words plain))
 
@@ -43,12 +47,15 @@ module _ (once often words : List Text) (plain : list_all is_plain words ≡ tru
     pub finds : Finds matches (given_by words)
 
   -- where it answers, it found the options
-  pub found_by : (matches : ArgMatches) → (is_simple_and_free app ≡ true → fault_of app words ≡ []) → HasMatchesOf app words matches → Found matches
+  pub found_by : (matches : ArgMatches) → (is_simple_and_free app ≡ true → fault_of app words ≡ [])
+      → HasMatchesOf app words matches → Found matches
   found_by matches fails has =
       let none : fault_of (reader once often) words ≡ [] = ap (λ a. fault_of a words) (sym is) ∙ fails simple_app in
       let read = read_where_no_fault once often words plain none in
       let given_is : read.0 ≡ given_by words = sym (ap (λ o. unwrap_or o []) read.1.read) in
-      let rows : rows_of (found_of matches) ≡ matches_of (reader once often) words = (has (both (is_simple app) (is_free_app (built app)) simple_app).0).0 ∙ ap (λ a. matches_of a words) is in
+      let rows : rows_of (found_of matches) ≡ matches_of (reader once often) words =
+      (has (both (is_simple app) (is_free_app (built app)) simple_app).0).0 ∙ ap (λ a. matches_of a words) is
+      in
       record {
         options = read.1.read ∙ ap Some given_is;
         checks = ap (checked_for once often) (sym given_is) ∙ read.1.checks;

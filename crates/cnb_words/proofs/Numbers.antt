@@ -14,9 +14,11 @@ outside : (least most number : ℕ) → (number ≤ most → ⊥) → in_limits 
 outside least most number h = grind (arith, nat_tests)
 
 -- where no number of 32 bits is read, the digits are beyond 32 bits
-pub no_number : {E : Type 0} (least most : ℕ) (text : List ℕ) (fault : E) → is_decimal text ≡ true → most < 2 ^ 32 → ParsesUnsigned {E = E} 32 10 text (Err fault) → number_in least most text ≡ None
+pub no_number : {E : Type 0} (least most : ℕ) (text : List ℕ) (fault : E) → is_decimal text ≡ true → most < 2 ^ 32
+    → ParsesUnsigned {E = E} 32 10 text (Err fault) → number_in least most text ≡ None
 no_number least most text fault h fits parsed =
     let all : list_all is_ascii_digit text ≡ true = grind (arith, nat_tests) in
     let some : 0 < length text = grind (arith, nat_tests) in
     ap (λ b. cond b (in_limits least most (digits_value 10 text)) None) h
-    ∙ outside least most (digits_value 10 text) (λ le. parse_digits digits 32 text (Err fault) parsed all (some, omega arith))
+    ∙ outside least most (digits_value 10 text) (λ le. parse_digits digits 32 text (Err fault) parsed all
+    (some, omega arith))

@@ -7,6 +7,7 @@ abbrev pub behind : {T : Type 0} → List T → Option (List T) → Option (List
 behind done None = None
 behind done (Some rest) = Some (done ++ rest)
 
-pub behind-in_front : {T : Type 0} (done : List T) (one : T) (rest : Option (List T)) → behind done (in_front (Some one) rest) ≡ behind (done ++ one ∷ []) rest
+pub behind-in_front : {T : Type 0} (done : List T) (one : T) (rest : Option (List T))
+    → behind done (in_front (Some one) rest) ≡ behind (done ++ one ∷ []) rest
 behind-in_front done one None = refl
 behind-in_front done one (Some rest) = ap Some (sym (append_assoc done (one ∷ []) rest))

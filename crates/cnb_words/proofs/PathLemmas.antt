@@ -17,6 +17,7 @@ paths_by_name name [] = refl
 paths_by_name name (option ∷ options) = go (has_name name option) (paths_by_name name options)
   where
     go : (b : Bool) → paths_in (texts_of name options) ≡ paths_of name options
-        → paths_in (cond b (option.value ∷ texts_of name options) (texts_of name options)) ≡ cond b (in_front (path_in option.value) (paths_of name options)) (paths_of name options)
+        → paths_in (cond b (option.value ∷ texts_of name options) (texts_of name options))
+        ≡ cond b (in_front (path_in option.value) (paths_of name options)) (paths_of name options)
     go true e = ap (in_front (path_in option.value)) e
     go false e = e

@@ -12,11 +12,13 @@ use Rattle.cnb_words.proofs.WalkLemmas.{Kind, built_rule, guard, guard-or, shape
 
 -- ---- what building makes of the command
 
-filled_often : (often : List Text) → filled_from 1 (map (option_rule Append) often) ≡ map built_rule (map (λ name. (true, name)) often)
+filled_often : (often : List Text) → filled_from 1 (map (option_rule Append) often)
+    ≡ map built_rule (map (λ name. (true, name)) often)
 filled_often [] = refl
 filled_often (name ∷ often) = ap (λ rest. built_rule (true, name) ∷ rest) (filled_often often)
 
-filled_all : (once often : List Text) → filled_from 1 (map (option_rule Set) once ++ map (option_rule Append) often) ≡ map built_rule (kinds_of once often)
+filled_all : (once often : List Text) → filled_from 1 (map (option_rule Set) once
+    ++ map (option_rule Append) often) ≡ map built_rule (kinds_of once often)
 filled_all [] often = filled_often often
 filled_all (name ∷ once) often = ap (λ rest. built_rule (false, name) ∷ rest) (filled_all once often)
 
@@ -25,7 +27,8 @@ abbrev built_reader : List Kind → App
 built_reader kinds = record { top = shape kinds; subs = [] }
 
 built_is : (once often : List Text) → built (reader once often) ≡ built_reader (kinds_of once often)
-built_is once often = ap (λ rules. record { top = record (shape []) { rules = rules }; subs = [] }) (filled_all once often)
+built_is once often = ap (λ rules. record { top = record (shape []) { rules = rules }; subs = [] })
+    (filled_all once often)
 
 -- ---- it is simple
 
@@ -43,17 +46,21 @@ plain_often : (often : List Text) → list_all (λ a. a.is_simple) (map (option_
 plain_often [] = refl
 plain_often (name ∷ often) = plain_often often
 
-plain_all : (once often : List Text) → list_all (λ a. a.is_simple) (map (option_rule Set) once ++ map (option_rule Append) often) ≡ true
+plain_all : (once often : List Text) → list_all (λ a. a.is_simple)
+    (map (option_rule Set) once ++ map (option_rule Append) often) ≡ true
 plain_all [] often = plain_often often
 plain_all (name ∷ once) often = plain_all once often
 
 pub simple_reader : (once often : List Text) → is_simple_and_free (reader once often) ≡ true
 simple_reader once often =
     let kinds = kinds_of once often in
-    let of_built = λ (a : App). (is_buildable (reader once often) && (is_ready a.top && list_all is_ready_leaf a.subs)) && is_free_app a in
+    let of_built = λ (a : App). (is_buildable (reader once often)
+    && (is_ready a.top && list_all is_ready_leaf a.subs)) && is_free_app a in
     let buildable : is_buildable (reader once often) ≡ true = rw (plain_all once often) refl in
     let simple : has_simple_rules (shape kinds) ≡ true = each_built (λ a. a.is_simple) (λ k. refl) kinds in
-    let ordered : is_in_order (map built_rule kinds) ≡ true = ap not (none_built (is_early_multiple (count_by (λ a. is_some a.index) (map built_rule kinds))) (λ k. refl) kinds) in
+    let ordered : is_in_order (map built_rule kinds) ≡ true = ap not
+    (none_built (is_early_multiple (count_by (λ a. is_some a.index) (map built_rule kinds)))
+    (λ k. refl) kinds) in
     let free : has_free_rules (shape kinds) ≡ true = each_built (λ a. a.is_free) (λ k. refl) kinds in
     ap of_built (built_is once often) ∙ rw (buildable, simple, ordered, free) refl
 
@@ -78,13 +85,15 @@ cond-same false x = refl
 no_default_fault : (kinds : List Kind) (rows : List Row) → defaults_fault rows (map built_rule kinds) ≡ []
 unfolding defaults_fault
 no_default_fault [] rows = refl
-no_default_fault (k ∷ ks) rows = rw (or-true (has_row k.1 rows), cond-same (has_row k.1 rows) rows) (no_default_fault ks rows)
+no_default_fault (k ∷ ks) rows = rw (or-true (has_row k.1 rows), cond-same (has_row k.1 rows) rows)
+    (no_default_fault ks rows)
 
 no_defaults : (kinds : List Kind) (rows : List Row) → fold with_default rows (map built_rule kinds) ≡ rows
 no_defaults [] rows = refl
 no_defaults (k ∷ ks) rows = go (has_row k.1 rows) (no_defaults ks rows)
   where
-    go : (b : Bool) → fold with_default rows (map built_rule ks) ≡ rows → fold with_default (cond b rows rows) (map built_rule ks) ≡ rows
+    go : (b : Bool) → fold with_default rows (map built_rule ks) ≡ rows
+        → fold with_default (cond b rows rows) (map built_rule ks) ≡ rows
     go true e = e
     go false e = e
 
@@ -102,14 +111,18 @@ module _ (once often words : List Text) where
   abbrev end : Held
   end = (walk (map built_rule kinds) [] nothing_held words).held
 
-  faults : fault_of (reader once often) words ≡ or_else (walk_fault (shape kinds) [] (walk_from nothing_held) words) (settle_fault (map built_rule kinds) false end)
+  faults : fault_of (reader once often) words ≡ or_else (walk_fault (shape kinds) []
+      (walk_from nothing_held) words) (settle_fault (map built_rule kinds) false end)
   faults =
       let stop = (walk (map built_rule kinds) [] nothing_held words).stopped in
       let walks = walk_fault (shape kinds) [] (walk_from nothing_held) words in
       let settles = settle_fault (map built_rule kinds) false end in
       ap (λ a. built_fault a nothing_held words) (built_is once often)
-      ∙ ap₂ (λ o below. level_fault (shape kinds) [] nothing_held words (is_some o) below) (no_entry kinds stop) (no_entry_fault kinds stop)
-      ∙ ap₂ (λ a b. or_else walks (or_else settles (or_else a b))) (no_default_fault kinds (settled (map built_rule kinds) end).rows) (no_check_fault kinds (finished (map built_rule kinds) end))
+      ∙ ap₂ (λ o below. level_fault (shape kinds) [] nothing_held words (is_some o) below) (no_entry kinds stop)
+      (no_entry_fault kinds stop)
+      ∙ ap₂ (λ a b. or_else walks (or_else settles (or_else a b)))
+      (no_default_fault kinds (settled (map built_rule kinds) end).rows)
+      (no_check_fault kinds (finished (map built_rule kinds) end))
       ∙ ap (or_else walks) (or_else_none settles)
 
   rows : matches_of (reader once often) words ≡ (settled (map built_rule kinds) end).rows
@@ -118,8 +131,10 @@ module _ (once often words : List Text) where
       ∙ no_defaults kinds (settled (map built_rule kinds) end).rows
 
   -- `clap` fails, or finds the rows of the options
-  pub reads : list_all is_plain words ≡ true → guard (fault_of (reader once often) words) (Some (matches_of (reader once often) words)) ≡ taken kinds [] None words
+  pub reads : list_all is_plain words ≡ true → guard (fault_of (reader once often) words)
+      (Some (matches_of (reader once often) words)) ≡ taken kinds [] None words
   reads plain =
       ap₂ (λ (a : Kinds) (b : List Row). guard a (Some b)) faults rows
-      ∙ guard-or (walk_fault (shape kinds) [] (walk_from nothing_held) words) (settle_fault (map built_rule kinds) false end) (Some (settled (map built_rule kinds) end).rows)
+      ∙ guard-or (walk_fault (shape kinds) [] (walk_from nothing_held) words)
+      (settle_fault (map built_rule kinds) false end) (Some (settled (map built_rule kinds) end).rows)
       ∙ (walk_law kinds words plain).0 nothing_held

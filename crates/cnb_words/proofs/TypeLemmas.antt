@@ -19,11 +19,14 @@ ascii_bytes (byte ∷ name) h zero = type_byte byte (grind (arith, nat_tests))
 ascii_bytes (byte ∷ name) h (suc i) = ascii_bytes name (grind (arith, nat_tests)) i
 
 type_is_text : (name : List ℕ) → is_process_type name ≡ true → IsUtf8 name
-type_is_text name h = let all : list_all is_type_byte name ≡ true = grind (arith, nat_tests) in IsUtf8-from_ascii name (ascii_bytes name all)
+type_is_text name h = let all : list_all is_type_byte name ≡ true = grind (arith, nat_tests)
+    in IsUtf8-from_ascii name (ascii_bytes name all)
 
 -- the last part of a process's path is a text
-pub type_in : {E : Type 0} (Q : E → Type 0) (path bytes : List ℕ) (read : Result (Bor (List ℕ)) E) → is_process_path path ≡ true → bytes ≡ last_part path
-    → MatchResult read (λ text. (text.now ≡ bytes) × IsUtf8 bytes) (λ fault. (¬ IsUtf8 bytes) × Q fault) → option_copied (result_ok read) ≡ process_type path
+pub type_in : {E : Type 0} (Q : E → Type 0) (path bytes : List ℕ) (read : Result (Bor (List ℕ)) E)
+    → is_process_path path ≡ true → bytes ≡ last_part path
+    → MatchResult read (λ text. (text.now ≡ bytes) × IsUtf8 bytes) (λ fault. (¬ IsUtf8 bytes) × Q fault)
+    → option_copied (result_ok read) ≡ process_type path
 type_in Q path bytes (Ok text) is part h = ap Some (h.0 ∙ part) ∙ ap (λ b. cond b (Some (last_part path)) None) (sym is)
 type_in Q path bytes (Err fault) is part h =
     let kind : is_process_type (last_part path) ≡ true = grind (arith, nat_tests) in

@@ -13,7 +13,15 @@ choice_values options = do
   platform ← path_of (codes "--platform") options
   work ← path_of (codes "--work") options
   workers ← workers_of options
-  Some (record { order = order; buildpacks = buildpacks; app = app; platform = platform; work = work; workers = workers })
+  Some (record {
+    order = order;
+    buildpacks = buildpacks;
+    app = app;
+    platform = platform;
+    work = work;
+    workers =
+        workers;
+  })
 
 -- paths of at most 4,096 bytes, and 1 to 64 workers
 pub record KeepsLimits (words : ChoiceWords) : Type 0 where

@@ -41,7 +41,8 @@ abbrev pub create_in : List Given → Option CreateWords
 create_in options = do
   checked ← check_names
       (codes "--order" ∷ codes "--buildpacks" ∷ codes "--app" ∷ codes "--platform" ∷ codes "--work" ∷ codes "--layers"
-      ∷ codes "--store" ∷ codes "--run" ∷ codes "--launcher" ∷ codes "--image" ∷ codes "--previous" ∷ codes "--workers" ∷ [])
+      ∷ codes "--store" ∷ codes "--run" ∷ codes "--launcher" ∷ codes "--image" ∷ codes "--previous"
+      ∷ codes "--workers" ∷ [])
       (codes "--cache" ∷ []) options
   create_values options
 

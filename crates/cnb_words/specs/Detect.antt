@@ -19,7 +19,8 @@ detect_values options = do
 abbrev pub detect_in : List Given → Option DetectWords
 detect_in options = do
   checked ← check_names
-      (codes "--order" ∷ codes "--buildpacks" ∷ codes "--app" ∷ codes "--platform" ∷ codes "--work" ∷ codes "--workers" ∷ codes "--record" ∷ []) []
+      (codes "--order" ∷ codes "--buildpacks" ∷ codes "--app" ∷ codes "--platform" ∷ codes "--work"
+      ∷ codes "--workers" ∷ codes "--record" ∷ []) []
       options
   detect_values options
 

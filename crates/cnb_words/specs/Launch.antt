@@ -32,7 +32,8 @@ launch_in_root (root ∷ words) = launch_at root words
 -- `--root` with a path in front, where it is a word of its own; else the root is `/`
 abbrev pub launch_in : List (List ℕ) → Option LaunchWords
 launch_in [] = launch_at (codes "/") []
-launch_in (first ∷ rest) = if bytes_eq first (codes "--root") then launch_in_root rest else launch_at (codes "/") (first ∷ rest)
+launch_in (first ∷ rest) = if bytes_eq first (codes "--root") then launch_in_root rest else launch_at (codes "/")
+    (first ∷ rest)
 
 -- the process of a type, with arguments
 abbrev pub process_at : List ℕ → List ℕ → List (List ℕ) → Option LaunchWords

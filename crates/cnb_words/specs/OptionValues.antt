@@ -42,7 +42,8 @@ workers_of options = workers_or_eight (value_of (codes "--workers") options)
 -- the paths of an option that may stand several times
 abbrev pub paths_of : List ℕ → List Given → Option (List (List ℕ))
 paths_of name [] = Some []
-paths_of name (option ∷ options) = if has_name name option then in_front (path_in option.value) (paths_of name options) else paths_of name options
+paths_of name (option ∷ options) = if has_name name option then in_front (path_in option.value)
+    (paths_of name options) else paths_of name options
 
 -- the folders of the caches
 abbrev pub few_caches : List (List ℕ) → Option (List (List ℕ))

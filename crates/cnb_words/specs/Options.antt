@@ -37,7 +37,8 @@ in_front (Some one) (Some rest) = Some (one ∷ rest)
 abbrev pub options_behind : Option (List ℕ) → List (List ℕ) → Option (List Given)
 options_behind None [] = Some []
 options_behind (Some name) [] = None
-options_behind None (word ∷ words) = if has_equals word then in_front (in_one_word word) (options_behind None words) else options_behind (Some word) words
+options_behind None (word ∷ words) = if has_equals word then in_front (in_one_word word)
+    (options_behind None words) else options_behind (Some word) words
 options_behind (Some name) (word ∷ words) = in_front (in_two_words name word) (options_behind None words)
 
 -- the options that words give: each is `--name=value` in one word or `--name value` in two
@@ -50,7 +51,8 @@ has_name name option = bytes_eq option.name name
 
 -- each option has one of these names
 abbrev pub have_names : List (List ℕ) → List (List ℕ) → List Given → Bool
-have_names once often options = list_all (λ option. list_any (bytes_eq option.name) once || list_any (bytes_eq option.name) often) options
+have_names once often options = list_all (λ option. list_any (bytes_eq option.name) once
+    || list_any (bytes_eq option.name) often) options
 
 -- each of these names stands at most once
 abbrev pub stand_once : List (List ℕ) → List Given → Bool

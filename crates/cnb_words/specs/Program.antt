@@ -11,11 +11,13 @@ last_part path = drop (length (parent_of path) + 1) path
 
 -- `/cnb/process/<type>`, in any root
 abbrev pub is_process_path : List ℕ → Bool
-is_process_path path = is_short_path path && ends_with nat_eq (parent_of path) (codes "/cnb/process") && is_process_type (last_part path)
+is_process_path path = is_short_path path && ends_with nat_eq (parent_of path) (codes "/cnb/process")
+    && is_process_type (last_part path)
 
 -- the program is started as the launcher, `/cnb/lifecycle/launcher` in any root
 abbrev pub is_launcher : List ℕ → Bool
-is_launcher program = bytes_eq program (codes "launcher") || (is_short_path program && ends_with nat_eq program (codes "/cnb/lifecycle/launcher"))
+is_launcher program = bytes_eq program (codes "launcher")
+    || (is_short_path program && ends_with nat_eq program (codes "/cnb/lifecycle/launcher"))
 
 -- the process that the program is started as
 abbrev pub process_type : List ℕ → Option (List ℕ)

@@ -20,7 +20,12 @@ use Rattle.cnb_words.specs.declared.options.Given.{Given}
 
 -- an option that takes a value which isn't empty
 abbrev pub option_rule : ArgAction → Text → Rule
-option_rule action name = record (new_rule name) { long = Some name; action = Some action; parser = Some NonEmptyString }
+option_rule action name = record (new_rule name) {
+  long = Some name;
+  action = Some action;
+  parser = Some
+      NonEmptyString;
+}
 
 -- a command with options that stand at most once, and options that may stand several times
 abbrev pub reader_of : List Rule → App
@@ -70,7 +75,8 @@ given_by words = unwrap_or (options_in words) []
 -- the values of an option that may stand several times
 abbrev pub texts_of : List ℕ → List Given → List (List ℕ)
 texts_of name [] = []
-texts_of name (option ∷ options) = if has_name name option then option.value ∷ texts_of name options else texts_of name options
+texts_of name (option ∷ options) = if has_name name option then option.value
+    ∷ texts_of name options else texts_of name options
 
 -- the values that rows have of a name
 abbrev pub values_at : Text → List Row → List Text

@@ -91,7 +91,8 @@ unless_process (Some kind) root words = process_asked root kind words
 abbrev pub asked_by : List (List ℕ) → Result Asked WordsFault
 asked_by [] = Err Usage
 asked_by (program ∷ words) =
-    if is_launcher program then launcher_asked (root_of program) words else unless_process (process_type program) (root_of program) words
+    if is_launcher program then launcher_asked (root_of program) words else unless_process (process_type program)
+    (root_of program) words
 
 -- the folders of the caches that a command uses
 abbrev pub caches_asked : Asked → List (List ℕ)

@@ -49,7 +49,8 @@ first_there : (n : List ℕ) (ns : List (List ℕ)) → list_any (bytes_eq n) (n
 first_there n ns = ap (λ v. v || list_any (bytes_eq n) ns) (bytes_eq-same n)
 
 not_before : (n m : List ℕ) (ns : List (List ℕ)) → Leads m ns → list_any (bytes_eq n) (m ∷ ns) ≡ true → order n m ≢ Less
-not_before n m ns all there h = let no : false ≡ true = sym (leads_absent n (m ∷ ns) (h, leads_further n m ns h all)) ∙ there in cc
+not_before n m ns all there h = let no : false ≡ true = sym
+    (leads_absent n (m ∷ ns) (h, leads_further n m ns h all)) ∙ there in cc
 
 abbrev SameMembers : List (List ℕ) → List (List ℕ) → Type 0
 SameMembers ns ms = (name : List ℕ) → IsTrue (is_part name) → list_any (bytes_eq name) ns ≡ list_any (bytes_eq name) ms
@@ -62,26 +63,35 @@ same_first n m a b = by (order n m) refl
     by Equal e = slice_cmp-IsAntisymmetric nat_cmp-IsAntisymmetric n m e
     by Greater e = absurd (b (nat_list_cmp_total.antisymm m n ∙ ap ordering_reverse e))
 
-same_behind : (n : List ℕ) (ns ms : List (List ℕ)) → Leads n ns → Leads n ms → SameMembers (n ∷ ns) (n ∷ ms) → SameMembers ns ms
+same_behind : (n : List ℕ) (ns ms : List (List ℕ)) → Leads n ns → Leads n ms → SameMembers (n ∷ ns) (n ∷ ms)
+    → SameMembers ns ms
 same_behind n ns ms before_ns before_ms same name part = by (bytes_eq name n) refl (same name part)
   where
-    by : (v : Bool) → bytes_eq name n ≡ v → (v || list_any (bytes_eq name) ns) ≡ (v || list_any (bytes_eq name) ms) → list_any (bytes_eq name) ns ≡ list_any (bytes_eq name) ms
-    by true e h = let is : name ≡ n = (bytes_eq-Decides name n).0 e in ap (λ q. list_any (bytes_eq q) ns) is ∙ leads_absent n ns before_ns ∙ sym (leads_absent n ms before_ms) ∙ sym (ap (λ q. list_any (bytes_eq q) ms) is)
+    by : (v : Bool) → bytes_eq name n ≡ v → (v || list_any (bytes_eq name) ns)
+        ≡ (v || list_any (bytes_eq name) ms) → list_any (bytes_eq name) ns ≡ list_any (bytes_eq name) ms
+    by true e h = let is : name ≡ n = (bytes_eq-Decides name n).0 e in ap (λ q. list_any (bytes_eq q) ns) is
+        ∙ leads_absent n ns before_ns ∙ sym (leads_absent n ms before_ms)
+        ∙ sym (ap (λ q. list_any (bytes_eq q) ms) is)
     by false e h = h
 
 pub same_names : (ns ms : List (List ℕ)) → AreNames ns → AreNames ms → SameMembers ns ms → ns ≡ ms
 same_names [] [] a b same = refl
 same_names [] (m ∷ ms) a b same = absurd (let no : false ≡ true = same m b.0 ∙ first_there m ms in cc)
 same_names (n ∷ ns) [] a b same = absurd (let no : true ≡ false = sym (first_there n ns) ∙ same n a.0 in cc)
-same_names (n ∷ ns) (m ∷ ms) a b same = ap (λ q. q ∷ ns) first ∙ ap (λ rest. m ∷ rest) (same_names ns ms a.2 b.2 (same_behind m ns ms (subst (λ q. Leads q ns) first a.1) b.1 (subst (λ q. SameMembers (q ∷ ns) (m ∷ ms)) first same)))
+same_names (n ∷ ns) (m ∷ ms) a b same = ap (λ q. q ∷ ns) first
+    ∙ ap (λ rest. m ∷ rest) (same_names ns ms a.2 b.2
+    (same_behind m ns ms (subst (λ q. Leads q ns) first a.1) b.1
+    (subst (λ q. SameMembers (q ∷ ns) (m ∷ ms)) first same)))
   where
     first : n ≡ m
-    first = same_first n m (not_before n m ms b.1 (sym (same n a.0) ∙ first_there n ns)) (not_before m n ns a.1 (same m b.0 ∙ first_there m ms))
+    first = same_first n m (not_before n m ms b.1 (sym (same n a.0) ∙ first_there n ns))
+        (not_before m n ns a.1 (same m b.0 ∙ first_there m ms))
 
 -- ---- the names of a folder's paths
 
 abbrev below : List ℕ → List ℕ → Option (List ℕ)
-below front path = cond (starts_with nat_eq path front && is_part (drop (length front) path)) (Some (drop (length front) path)) None
+below front path = cond (starts_with nat_eq path front && is_part (drop (length front) path))
+    (Some (drop (length front) path)) None
 
 -- a path is a front and a name
 record Below (front path name : List ℕ) : Type 0 where
@@ -97,9 +107,11 @@ below_is front path name h = by (starts_with nat_eq path front) refl (is_part re
     rest : List ℕ
     rest = drop (length front) path
 
-    by : (a : Bool) → starts_with nat_eq path front ≡ a → (b : Bool) → is_part rest ≡ b → cond (a && b) (Some rest) None ≡ Some name → Below front path name
+    by : (a : Bool) → starts_with nat_eq path front ≡ a → (b : Bool) → is_part rest ≡ b
+        → cond (a && b) (Some rest) None ≡ Some name → Below front path name
     by true starts true part e = let is : rest ≡ name = same_Some rest name e in record {
-      whole = sym (take-append-drop (length front) path) ∙ ap (λ f. f ++ rest) (sym ((bytes_eq-Decides front (take (length front) path)).0 starts)) ∙ ap (λ r. front ++ r) is;
+      whole = sym (take-append-drop (length front) path) ∙ ap (λ f. f ++ rest)
+          (sym ((bytes_eq-Decides front (take (length front) path)).0 starts)) ∙ ap (λ r. front ++ r) is;
       part = subst (λ r. IsTrue (is_part r)) is part;
     }
     by true starts false part e = absurd (cc)
@@ -107,17 +119,20 @@ below_is front path name h = by (starts_with nat_eq path front) refl (is_part re
 
 below_joined : (front name : List ℕ) → IsTrue (is_part name) → below front (front ++ name) ≡ Some name
 below_joined front name part =
-    ap (λ f. cond (bytes_eq front f && is_part (drop (length front) (front ++ name))) (Some (drop (length front) (front ++ name))) None) (take-append_seam front name)
+    ap (λ f. cond (bytes_eq front f && is_part (drop (length front) (front ++ name)))
+    (Some (drop (length front) (front ++ name))) None) (take-append_seam front name)
     ∙ ap (λ r. cond (bytes_eq front front && is_part r) (Some r) None) (drop-append_seam front name)
     ∙ ap (λ v. cond (v && is_part name) (Some name) None) (bytes_eq-same front)
     ∙ ap (λ v. cond v (Some name) None) part
 
 same_front : (front a b : List ℕ) → order (front ++ a) (front ++ b) ≡ order a b
 same_front [] a b = refl
-same_front (c ∷ cs) a b = ap (λ o. ordering_then o (order (cs ++ a) (cs ++ b))) (tied_itself nat_cmp_total c) ∙ same_front cs a b
+same_front (c ∷ cs) a b = ap (λ o. ordering_then o (order (cs ++ a) (cs ++ b))) (tied_itself nat_cmp_total c)
+    ∙ same_front cs a b
 
 same_front_test : (front a b : List ℕ) → bytes_eq (front ++ a) (front ++ b) ≡ bytes_eq a b
-same_front_test front a b = sym (is_eq-slice_cmp (front ++ a) (front ++ b)) ∙ ap is_eq (same_front front a b) ∙ is_eq-slice_cmp a b
+same_front_test front a b = sym (is_eq-slice_cmp (front ++ a) (front ++ b)) ∙ ap is_eq (same_front front a b)
+    ∙ is_eq-slice_cmp a b
 
 abbrev Entries : Type 0
 Entries = List (List ℕ × Item)
@@ -138,41 +153,64 @@ second_of_both : (a b : Bool) → T (a && b) → T b
 second_of_both true b h = h
 second_of_both false b h = absurd h
 
-leads_below : (front path name : List ℕ) (es : Entries) → path ≡ front ++ name → T (below_all (slice_cmp nat_cmp) path es) → Leads name (names_behind front es)
+leads_below : (front path name : List ℕ) (es : Entries) → path ≡ front ++ name
+    → T (below_all (slice_cmp nat_cmp) path es) → Leads name (names_behind front es)
 leads_below front path name [] is h = tt
-leads_below front path name (e ∷ es) is h = by (below front e.0) refl (leads_below front path name es is (second_of_both _ _ h))
+leads_below front path name (e ∷ es) is h = by (below front e.0) refl
+    (leads_below front path name es is (second_of_both _ _ h))
   where
-    by : (o : Option (List ℕ)) → below front e.0 ≡ o → Leads name (names_behind front es) → Leads name (cons_option o (names_behind front es))
+    by : (o : Option (List ℕ)) → below front e.0 ≡ o → Leads name (names_behind front es)
+        → Leads name (cons_option o (names_behind front es))
     by None found later = later
-    by (Some other) found later = (sym (same_front front name other) ∙ ap (λ p. order p (front ++ other)) (sym is) ∙ ap (order path) (sym (below_is front e.0 other found).whole) ∙ is_less (order path e.0) (first_of_both _ _ h), later)
+    by (Some other) found later = (
+      sym (same_front front name other) ∙ ap (λ p. order p (front ++ other)) (sym is)
+          ∙ ap (order path) (sym (below_is front e.0 other found).whole)
+          ∙ is_less (order path e.0) (first_of_both _ _ h),
+      later,
+    )
 
 are_names : (front : List ℕ) (es : Entries) → T (is_sorted (slice_cmp nat_cmp) es) → AreNames (names_behind front es)
 are_names front [] h = tt
 are_names front (e ∷ es) h = by (below front e.0) refl (are_names front es (second_of_both _ _ h))
   where
-    by : (o : Option (List ℕ)) → below front e.0 ≡ o → AreNames (names_behind front es) → AreNames (cons_option o (names_behind front es))
+    by : (o : Option (List ℕ)) → below front e.0 ≡ o → AreNames (names_behind front es)
+        → AreNames (cons_option o (names_behind front es))
     by None found later = later
-    by (Some name) found later = let is : Below front e.0 name = below_is front e.0 name found in (is.part, leads_below front e.0 name es is.whole (first_of_both _ _ h), later)
+    by (Some name) found later = let is : Below front e.0 name = below_is front e.0 name found
+        in (is.part, leads_below front e.0 name es is.whole (first_of_both _ _ h), later)
 
 not_Some : (x : List ℕ) → None ≢ Some x
 not_Some x e = let no : false ≡ true = ap is_some e in cc
 
-any-names : (front name : List ℕ) → IsTrue (is_part name) → (es : Entries) → list_any (bytes_eq name) (names_behind front es) ≡ is_some (find (slice_cmp nat_cmp) (front ++ name) es)
+any-names : (front name : List ℕ) → IsTrue (is_part name) → (es : Entries)
+    → list_any (bytes_eq name) (names_behind front es) ≡ is_some (find (slice_cmp nat_cmp) (front ++ name) es)
 any-names front name part [] = refl
-any-names front name part (e ∷ es) = by (below front e.0) refl ∙ ap (λ v. v || list_any (bytes_eq name) (names_behind front es)) (sym (is_eq-slice_cmp (front ++ name) e.0)) ∙ at_first (is_eq (order (front ++ name) e.0)) (any-names front name part es)
+any-names front name part (e ∷ es) = by (below front e.0) refl
+    ∙ ap (λ v. v || list_any (bytes_eq name) (names_behind front es)) (sym (is_eq-slice_cmp (front ++ name) e.0))
+    ∙ at_first (is_eq (order (front ++ name) e.0)) (any-names front name part es)
   where
-    at_first : (v : Bool) → list_any (bytes_eq name) (names_behind front es) ≡ is_some (find (slice_cmp nat_cmp) (front ++ name) es) → (v || list_any (bytes_eq name) (names_behind front es)) ≡ is_some (cond v (Some e.1) (find (slice_cmp nat_cmp) (front ++ name) es))
+    at_first : (v : Bool) → list_any (bytes_eq name) (names_behind front es)
+        ≡ is_some (find (slice_cmp nat_cmp) (front ++ name) es)
+        → (v || list_any (bytes_eq name) (names_behind front es))
+        ≡ is_some (cond v (Some e.1) (find (slice_cmp nat_cmp) (front ++ name) es))
     at_first true later = refl
     at_first false later = later
 
-    by : (o : Option (List ℕ)) → below front e.0 ≡ o → list_any (bytes_eq name) (cons_option o (names_behind front es)) ≡ (bytes_eq (front ++ name) e.0 || list_any (bytes_eq name) (names_behind front es))
-    by None found = ap (λ v. v || list_any (bytes_eq name) (names_behind front es)) (sym (bytes_eq-other (front ++ name) e.0 (λ same. not_Some name (sym found ∙ ap (below front) (sym same) ∙ below_joined front name part))))
-    by (Some other) found = ap (λ v. v || list_any (bytes_eq name) (names_behind front es)) (sym (same_front_test front name other) ∙ ap (bytes_eq (front ++ name)) (sym (below_is front e.0 other found).whole))
+    by : (o : Option (List ℕ)) → below front e.0 ≡ o → list_any (bytes_eq name)
+        (cons_option o (names_behind front es)) ≡ (bytes_eq (front ++ name) e.0
+        || list_any (bytes_eq name) (names_behind front es))
+    by None found = ap (λ v. v || list_any (bytes_eq name) (names_behind front es))
+        (sym (bytes_eq-other (front ++ name) e.0 (λ same. not_Some name
+        (sym found ∙ ap (below front) (sym same) ∙ below_joined front name part))))
+    by (Some other) found = ap (λ v. v || list_any (bytes_eq name) (names_behind front es))
+        (sym (same_front_test front name other) ∙ ap (bytes_eq (front ++ name))
+        (sym (below_is front e.0 other found).whole))
 
 -- ---- the folder's list
 
 joined_front : (folder name : List ℕ) → joined folder name ≡ joined folder [] ++ name
-joined_front folder name = ap (λ f. f ++ name) (sym (append-nil (cond (bytes_eq folder (47 ∷ [])) folder (folder ++ 47 ∷ []))))
+joined_front folder name = ap (λ f. f ++ name)
+    (sym (append-nil (cond (bytes_eq folder (47 ∷ [])) folder (folder ++ 47 ∷ []))))
 
 -- a path of a name is longer than `/`
 below_root : (folder name : List ℕ) → IsTrue (is_part name) → is_root (joined folder name) ≡ false
@@ -181,18 +219,27 @@ below_root folder (c ∷ cs) part = by (bytes_eq folder (47 ∷ [])) refl
   where
     by : (v : Bool) → bytes_eq folder (47 ∷ []) ≡ v → is_root (cond v folder (folder ++ 47 ∷ []) ++ c ∷ cs) ≡ false
     by true e = ap (λ f. is_root (f ++ c ∷ cs)) ((bytes_eq-Decides folder (47 ∷ [])).0 e)
-    by false e = not_longer ((folder ++ 47 ∷ []) ++ c ∷ cs) (47 ∷ []) (omega (arith, length-append (folder ++ 47 ∷ []) (c ∷ cs), length-append folder (47 ∷ [])))
+    by false e = not_longer ((folder ++ 47 ∷ []) ++ c ∷ cs) (47 ∷ [])
+        (omega (arith, length-append (folder ++ 47 ∷ []) (c ∷ cs), length-append folder (47 ∷ [])))
 
-at_key : (tree : Tree) (folder name : List ℕ) → IsTrue (is_part name) → item_at tree (joined folder name) ≡ get tree (joined folder name)
-at_key tree folder name part = ap (λ v. cond v (Some Folder) (get tree (joined folder name))) (below_root folder name part)
+at_key : (tree : Tree) (folder name : List ℕ) → IsTrue (is_part name)
+    → item_at tree (joined folder name) ≡ get tree (joined folder name)
+at_key tree folder name part = ap (λ v. cond v (Some Folder) (get tree (joined folder name)))
+    (below_root folder name part)
 
-pub names_listed : (tree : Tree) (folder : List ℕ) (names : List (List ℕ)) → Lists tree folder names → AreNames names → names ≡ names_in tree folder
-names_listed tree folder listed lists are = same_names listed (names_in tree folder) are (are_names (joined folder []) (entries tree) (entries_sorted tree)) (λ name part.
-    lists name part ∙ ap is_some (at_key tree folder name part ∙ ap (get tree) (joined_front folder name) ∙ get-entries tree (joined folder [] ++ name)) ∙ sym (any-names (joined folder []) name part (entries tree)))
+pub names_listed : (tree : Tree) (folder : List ℕ) (names : List (List ℕ)) → Lists tree folder names
+    → AreNames names → names ≡ names_in tree folder
+names_listed tree folder listed lists are = same_names listed (names_in tree folder) are
+    (are_names (joined folder []) (entries tree) (entries_sorted tree)) (λ name part.
+    lists name part ∙ ap is_some (at_key tree folder name part ∙ ap (get tree) (joined_front folder name)
+    ∙ get-entries tree (joined folder [] ++ name))
+    ∙ sym (any-names (joined folder []) name part (entries tree)))
 
 -- what a call that lists tells of its names
-pub told_names : (told : Option Tree) (folder : List ℕ) (result : Result (List (List ℕ)) FileFault) → IfOk result AreNames
-    → IfSome told (λ files. IfOk result (Lists files folder)) → IfSome told (λ files. IfOk result (λ names. names ≡ names_in files folder))
+pub told_names : (told : Option Tree) (folder : List ℕ) (result : Result (List (List ℕ)) FileFault)
+    → IfOk result AreNames
+    → IfSome told (λ files. IfOk result (Lists files folder))
+    → IfSome told (λ files. IfOk result (λ names. names ≡ names_in files folder))
 told_names None folder result are lists = tt
 told_names (Some files) folder (Err fault) are lists = tt
 told_names (Some files) folder (Ok names) are lists = names_listed files folder names lists are

@@ -9,14 +9,18 @@ use Rattle.std.specs.FinMap.{empty, get, insert, get-insert, get-empty}
 use Rattle.cnb_world.specs.Shelf.{Held, all_put, held_of}
 use Rattle.cnb_world.specs.declared.memory.shelf.Held.{Held as HeldBytes}
 
-all_put-push : (hs : List HeldBytes) (last : HeldBytes) (m : Held) → all_put (hs ++ last ∷ []) m ≡ insert (all_put hs m) last.digest last.bytes
+all_put-push : (hs : List HeldBytes) (last : HeldBytes) (m : Held)
+    → all_put (hs ++ last ∷ []) m ≡ insert (all_put hs m) last.digest last.bytes
 all_put-push [] last m = refl
 all_put-push (h ∷ hs) last m = all_put-push hs last (insert m h.digest h.bytes)
 
-pub held_of_push : (hs : List HeldBytes) (last : HeldBytes) → held_of (hs ++ last ∷ []) ≡ insert (held_of hs) last.digest last.bytes
+pub held_of_push : (hs : List HeldBytes) (last : HeldBytes)
+    → held_of (hs ++ last ∷ []) ≡ insert (held_of hs) last.digest last.bytes
 held_of_push hs last = all_put-push hs last empty
 
-pub held_after_last : (all earlier : List HeldBytes) (last : HeldBytes) (digest : List ℕ) → all ≡ earlier ++ last ∷ [] → get (held_of all) digest ≡ cond (bytes_eq digest last.digest) (Some last.bytes) (get (held_of earlier) digest)
+pub held_after_last : (all earlier : List HeldBytes) (last : HeldBytes) (digest : List ℕ)
+    → all ≡ earlier ++ last ∷ [] → get (held_of all) digest
+    ≡ cond (bytes_eq digest last.digest) (Some last.bytes) (get (held_of earlier) digest)
 held_after_last all earlier last digest is =
     ap (λ hs. get (held_of hs) digest) is
     ∙ ap (λ m. get m digest) (held_of_push earlier last)

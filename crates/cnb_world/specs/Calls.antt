@@ -52,12 +52,14 @@ AreNames (x ∷ xs) = IsTrue (is_part x) × AllByRecursion (λ y. slice_cmp nat_
 -- nothing changed, or a prefix of the bytes was added to the file
 abbrev pub AppendsSome : Option Tree → Option Tree → List ℕ → List ℕ → Type 0
 AppendsSome old new path bytes =
-    (new ≡ old) ⊎ (IfSome old (λ t. IsTrue (can_read t path)) × (n : ℕ) × (n ≤ length bytes) × (new ≡ option_map (appended path (take n bytes)) old))
+    (new ≡ old) ⊎ (IfSome old (λ t. IsTrue (can_read t path)) × (n : ℕ) × (n ≤ length bytes)
+    × (new ≡ option_map (appended path (take n bytes)) old))
 
 -- nothing changed, or some of what stood at the path and below it is gone
 abbrev pub RemovesSome : Option Tree → Option Tree → List ℕ → Type 0
 RemovesSome old new path =
-    (new ≡ old) ⊎ ((stays : List ℕ → Bool) × (new ≡ option_map (λ tree. retain_keys tree (λ q. not (is_within path q) || stays q)) old))
+    (new ≡ old) ⊎ ((stays : List ℕ → Bool) × (new ≡ option_map
+    (λ tree. retain_keys tree (λ q. not (is_within path q) || stays q)) old))
 
 -- where the tree allows the call, or isn't told, no misuse is counted
 abbrev pub MayMisuse : Option Bool → ℕ → ℕ → Type 0

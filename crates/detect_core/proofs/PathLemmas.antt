@@ -12,7 +12,13 @@ pub record AreShort (frame : DetectFrame) : Type 0 where
 
 pub short_folders : (frame : DetectFrame) → IsTrue (is_short frame) → AreShort frame
 short_folders frame h =
-    let (first, work) = and_parts (nat_le (length frame.buildpacks) 4096 && nat_le (length frame.app) 4096 && nat_le (length frame.platform) 4096) (nat_le (length frame.work) 4096) h in
-    let (second, platform) = and_parts (nat_le (length frame.buildpacks) 4096 && nat_le (length frame.app) 4096) (nat_le (length frame.platform) 4096) first in
+    let (first, work) = and_parts (nat_le (length frame.buildpacks) 4096 && nat_le (length frame.app) 4096
+    && nat_le (length frame.platform) 4096) (nat_le (length frame.work) 4096) h in
+    let (second, platform) = and_parts (nat_le (length frame.buildpacks) 4096 && nat_le (length frame.app) 4096)
+    (nat_le (length frame.platform) 4096) first in
     let (buildpacks, app) = and_parts (nat_le (length frame.buildpacks) 4096) (nat_le (length frame.app) 4096) second in
-    record { buildpacks = leb-true (length frame.buildpacks) 4096 buildpacks; work = leb-true (length frame.work) 4096 work }
+    record {
+      buildpacks = leb-true (length frame.buildpacks) 4096 buildpacks;
+      work = leb-true
+          (length frame.work) 4096 work;
+    }

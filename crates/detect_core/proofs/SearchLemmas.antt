@@ -36,7 +36,8 @@ use Rattle.detect_core.proofs.OrderLemmas.{all_some}
 use Rattle.detect_core.proofs.MemberLemmas.{keys_of_members, flat, members-push, members-front}
 
 -- A search that has asked and judged some groups, the first of which do not end it.
-pub record IsUnderWay (frame : DetectFrame) (asked done : List (List Member)) (old now : List SpawnerSeen) (kept : List KeptRow) (said : List AnswerRow) (erred : Bool) : Type 0 where
+pub record IsUnderWay (frame : DetectFrame) (asked done : List (List Member)) (old now : List SpawnerSeen)
+    (kept : List KeptRow) (said : List AnswerRow) (erred : Bool) : Type 0 where
   pub ran : List Ran
   pub by : AskedBy ran old now
   pub rows : kept ≡ map row_of ran
@@ -46,7 +47,15 @@ pub record IsUnderWay (frame : DetectFrame) (asked done : List (List Member)) (o
   pub errs : erred ≡ list_any (λ member. is_error (says frame.target build_plan ran member)) (flat asked)
 
 pub under_way_start : (frame : DetectFrame) (old : List SpawnerSeen) → IsUnderWay frame [] [] old old [] [] false
-under_way_start frame old = record { ran = []; by = asked_none old; rows = refl; said_is = refl; jobs = refl; none = refl; errs = refl }
+under_way_start frame old = record {
+  ran = [];
+  by = asked_none old;
+  rows = refl;
+  said_is = refl;
+  jobs = refl;
+  none = refl;
+  errs = refl;
+}
 
 -- a search that stopped for a child without an answer or for want of memory: some of the members' children were run
 abbrev pub IsStopped : DetectFrame → List (List Member) → List SpawnerSeen → List SpawnerSeen → Type 0
@@ -65,33 +74,43 @@ some_wider (job ∷ some) (first ∷ jobs) more (inr a) = inr (some_wider (job �
 
 -- the children of the first members were run, and some of those of the members behind them
 asks_some : (frame : DetectFrame) (groups : List (List Member)) (first next later : List Member) (ran more : List Ran) →
-    members_of groups ≡ first ++ (next ++ later) → map (λ r. r.job) ran ≡ map (detect_job frame) first → AreSome (map (λ r. r.job) more) (map (detect_job frame) next) →
+    members_of groups ≡ first ++ (next ++ later) → map (λ r. r.job) ran ≡ map (detect_job frame) first
+    → AreSome (map (λ r. r.job) more) (map (detect_job frame) next) →
     AreSome (map (λ r. r.job) (ran ++ more)) (map (detect_job frame) (members_of groups))
 asks_some frame groups first next later ran more parts jobs some =
     let job = λ (m : Member). detect_job frame m in
-    let own : map (λ r. r.job) (ran ++ more) ≡ map job first ++ map (λ r. r.job) more = map-append (λ (r : Ran). r.job) ran more ∙ ap (λ js. js ++ map (λ (r : Ran). r.job) more) jobs in
+    let own : map (λ r. r.job) (ran ++ more) ≡ map job first
+    ++ map (λ r. r.job) more = map-append (λ (r : Ran). r.job) ran more
+    ∙ ap (λ js. js ++ map (λ (r : Ran). r.job) more) jobs in
     let all : map job (members_of groups) ≡ map job first ++ (map job next ++ map job later) =
-    ap (map job) parts ∙ (map-append job first (next ++ later) ∙ ap (λ js. map job first ++ js) (map-append job next later)) in
+    ap (map job) parts ∙ (map-append job first (next ++ later)
+    ∙ ap (λ js. map job first ++ js) (map-append job next later)) in
     subst (λ (p : List DetectJob × List DetectJob). AreSome p.0 p.1) (λ i. (sym own i, sym all i))
-    (some_behind (map job first) (map (λ r. r.job) more) (map job next ++ map job later) (some_wider (map (λ r. r.job) more) (map job next) (map job later) some))
+    (some_behind (map job first) (map (λ r. r.job) more) (map job next ++ map job later)
+    (some_wider (map (λ r. r.job) more) (map job next) (map job later) some))
 
 asks_first : (frame : DetectFrame) (groups : List (List Member)) (first later : List Member) (ran : List Ran) →
-    members_of groups ≡ first ++ later → map (λ r. r.job) ran ≡ map (detect_job frame) first → AreSome (map (λ r. r.job) ran) (map (detect_job frame) (members_of groups))
+    members_of groups ≡ first ++ later → map (λ r. r.job) ran ≡ map (detect_job frame) first
+    → AreSome (map (λ r. r.job) ran) (map (detect_job frame) (members_of groups))
 asks_first frame groups first later ran parts jobs =
-    subst (λ rs. AreSome (map (λ r. r.job) rs) (map (detect_job frame) (members_of groups))) (append-nil ran) (asks_some frame groups first [] later ran [] parts jobs tt)
+    subst (λ rs. AreSome (map (λ r. r.job) rs) (map (detect_job frame) (members_of groups))) (append-nil ran)
+    (asks_some frame groups first [] later ran [] parts jobs tt)
 
 -- nothing more was asked
-pub stopped_between : (frame : DetectFrame) (done left : List (List Member)) (old now : List SpawnerSeen) (kept : List KeptRow) (said : List AnswerRow) (erred : Bool) →
+pub stopped_between : (frame : DetectFrame) (done left : List (List Member)) (old now : List SpawnerSeen)
+    (kept : List KeptRow) (said : List AnswerRow) (erred : Bool) →
     IsUnderWay frame done done old now kept said erred → IsStopped frame (done ++ left) old now
 stopped_between frame done left old now kept said erred s = record {
   answers = s.ran;
   asked = s.by;
   some = asks_first frame (fitting frame.target (done ++ left)) (members_of (fitting frame.target done))
       (unmet (keys_of_members (members_of (fitting frame.target done))) (flat (fitting frame.target left))) s.ran
-      (ap members_of (fitting-append frame.target done left) ∙ members-front (fitting frame.target done) (fitting frame.target left)) s.jobs;
+      (ap members_of (fitting-append frame.target done left) ∙ members-front (fitting frame.target done)
+      (fitting frame.target left)) s.jobs;
 }
 
-module _ (frame : DetectFrame) (done : List (List Member)) (group : List Member) (left : List (List Member)) (r0 r1 : List SpawnerSeen) (k1 : List KeptRow) (a1 : List AnswerRow) (erred : Bool)
+module _ (frame : DetectFrame) (done : List (List Member)) (group : List Member) (left : List (List Member))
+    (r0 r1 : List SpawnerSeen) (k1 : List KeptRow) (a1 : List AnswerRow) (erred : Bool)
     (s : IsUnderWay frame done done r0 r1 k1 a1 erred) where
   abbrev fit_done : List (List Member)
   fit_done = fitting frame.target done
@@ -109,7 +128,8 @@ module _ (frame : DetectFrame) (done : List (List Member)) (group : List Member)
   answered_keys = sym (map-map (λ (row : KeptRow). row.0) row_of s.ran) ∙ ran_keys frame met s.ran s.jobs
 
   -- some of the group's members were asked
-  pub stopped_in : (r2 : List SpawnerSeen) → RunsSome (map (detect_job frame) (unmet (keys_of k1) own)) r1 r2 → IsStopped frame (done ++ group ∷ left) r0 r2
+  pub stopped_in : (r2 : List SpawnerSeen) → RunsSome (map (detect_job frame) (unmet (keys_of k1) own)) r1 r2
+      → IsStopped frame (done ++ group ∷ left) r0 r2
   stopped_in r2 a =
       let next = unmet (keys_of k1) own in
       let fit_left = fitting frame.target left in
@@ -122,25 +142,32 @@ module _ (frame : DetectFrame) (done : List (List Member)) (group : List Member)
       record {
         answers = s.ran ++ a.answers;
         asked = asked_then s.ran a.answers r0 r1 r2 s.by a.asked;
-        some = asks_some frame (fitting frame.target (done ++ group ∷ left)) met next behind s.ran a.answers parts s.jobs a.some;
+        some = asks_some frame (fitting frame.target (done ++ group ∷ left)) met next behind s.ran a.answers parts
+            s.jobs a.some;
       }
 
-  pub stopped_behind : (r2 : List SpawnerSeen) (k2 : List KeptRow) (a2 : List AnswerRow) → RunsAll frame (unmet (keys_of k1) own) r1 r2 k1 k2 a1 a2 → IsStopped frame (done ++ group ∷ left) r0 r2
+  pub stopped_behind : (r2 : List SpawnerSeen) (k2 : List KeptRow) (a2 : List AnswerRow)
+      → RunsAll frame (unmet (keys_of k1) own) r1 r2 k1 k2 a1 a2 → IsStopped frame (done ++ group ∷ left) r0 r2
   stopped_behind r2 k2 a2 a = stopped_in r2 record {
     answers = a.answers;
     asked = a.asked;
-    some = subst (λ (js : List DetectJob). AreSome (map (λ (r : Ran). r.job) a.answers) js) a.jobs (all_some (map (λ (r : Ran). r.job) a.answers));
+    some = subst (λ (js : List DetectJob). AreSome (map (λ (r : Ran). r.job) a.answers) js) a.jobs
+        (all_some (map (λ (r : Ran). r.job) a.answers));
   }
 
   -- the whole group was asked and judged
-  pub asked_group : (r2 : List SpawnerSeen) (k2 : List KeptRow) (a2 : List AnswerRow) (judged : Judged) → RunsAll frame (unmet (keys_of k1) own) r1 r2 k1 k2 a1 a2 → IsJudged (kept_says frame.target k2) group judged →
+  pub asked_group : (r2 : List SpawnerSeen) (k2 : List KeptRow) (a2 : List AnswerRow) (judged : Judged)
+      → RunsAll frame (unmet (keys_of k1) own) r1 r2 k1 k2 a1 a2
+      → IsJudged (kept_says frame.target k2) group judged →
       IsUnderWay frame (done ++ group ∷ []) done r0 r2 k2 a2 (erred || judged.erred)
   asked_group r2 k2 a2 judged a j =
       let new = a.answers in
       let ran = s.ran ++ new in
-      let rows : k2 ≡ map row_of ran = a.kept ∙ (ap (λ ks. ks ++ map row_of new) s.rows ∙ sym (map-append row_of s.ran new)) in
+      let rows : k2 ≡ map row_of ran = a.kept ∙ (ap (λ ks. ks ++ map row_of new) s.rows
+      ∙ sym (map-append row_of s.ran new)) in
       let agree = agree_kept frame.target s.ran new done answered_keys in
-      let says_now : kept_says frame.target k2 ≡ says frame.target build_plan ran = ap (kept_says frame.target) rows ∙ kept_says-says frame.target ran in
+      let says_now : kept_says frame.target k2 ≡ says frame.target build_plan ran = ap
+      (kept_says frame.target) rows ∙ kept_says-says frame.target ran in
       record {
         ran = ran;
         by = asked_then s.ran new r0 r1 r2 s.by a.asked;
@@ -149,13 +176,17 @@ module _ (frame : DetectFrame) (done : List (List Member)) (group : List Member)
         jobs = map-append (λ (r : Ran). r.job) s.ran new ∙ ((λ i. s.jobs i ++ a.jobs i)
             ∙ (sym (map-append (detect_job frame) met (unmet (keys_of k1) own))
             ∙ ap (map (detect_job frame)) (ap (λ ks. met ++ unmet ks own) met_keys
-            ∙ (sym (members-push fit_done own) ∙ ap members_of (sym (fitting-append frame.target done (group ∷ [])))))));
-        none = first_ending_same (says frame.target build_plan ran) (says frame.target build_plan s.ran) 0 done agree ∙ s.none;
-        errs = (λ i. (s.errs ∙ sym (any_same (λ m v. is_error v) (says frame.target build_plan ran) (says frame.target build_plan s.ran) (flat done) agree)) i
+            ∙ (sym (members-push fit_done own) ∙ ap members_of (sym
+            (fitting-append frame.target done (group ∷ [])))))));
+        none = first_ending_same (says frame.target build_plan ran)
+            (says frame.target build_plan s.ran) 0 done agree ∙ s.none;
+        errs = (λ i. (s.errs ∙ sym (any_same (λ m v. is_error v) (says frame.target build_plan ran)
+            (says frame.target build_plan s.ran) (flat done) agree)) i
             || (j.erred ∙ ap (λ (t : Member → Verdict). list_any (λ (m : Member). is_error (t m)) group) says_now) i)
             ∙ (sym (list_any-append (λ (m : Member). is_error (says frame.target build_plan ran m)) (flat done) group)
             ∙ ap (list_any (λ (m : Member). is_error (says frame.target build_plan ran m)))
-            (sym (flat_map-append (λ (g : List Member). g) done (group ∷ []) ∙ ap (λ ms. flat done ++ ms) (append-nil group))));
+            (sym (flat_map-append (λ (g : List Member). g) done (group ∷ [])
+            ∙ ap (λ ms. flat done ++ ms) (append-nil group))));
       }
 
 on_detected : {P : Type 0} (r : Result Chosen DetectEnd) → P → OnDetected r P
@@ -170,27 +201,37 @@ on_ok (Ok chosen) p = p
 on_ok (Err end) p = tt
 
 -- what a judged group leads to
-abbrev pub GroupLeads : DetectFrame → List (List Member) → List Member → List (List Member) → List SpawnerSeen → List SpawnerSeen → List KeptRow → List AnswerRow → Bool → Result (Option Chosen) DetectEnd → Type 0
-GroupLeads frame done group left r0 r2 k2 a2 erred (Ok None) = IsUnderWay frame (done ++ group ∷ []) (done ++ group ∷ []) r0 r2 k2 a2 erred
-GroupLeads frame done group left r0 r2 k2 a2 erred (Ok (Some chosen)) = IsSearch frame (done ++ group ∷ left) r0 r2 a2 (Ok chosen)
+abbrev pub GroupLeads : DetectFrame → List (List Member) → List Member → List (List Member) → List SpawnerSeen
+    → List SpawnerSeen → List KeptRow → List AnswerRow → Bool → Result (Option Chosen) DetectEnd → Type 0
+GroupLeads frame done group left r0 r2 k2 a2 erred (Ok None) = IsUnderWay frame (done ++ group ∷ [])
+    (done ++ group ∷ []) r0 r2 k2 a2 erred
+GroupLeads frame done group left r0 r2 k2 a2 erred (Ok (Some chosen)) = IsSearch frame
+    (done ++ group ∷ left) r0 r2 a2 (Ok chosen)
 GroupLeads frame done group left r0 r2 k2 a2 erred (Err end) = IsSearch frame (done ++ group ∷ left) r0 r2 a2 (Err end)
 
-module _ (frame : DetectFrame) (done : List (List Member)) (group : List Member) (left : List (List Member)) (r0 r2 : List SpawnerSeen) (k2 : List KeptRow) (a2 : List AnswerRow) (erred : Bool)
+module _ (frame : DetectFrame) (done : List (List Member)) (group : List Member) (left : List (List Member))
+    (r0 r2 : List SpawnerSeen) (k2 : List KeptRow) (a2 : List AnswerRow) (erred : Bool)
     (u : IsUnderWay frame (done ++ group ∷ []) done r0 r2 k2 a2 erred) where
   abbrev say : Member → Verdict
   say = says frame.target build_plan u.ran
 
-  ending_after : (later : List (List Member)) → first_ending say 0 (done ++ group ∷ later) ≡ or_later (ending_at say (length done) group) (first_ending say (length done + 1) later)
-  ending_after later = first_ending-append say 0 done (group ∷ later) u.none ∙ ap (λ p. first_ending say p (group ∷ later)) (zero-add (length done))
+  ending_after : (later : List (List Member)) → first_ending say 0 (done ++ group ∷ later)
+      ≡ or_later (ending_at say (length done) group) (first_ending say (length done + 1) later)
+  ending_after later = first_ending-append say 0 done (group ∷ later) u.none
+      ∙ ap (λ p. first_ending say p (group ∷ later)) (zero-add (length done))
 
-  reached_after : (later : List (List Member)) → reached say 0 (done ++ group ∷ later) ≡ done ++ group ∷ or_reached (ending_at say (length done) group) (reached say (length done + 1) later)
-  reached_after later = reached-append say 0 done (group ∷ later) u.none ∙ ap (λ p. done ++ reached say p (group ∷ later)) (zero-add (length done))
+  reached_after : (later : List (List Member)) → reached say 0 (done ++ group ∷ later) ≡ done ++ group
+      ∷ or_reached (ending_at say (length done) group) (reached say (length done + 1) later)
+  reached_after later = reached-append say 0 done (group ∷ later) u.none
+      ∙ ap (λ p. done ++ reached say p (group ∷ later)) (zero-add (length done))
 
-  asked_so_far : AreSome (map (λ r. r.job) u.ran) (map (detect_job frame) (members_of (fitting frame.target (done ++ group ∷ left))))
+  asked_so_far : AreSome (map (λ r. r.job) u.ran)
+      (map (detect_job frame) (members_of (fitting frame.target (done ++ group ∷ left))))
   asked_so_far =
       let so_far = fitting frame.target (done ++ group ∷ []) in
       let fit_left = fitting frame.target left in
-      asks_first frame (fitting frame.target (done ++ group ∷ left)) (members_of so_far) (unmet (keys_of_members (members_of so_far)) (flat fit_left)) u.ran
+      asks_first frame (fitting frame.target (done ++ group ∷ left)) (members_of so_far)
+      (unmet (keys_of_members (members_of so_far)) (flat fit_left)) u.ran
       (ap (λ gs. members_of (fitting frame.target gs)) (sym (append_assoc done (group ∷ []) left))
       ∙ (ap members_of (fitting-append frame.target (done ++ group ∷ []) left) ∙ members-front so_far fit_left)) u.jobs
 
@@ -204,21 +245,26 @@ module _ (frame : DetectFrame) (done : List (List Member)) (group : List Member)
       reached_after left ∙ ap (λ o. done ++ group ∷ or_reached o (reached say (length done + 1) left)) e in
       let first : first_ending say 0 (done ++ group ∷ left) ≡ Some ending =
       ending_after left ∙ ap (λ o. or_later o (first_ending say (length done + 1) left)) e in
-      let keys : keys_of_members (members_of (fitting frame.target (reached say 0 (done ++ group ∷ left)))) ≡ keys_of k2 =
+      let keys : keys_of_members (members_of (fitting frame.target (reached say 0 (done ++ group ∷ left))))
+      ≡ keys_of k2 =
       ap (λ gs. keys_of_members (members_of (fitting frame.target gs))) whole ∙ sym all_keys in
-      let told = list_any (λ (m : Member). is_error (say m)) (members_of (fitting frame.target (reached say 0 (done ++ group ∷ left)))) in
+      let told = list_any (λ (m : Member). is_error (say m))
+      (members_of (fitting frame.target (reached say 0 (done ++ group ∷ left)))) in
       record {
         answers = u.ran;
         asked_by = u.by;
         some = asked_so_far;
-        asked = on_detected r (u.jobs ∙ ap (λ gs. map (detect_job frame) (members_of (fitting frame.target gs))) (sym whole));
+        asked = on_detected r (u.jobs ∙ ap (λ gs. map (detect_job frame) (members_of (fitting frame.target gs)))
+            (sym whole));
         detects =
-            subst (λ (o : Option Ending). DetectsAs r o (keys_of_members (members_of (fitting frame.target (reached say 0 (done ++ group ∷ left))))) told) (sym first)
+            subst (λ (o : Option Ending). DetectsAs r o (keys_of_members
+            (members_of (fitting frame.target (reached say 0 (done ++ group ∷ left))))) told) (sym first)
             (subst (λ (ks : List Key). DetectsAs r (Some ending) ks told) (sym keys) (d told));
         rows_are = on_ok r u.said_is;
       }
 
-  leads_by : (r : Result (Option Chosen) DetectEnd) (o : Option Ending) → ending_at say (length done) group ≡ o → EndsGroup r o (keys_of k2) → GroupLeads frame done group left r0 r2 k2 a2 erred r
+  leads_by : (r : Result (Option Chosen) DetectEnd) (o : Option Ending) → ending_at say (length done) group ≡ o
+      → EndsGroup r o (keys_of k2) → GroupLeads frame done group left r0 r2 k2 a2 erred r
   leads_by (Ok None) None e h = record {
     ran = u.ran;
     by = u.by;
@@ -231,16 +277,27 @@ module _ (frame : DetectFrame) (done : List (List Member)) (group : List Member)
   leads_by (Ok None) (Some ending) e h = absurd h
   leads_by (Ok (Some chosen)) None e h = absurd h
   leads_by (Ok (Some chosen)) (Some (TooManyTrials place)) e h = absurd h
-  leads_by (Ok (Some chosen)) (Some (FirstTrial place resolved kept)) e h = ends_with (Ok chosen) (FirstTrial place resolved kept) e (λ b. h)
+  leads_by (Ok (Some chosen)) (Some (FirstTrial place resolved kept)) e h = ends_with (Ok chosen)
+      (FirstTrial place resolved kept) e (λ b. h)
   leads_by (Err ManyTrials) None e h = absurd h
-  leads_by (Err ManyTrials) (Some (TooManyTrials place)) e h = ends_with (Err ManyTrials) (TooManyTrials place) e (λ b. tt)
+  leads_by (Err ManyTrials) (Some (TooManyTrials place)) e h = ends_with (Err ManyTrials) (TooManyTrials place) e
+      (λ b. tt)
   leads_by (Err ManyTrials) (Some (FirstTrial place resolved kept)) e h = absurd h
-  leads_by (Err Memory) o e h = record { answers = u.ran; asked_by = u.by; some = asked_so_far; asked = tt; detects = tt; rows_are = tt }
+  leads_by (Err Memory) o e h = record {
+    answers = u.ran;
+    asked_by = u.by;
+    some = asked_so_far;
+    asked = tt;
+    detects = tt;
+    rows_are = tt;
+  }
   leads_by (Err (NoGroup told)) o e h = absurd h
   leads_by (Err Child) o e h = absurd h
 
-  pub group_leads : (r : Result (Option Chosen) DetectEnd) (place : ℕ) (judged : Judged) → place ≡ length done → IsJudged (kept_says frame.target k2) group judged →
-      EndsGroup r (ending_of_rows place judged.alive) (keys_of k2) → GroupLeads frame done group left r0 r2 k2 a2 erred r
+  pub group_leads : (r : Result (Option Chosen) DetectEnd) (place : ℕ) (judged : Judged) → place ≡ length done
+      → IsJudged (kept_says frame.target k2) group judged →
+      EndsGroup r (ending_of_rows place judged.alive) (keys_of k2)
+      → GroupLeads frame done group left r0 r2 k2 a2 erred r
   group_leads r place judged at j h =
       let is : ending_at say (length done) group ≡ ending_of_rows place judged.alive =
       sym (ap (ending_of_rows place) j.alive
@@ -248,27 +305,34 @@ module _ (frame : DetectFrame) (done : List (List Member)) (group : List Member)
       leads_by r (ending_of_rows place judged.alive) is h
 
 -- all groups were gone through, and none ends the search
-pub no_group : (frame : DetectFrame) (groups : List (List Member)) (r0 r1 : List SpawnerSeen) (kept : List KeptRow) (said : List AnswerRow) (erred : Bool) →
+pub no_group : (frame : DetectFrame) (groups : List (List Member)) (r0 r1 : List SpawnerSeen)
+    (kept : List KeptRow) (said : List AnswerRow) (erred : Bool) →
     IsUnderWay frame groups groups r0 r1 kept said erred → IsSearch frame groups r0 r1 said (Err (NoGroup erred))
 no_group frame groups r0 r1 kept said erred u =
     let say = says frame.target build_plan u.ran in
     let whole : reached say 0 groups ≡ groups =
-    subst (λ (gs : List (List Member)). reached say 0 gs ≡ gs) (append-nil groups) (reached-append say 0 groups [] u.none) in
+    subst (λ (gs : List (List Member)). reached say 0 gs ≡ gs) (append-nil groups)
+    (reached-append say 0 groups [] u.none) in
     let told : erred ≡ list_any (λ m. is_error (say m)) (members_of (fitting frame.target (reached say 0 groups))) =
-    u.errs ∙ (sym (any_asked frame.target (λ m. answer_or_error build_plan (recorded u.ran m.key)) (λ a b e. ap (λ (key : Key). answer_or_error build_plan (recorded u.ran key)) e) groups)
+    u.errs ∙ (sym (any_asked frame.target (λ m. answer_or_error build_plan (recorded u.ran m.key))
+    (λ a b e. ap (λ (key : Key). answer_or_error build_plan (recorded u.ran key)) e) groups)
     ∙ ap (λ gs. list_any (λ m. is_error (say m)) (members_of (fitting frame.target gs))) (sym whole)) in
     record {
       answers = u.ran;
       asked_by = u.by;
-      some = asks_first frame (fitting frame.target groups) (members_of (fitting frame.target groups)) [] u.ran (sym (append-nil (members_of (fitting frame.target groups)))) u.jobs;
+      some = asks_first frame (fitting frame.target groups) (members_of (fitting frame.target groups)) [] u.ran
+          (sym (append-nil (members_of (fitting frame.target groups)))) u.jobs;
       asked = u.jobs ∙ ap (λ gs. map (detect_job frame) (members_of (fitting frame.target gs))) (sym whole);
-      detects = subst (λ (o : Option Ending). DetectsAs (Err (NoGroup erred)) o (keys_of_members (members_of (fitting frame.target (reached say 0 groups)))) (list_any (λ m. is_error (say m)) (members_of (fitting frame.target (reached say 0 groups)))))
+      detects = subst (λ (o : Option Ending). DetectsAs (Err (NoGroup erred)) o
+          (keys_of_members (members_of (fitting frame.target (reached say 0 groups))))
+          (list_any (λ m. is_error (say m)) (members_of (fitting frame.target (reached say 0 groups)))))
           (sym u.none) told;
       rows_are = tt;
     }
 
 -- a search between two groups, of which these are left
-pub record IsAt (frame : DetectFrame) (listed left : List (List Member)) (place : ℕ) (old now : List SpawnerSeen) (kept : List KeptRow) (said : List AnswerRow) (erred : Bool) : Type 0 where
+pub record IsAt (frame : DetectFrame) (listed left : List (List Member)) (place : ℕ) (old now : List SpawnerSeen)
+    (kept : List KeptRow) (said : List AnswerRow) (erred : Bool) : Type 0 where
   pub done : List (List Member)
   pub parts : listed ≡ done ++ left
   pub at : place ≡ length done

@@ -22,21 +22,37 @@ use Rattle.detect_core.proofs.AskingLemmas.{on_err}
 use Rattle.detect_core.proofs.OrderLemmas.{same_in_any_order, each_once}
 
 -- the answer and the children of a detection that ran these
-pub record IsDetection (frame : DetectFrame) (catalog : List Descriptor) (order : List (List Entry)) (ran : List Ran) (result : Result Chosen DetectEnd) : Type 0 where
-  pub detects : DetectsAs result (first_trial (says frame.target build_plan ran) catalog order) (asked_keys frame.target (says frame.target build_plan ran) catalog order) (has_erred frame.target (says frame.target build_plan ran) catalog order)
-  pub asked : OnDetected result (map (λ r. r.job) ran ≡ map (detect_job frame) (asked_members frame.target (says frame.target build_plan ran) catalog order))
+pub record IsDetection (frame : DetectFrame) (catalog : List Descriptor) (order : List (List Entry))
+    (ran : List Ran) (result : Result Chosen DetectEnd) : Type 0 where
+  pub detects : DetectsAs result (first_trial (says frame.target build_plan ran) catalog order)
+      (asked_keys frame.target (says frame.target build_plan ran) catalog order)
+      (has_erred frame.target (says frame.target build_plan ran) catalog order)
+  pub asked : OnDetected result (map (λ r. r.job) ran ≡ map (detect_job frame)
+      (asked_members frame.target (says frame.target build_plan ran) catalog order))
 
-module _ (frame : DetectFrame) (catalog : List Descriptor) (order : List (List Entry)) (old new : List SpawnerSeen) (rows : List AnswerRow) (result : Result Chosen DetectEnd)
+module _ (frame : DetectFrame) (catalog : List Descriptor) (order : List (List Entry))
+    (old new : List SpawnerSeen) (rows : List AnswerRow) (result : Result Chosen DetectEnd)
     (s : IsSearch frame (listed_groups catalog order) old new rows result) where
   pub detection_of : IsDetection frame catalog order s.answers result
   unfolding first_trial asked_members
   detection_of = record { detects = s.detects; asked = s.asked }
 
   pub asked_so : RunsAsked frame catalog order old result new
-  asked_so = record { answers = s.answers; asked = s.asked_by; exactly = detection_of.asked; some = on_err result s.some }
+  asked_so = record {
+    answers = s.answers;
+    asked = s.asked_by;
+    exactly = detection_of.asked;
+    some = on_err result
+        s.some;
+  }
 
   pub detected_so : (finished : List Ran) → AskedBy finished old new →
-      DetectsAs result (first_trial (says frame.target build_plan finished) catalog order) (asked_keys frame.target (says frame.target build_plan finished) catalog order) (has_erred frame.target (says frame.target build_plan finished) catalog order)
+      DetectsAs result (first_trial (says frame.target build_plan finished) catalog order)
+      (asked_keys frame.target (says frame.target build_plan finished) catalog order)
+      (has_erred frame.target (says frame.target build_plan finished) catalog order)
   detected_so finished asked =
-      subst (λ (say : Member → Verdict). DetectsAs result (first_trial say catalog order) (asked_keys frame.target say catalog order) (has_erred frame.target say catalog order))
-      (sym (same_in_any_order frame.target s.answers finished old new s.asked_by asked (each_once frame (fitting frame.target (listed_groups catalog order)) s.answers s.some))) detection_of.detects
+      subst (λ (say : Member → Verdict). DetectsAs result (first_trial say catalog order)
+      (asked_keys frame.target say catalog order) (has_erred frame.target say catalog order))
+      (sym (same_in_any_order frame.target s.answers finished old new s.asked_by asked
+      (each_once frame (fitting frame.target (listed_groups catalog order)) s.answers s.some)))
+      detection_of.detects

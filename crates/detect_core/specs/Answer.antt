@@ -84,5 +84,6 @@ alive_row member Error = None
 -- the members that pass, where every required one does and there is one
 abbrev pub alive_of : (Member → Verdict) → List Member → Option (List AliveRow)
 alive_of says group =
-    if list_all (λ member. member.optional || is_pass (says member)) group && list_any (λ member. is_pass (says member)) group
+    if list_all (λ member. member.optional || is_pass (says member)) group
+    && list_any (λ member. is_pass (says member)) group
     then Some (filter_map (λ member. alive_row member (says member)) group) else None

@@ -23,7 +23,8 @@ pub data Ending : Type 0 where
 
 abbrev pub ending_by : ℕ → List AliveRow → Resolution → Option Ending
 ending_by place rows TooMany = Some (TooManyTrials place)
-ending_by place rows (Passes resolved) = Some (FirstTrial place resolved (map (λ row. row.key) (at_places rows resolved.kept)))
+ending_by place rows (Passes resolved) = Some
+    (FirstTrial place resolved (map (λ row. row.key) (at_places rows resolved.kept)))
 ending_by place rows Fails = None
 
 abbrev pub ending_of_rows : ℕ → Option (List AliveRow) → Option Ending
@@ -71,4 +72,5 @@ asked_keys target says catalog order = map (λ member. member.key) (asked_member
 
 -- whether an asked child ended with an error
 abbrev pub has_erred : Option Target → (Member → Verdict) → List Descriptor → List (List Entry) → Bool
-has_erred target says catalog order = list_any (λ member. is_error (says member)) (asked_members target says catalog order)
+has_erred target says catalog order = list_any (λ member. is_error (says member))
+    (asked_members target says catalog order)

@@ -80,7 +80,8 @@ unfolding asked_members listed_groups raw_groups resolution largest
 an_error_is_told_where_nothing_passes = refl
 
 -- [a]; a passes with bytes that are no Build Plan
-pub a_plan_that_cannot_be_read_is_an_error : has_erred None (says None (plan_in []) (ran (key 97) 0 (91 ∷ 91 ∷ []) ∷ [])) two ((entry 97 ∷ []) ∷ []) ≡ true
+pub a_plan_that_cannot_be_read_is_an_error : has_erred None
+    (says None (plan_in []) (ran (key 97) 0 (91 ∷ 91 ∷ []) ∷ [])) two ((entry 97 ∷ []) ∷ []) ≡ true
 unfolding asked_members listed_groups raw_groups resolution largest
 a_plan_that_cannot_be_read_is_an_error = refl
 
@@ -95,19 +96,22 @@ abbrev by_version : List (List Entry)
 by_version = (entry_at 120 49 ∷ entry 121 ∷ []) ∷ (entry_at 120 50 ∷ entry 122 ∷ []) ∷ []
 
 abbrev y_fails : Member → Verdict
-y_fails = says None (plan_in []) (ran (key 120) 0 [] ∷ ran (key 121) 100 [] ∷ ran key_two 0 [] ∷ ran (key 122) 0 [] ∷ [])
+y_fails = says None (plan_in []) (ran (key 120) 0 [] ∷ ran (key 121) 100 [] ∷ ran key_two 0 []
+    ∷ ran (key 122) 0 [] ∷ [])
 
 pub versions_are_asked_apart : asked_keys None y_fails versions by_version ≡ key 120 ∷ key 121 ∷ key_two ∷ key 122 ∷ []
 unfolding asked_members listed_groups raw_groups resolution largest
 versions_are_asked_apart = refl
 
-pub the_second_version_is_chosen : first_trial y_fails versions by_version ≡ Some (FirstTrial 1 record { trial = 0; trials = 1; kept = 0 ∷ 1 ∷ []; plan = [] } (key_two ∷ key 122 ∷ []))
+pub the_second_version_is_chosen : first_trial y_fails versions by_version
+    ≡ Some (FirstTrial 1 record { trial = 0; trials = 1; kept = 0 ∷ 1 ∷ []; plan = [] } (key_two ∷ key 122 ∷ []))
 unfolding first_trial listed_groups raw_groups resolution largest
 the_second_version_is_chosen = refl
 
 -- two buildpacks with two alternatives each: the trials are told apart by which alternatives meet
 abbrev alternatives : Member → Verdict
-alternatives = says None (plan_in ((97 ∷ [], option (112 ∷ []) [] ∷ option (113 ∷ []) [] ∷ []) ∷ (98 ∷ [], option [] (113 ∷ []) ∷ option [] (115 ∷ []) ∷ []) ∷ []))
+alternatives = says None (plan_in ((97 ∷ [], option (112 ∷ []) [] ∷ option (113 ∷ []) [] ∷ [])
+    ∷ (98 ∷ [], option [] (113 ∷ []) ∷ option [] (115 ∷ []) ∷ []) ∷ []))
     (ran (key 97) 0 (97 ∷ []) ∷ ran (key 98) 0 (98 ∷ []) ∷ [])
 
 pub alternatives_are_tried_in_order : first_trial alternatives two ((entry 97 ∷ entry 98 ∷ []) ∷ [])
@@ -125,7 +129,11 @@ abbrev linux_amd64 : Option Target
 linux_amd64 = Some record { os = codes "linux"; arch = codes "amd64" }
 
 abbrev a_for_arm64 : List Descriptor
-a_for_arm64 = record { key = key 97; body = Component false (record { os = Some (codes "linux"); arch = Some (codes "arm64") } ∷ []) } ∷ component 98 ∷ []
+a_for_arm64 = record {
+  key = key 97;
+  body = Component false
+      (record { os = Some (codes "linux"); arch = Some (codes "arm64") } ∷ []);
+} ∷ component 98 ∷ []
 
 abbrev both_pass : Option Target → Member → Verdict
 both_pass target = says target (plan_in []) (ran (key 97) 0 [] ∷ ran (key 98) 0 [] ∷ [])

@@ -32,7 +32,8 @@ pub record IsChoice (chosen : Chosen) (at : ℕ) (resolved : Resolved) (kept key
   pub trials : chosen.trials ≡ resolved.trials
   pub asked : chosen.asked ≡ keys
 
--- the answer of a detection that ended so, where an asked child erred or not; a failed spawner and want of memory say nothing
+-- the answer of a detection that ended so, where an asked child erred or not; a failed spawner and want of memory say
+-- nothing
 abbrev pub DetectsAs : Result Chosen DetectEnd → Option Ending → List Key → Bool → Type 0
 DetectsAs (Ok chosen) (Some (FirstTrial place resolved group)) asked erred = IsChoice chosen place resolved group asked
 DetectsAs (Ok chosen) (Some (TooManyTrials place)) asked erred = ⊥
@@ -62,13 +63,17 @@ end_cause ManyTrials = Decided
 
 -- The children that spawners ran between them: exactly those that have to be asked, by what they answered, each once;
 -- after a failure some of those that the order lists for the target, each at most once.
-pub record RunsAsked (frame : DetectFrame) (catalog : List Descriptor) (order : List (List Entry)) (old : List SpawnerSeen)
+pub record RunsAsked (frame : DetectFrame) (catalog : List Descriptor) (order : List (List Entry))
+    (old : List SpawnerSeen)
     (result : Result Chosen DetectEnd) (new : List SpawnerSeen) : Type 0 where
   pub answers : List Ran
   pub asked : AskedBy answers old new
-  pub exactly : OnDetected result (map (λ ran. ran.job) answers ≡ map (detect_job frame) (asked_members frame.target (says frame.target build_plan answers) catalog order))
-  pub some : OnErr result (AreSome (map (λ ran. ran.job) answers) (map (detect_job frame) (members_of (fitting frame.target (listed_groups catalog order)))))
+  pub exactly : OnDetected result (map (λ ran. ran.job) answers
+      ≡ map (detect_job frame) (asked_members frame.target (says frame.target build_plan answers) catalog order))
+  pub some : OnErr result (AreSome (map (λ ran. ran.job) answers)
+      (map (detect_job frame) (members_of (fitting frame.target (listed_groups catalog order)))))
 
 -- the folders of a frame are short enough that every path that is made of them is a path
 abbrev pub is_short : DetectFrame → Bool
-is_short frame = nat_le (length frame.buildpacks) 4096 && nat_le (length frame.app) 4096 && nat_le (length frame.platform) 4096 && nat_le (length frame.work) 4096
+is_short frame = nat_le (length frame.buildpacks) 4096 && nat_le (length frame.app) 4096
+    && nat_le (length frame.platform) 4096 && nat_le (length frame.work) 4096

@@ -32,17 +32,22 @@ abbrev pub end_of_fault : PoolFault → DetectEnd
 end_of_fault pool.Child = Child
 end_of_fault pool.Memory = Memory
 
--- A search over these groups: the children that spawners ran, the rows of what they answered, and the answer by what they
+-- A search over these groups: the children that spawners ran, the rows of what they answered, and the answer by what
+-- they
 -- said.
 pub record IsSearch (frame : DetectFrame) (groups : List (List Member)) (old new : List SpawnerSeen)
     (rows : List AnswerRow) (result : Result Chosen DetectEnd) : Type 0 where
   pub answers : List Ran
   pub asked_by : AskedBy answers old new
   pub some : AreSome (map (λ ran. ran.job) answers) (map (detect_job frame) (members_of (fitting frame.target groups)))
-  pub asked : OnDetected result (map (λ ran. ran.job) answers ≡ map (detect_job frame) (members_of (fitting frame.target (reached (says frame.target build_plan answers) 0 groups))))
+  pub asked : OnDetected result (map (λ ran. ran.job) answers
+      ≡ map (detect_job frame) (members_of (fitting frame.target
+      (reached (says frame.target build_plan answers) 0 groups))))
   pub detects : DetectsAs result (first_ending (says frame.target build_plan answers) 0 groups)
-      (map (λ member. member.key) (members_of (fitting frame.target (reached (says frame.target build_plan answers) 0 groups))))
-      (list_any (λ member. is_error (says frame.target build_plan answers member)) (members_of (fitting frame.target (reached (says frame.target build_plan answers) 0 groups))))
+      (map (λ member. member.key) (members_of (fitting frame.target
+      (reached (says frame.target build_plan answers) 0 groups))))
+      (list_any (λ member. is_error (says frame.target build_plan answers member))
+      (members_of (fitting frame.target (reached (says frame.target build_plan answers) 0 groups))))
   pub rows_are : OnOk result (rows ≡ map answer_row answers)
 
 -- the same, where the rows are those of the answer

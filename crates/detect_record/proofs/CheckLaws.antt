@@ -33,7 +33,8 @@ use Rattle.detect_record.specs.CheckLaws.{CheckedIsFirst, IsFirst}
 use Rattle.detect_record.proofs.ProvingLaws.{proves_choice}
 
 -- the lines of groups lead to an end
-record LeadsTo (groups : List (List Member)) (target : Option Target) (answers : List (Key × Verdict)) (stage : Stage) (checked : Checked) : Type 0 where
+record LeadsTo (groups : List (List Member)) (target : Option Target) (answers : List (Key × Verdict))
+    (stage : Stage) (checked : Checked) : Type 0 where
   lines : List GroupLine
   place : ℕ
   rows : List AliveRow
@@ -44,12 +45,17 @@ record LeadsTo (groups : List (List Member)) (target : Option Target) (answers :
   is : checked_at place rows number trial set ≡ checked
 
 abbrev on : List (List Member) → ℕ → List (Option Line) → Option Reading → Result Checked CheckFault
-on groups taken pieces next = elim next [ Some reading ↦ read_all groups (taken + 1) reading pieces | None ↦ Err (Bad (taken + 1)) ]
+on groups taken pieces next = elim next [
+  | Some reading ↦ read_all groups (taken + 1) reading pieces
+  | None
+      ↦ Err (Bad (taken + 1))
+]
 
 ok_same : (a b : Checked) → (let one : Result Checked CheckFault = Ok a in one) ≡ Ok b → a ≡ b
 ok_same a b e = cc
 
-ends_now : (groups : List (List Member)) (target : Option Target) (answers : List (Key × Verdict)) (stage : Stage) (taken : ℕ) (checked : Checked) →
+ends_now : (groups : List (List Member)) (target : Option Target) (answers : List (Key × Verdict)) (stage : Stage)
+    (taken : ℕ) (checked : Checked) →
     end_at taken stage ≡ Ok checked → LeadsTo groups target answers stage checked
 ends_now groups target answers (AtGroup place left) taken checked e = absurd cc
 ends_now groups target answers (AtTrial chosen place rows left number trials) taken checked e = absurd cc
@@ -65,11 +71,16 @@ ends_now groups target answers (AtEnd place rows number trial set) taken checked
 }
 
 abbrev Later : List (List Member) → Option Target → List (Key × Verdict) → Stage → List (Option Line) → Checked → Type 0
-Later groups target answers stage pieces checked = LeadsTo groups target answers stage checked × (filter_map answer_in pieces ≡ [])
+Later groups target answers stage pieces checked = LeadsTo groups target answers stage checked
+    × (filter_map answer_in pieces ≡ [])
 
-line_first : (groups : List (List Member)) (target : Option Target) (answers : List (Key × Verdict)) (stage : Stage) (taken : ℕ) (line : GroupLine) (next : Option Stage) (pieces : List (Option Line)) (checked : Checked) →
-    ((s : Stage) → read_all groups (taken + 1) (Following target answers s) pieces ≡ Ok checked → Later groups target answers s pieces checked) →
-    after (answered_by target answers groups) stage line ≡ next → on groups taken pieces (following target answers next) ≡ Ok checked →
+line_first : (groups : List (List Member)) (target : Option Target) (answers : List (Key × Verdict))
+    (stage : Stage) (taken : ℕ) (line : GroupLine) (next : Option Stage) (pieces : List (Option Line))
+    (checked : Checked) →
+    ((s : Stage) → read_all groups (taken + 1) (Following target answers s) pieces ≡ Ok checked
+    → Later groups target answers s pieces checked) →
+    after (answered_by target answers groups) stage line ≡ next
+    → on groups taken pieces (following target answers next) ≡ Ok checked →
     Later groups target answers stage pieces checked
 line_first groups target answers stage taken line None pieces checked later is e = absurd cc
 line_first groups target answers stage taken line (Some next) pieces checked later is e =
@@ -89,32 +100,41 @@ line_first groups target answers stage taken line (Some next) pieces checked lat
     )
 
 -- behind the answers come lines of groups alone
-follows_on : (groups : List (List Member)) (target : Option Target) (answers : List (Key × Verdict)) (stage : Stage) (taken : ℕ) (pieces : List (Option Line)) (checked : Checked) →
-    read_all groups taken (Following target answers stage) pieces ≡ Ok checked → Later groups target answers stage pieces checked
+follows_on : (groups : List (List Member)) (target : Option Target) (answers : List (Key × Verdict))
+    (stage : Stage) (taken : ℕ) (pieces : List (Option Line)) (checked : Checked) →
+    read_all groups taken (Following target answers stage) pieces ≡ Ok checked
+    → Later groups target answers stage pieces checked
 follows_on groups target answers stage taken [] checked e = (ends_now groups target answers stage taken checked e, refl)
 follows_on groups target answers stage taken (None ∷ pieces) checked e = absurd cc
 follows_on groups target answers stage taken (Some Head ∷ pieces) checked e = absurd cc
 follows_on groups target answers stage taken (Some (TargetLine other) ∷ pieces) checked e = absurd cc
 follows_on groups target answers stage taken (Some (Answer key probed) ∷ pieces) checked e = absurd cc
 follows_on groups target answers stage taken (Some (Group line) ∷ pieces) checked e =
-    line_first groups target answers stage taken line (after (answered_by target answers groups) stage line) pieces checked
+    line_first groups target answers stage taken line (after (answered_by target answers groups) stage line)
+    pieces checked
     (λ s f. follows_on groups target answers s (taken + 1) pieces checked f) refl e
 
 -- the answers that stand in lines come behind those that were read
 abbrev Answers : List (List Member) → Option Target → List (Key × Verdict) → Checked → Type 0
 Answers groups target answers checked = LeadsTo groups target answers (AtGroup 0 groups) checked
 
-answer_first : (groups : List (List Member)) (target : Option Target) (answers : List (Key × Verdict)) (taken : ℕ) (key : Key) (verdict : Verdict) (has : Bool) (pieces : List (Option Line)) (checked : Checked) →
-    ((more : List (Key × Verdict)) → read_all groups (taken + 1) (Answering target more) pieces ≡ Ok checked → Answers groups target (more ++ filter_map answer_in pieces) checked) →
-    on groups taken pieces (if has then None else Some (Answering target (answers ++ (key, verdict) ∷ []))) ≡ Ok checked →
+answer_first : (groups : List (List Member)) (target : Option Target) (answers : List (Key × Verdict)) (taken : ℕ)
+    (key : Key) (verdict : Verdict) (has : Bool) (pieces : List (Option Line)) (checked : Checked) →
+    ((more : List (Key × Verdict)) → read_all groups (taken + 1) (Answering target more) pieces ≡ Ok checked
+    → Answers groups target (more ++ filter_map answer_in pieces) checked) →
+    on groups taken pieces (if has then None else Some (Answering target (answers ++ (key, verdict) ∷ [])))
+    ≡ Ok checked →
     Answers groups target (answers ++ (key, verdict) ∷ filter_map answer_in pieces) checked
 answer_first groups target answers taken key verdict true pieces checked later e = absurd cc
 answer_first groups target answers taken key verdict false pieces checked later e =
-    subst (λ (all : List (Key × Verdict)). Answers groups target all checked) (append_assoc answers ((key, verdict) ∷ []) (filter_map answer_in pieces))
+    subst (λ (all : List (Key × Verdict)). Answers groups target all checked)
+    (append_assoc answers ((key, verdict) ∷ []) (filter_map answer_in pieces))
     (later (answers ++ (key, verdict) ∷ []) e)
 
-answers_on : (groups : List (List Member)) (target : Option Target) (answers : List (Key × Verdict)) (taken : ℕ) (pieces : List (Option Line)) (checked : Checked) →
-    read_all groups taken (Answering target answers) pieces ≡ Ok checked → Answers groups target (answers ++ filter_map answer_in pieces) checked
+answers_on : (groups : List (List Member)) (target : Option Target) (answers : List (Key × Verdict)) (taken : ℕ)
+    (pieces : List (Option Line)) (checked : Checked) →
+    read_all groups taken (Answering target answers) pieces ≡ Ok checked
+    → Answers groups target (answers ++ filter_map answer_in pieces) checked
 answers_on groups target answers taken [] checked e = absurd cc
 answers_on groups target answers taken (None ∷ pieces) checked e = absurd cc
 answers_on groups target answers taken (Some Head ∷ pieces) checked e = absurd cc
@@ -134,11 +154,13 @@ target_first : (groups : List (List Member)) (first : Line) (pieces : List (Opti
 target_first groups first [] checked e = absurd cc
 target_first groups first (None ∷ pieces) checked e = absurd cc
 target_first groups first (Some Head ∷ pieces) checked e = absurd cc
-target_first groups first (Some (TargetLine target) ∷ pieces) checked e = answers_on groups target [] (1 + 1) pieces checked e
+target_first groups first (Some (TargetLine target) ∷ pieces) checked e = answers_on groups target []
+    (1 + 1) pieces checked e
 target_first groups first (Some (Answer key probed) ∷ pieces) checked e = absurd cc
 target_first groups first (Some (Group line) ∷ pieces) checked e = absurd cc
 
-head_first : (groups : List (List Member)) (pieces : List (Option Line)) (checked : Checked) → read_all groups 0 Untitled pieces ≡ Ok checked →
+head_first : (groups : List (List Member)) (pieces : List (Option Line)) (checked : Checked)
+    → read_all groups 0 Untitled pieces ≡ Ok checked →
     Answers groups (target_of pieces) (filter_map answer_in pieces) checked
 head_first groups [] checked e = absurd cc
 head_first groups (None ∷ pieces) checked e = absurd cc
@@ -147,8 +169,10 @@ head_first groups (Some (TargetLine target) ∷ pieces) checked e = absurd cc
 head_first groups (Some (Answer key probed) ∷ pieces) checked e = absurd cc
 head_first groups (Some (Group line) ∷ pieces) checked e = absurd cc
 
-is_first : (place : ℕ) (rows : List AliveRow) (number : ℕ) (trial : List TrialRow) (set : List ℕ) (checked : Checked) → checked_at place rows number trial set ≡ checked →
-    IsFirst checked (Some (FirstTrial place (resolved_at rows number trial set) (map (λ row. row.key) (at_places rows set))))
+is_first : (place : ℕ) (rows : List AliveRow) (number : ℕ) (trial : List TrialRow) (set : List ℕ)
+    (checked : Checked) → checked_at place rows number trial set ≡ checked →
+    IsFirst checked (Some (FirstTrial place (resolved_at rows number trial set)
+    (map (λ row. row.key) (at_places rows set))))
 is_first place rows number trial set checked is =
     (λ i. (sym is i).group, λ i. (sym is i).plan, λ i. (sym is i).place, λ i. (sym is i).trial)
 
@@ -165,18 +189,25 @@ checked_is_first catalog order bytes checked e =
     )
 
 -- what a call answers
-pub first_of : (catalog : List Descriptor) (order : List (List Entry)) (bytes : List ℕ) (result : Result Checked CheckFault) → IsAnswer cause_of result (check_of catalog order bytes) →
-    IfOk result (λ checked. IsFirst checked (first_trial (kept_says (target_in bytes) (answers_in bytes)) catalog order))
+pub first_of : (catalog : List Descriptor) (order : List (List Entry)) (bytes : List ℕ)
+    (result : Result Checked CheckFault) → IsAnswer cause_of result (check_of catalog order bytes) →
+    IfOk result (λ checked. IsFirst checked (first_trial (kept_says (target_in bytes) (answers_in bytes)) catalog
+    order))
 first_of catalog order bytes (Ok checked) is = (checked_is_first catalog order bytes checked is).0
 first_of catalog order bytes (Err fault) is = tt
 
-pub asked_of : (catalog : List Descriptor) (order : List (List Entry)) (bytes : List ℕ) (result : Result Checked CheckFault) → IsAnswer cause_of result (check_of catalog order bytes) →
-    IfOk result (λ checked. keys_of (answers_in bytes) ≡ asked_keys (target_in bytes) (kept_says (target_in bytes) (answers_in bytes)) catalog order)
+pub asked_of : (catalog : List Descriptor) (order : List (List Entry)) (bytes : List ℕ)
+    (result : Result Checked CheckFault) → IsAnswer cause_of result (check_of catalog order bytes) →
+    IfOk result (λ checked. keys_of (answers_in bytes) ≡ asked_keys (target_in bytes)
+    (kept_says (target_in bytes) (answers_in bytes)) catalog order)
 asked_of catalog order bytes (Ok checked) is = (checked_is_first catalog order bytes checked is).1
 asked_of catalog order bytes (Err fault) is = tt
 
-pub answer_of_lines : (catalog : List Descriptor) (order : List (List Entry)) (bytes : List ℕ) (lines : LinesLeft) (result : Result Checked CheckFault) →
-    lines.taken ≡ 0 → lines.left ≡ lines_in bytes → IsAnswer cause_of result (reads (listed_groups catalog order) Untitled lines) → IsAnswer cause_of result (check_of catalog order bytes)
+pub answer_of_lines : (catalog : List Descriptor) (order : List (List Entry)) (bytes : List ℕ) (lines : LinesLeft)
+    (result : Result Checked CheckFault) →
+    lines.taken ≡ 0 → lines.left ≡ lines_in bytes → IsAnswer cause_of result
+    (reads (listed_groups catalog order) Untitled lines) → IsAnswer cause_of result
+    (check_of catalog order bytes)
 unfolding check_of
 answer_of_lines catalog order bytes lines result taken left is =
     subst (IsAnswer cause_of result) (λ i. read_all (listed_groups catalog order) (taken i) Untitled (left i)) is

@@ -27,7 +27,8 @@ up_to_out : (most number : ℕ) → (number ≤ most → ⊥) → up_to most num
 up_to_out most number h = grind (arith, nat_tests)
 
 -- what is read of decimal digits as a number of 32 bits
-pub parsed_number : {E : Type 0} (text : List ℕ) (result : Result ℕ E) → is_decimal text ≡ true → ParsesUnsigned {E = E} 32 10 text result → result_ok result ≡ up_to 4294967295 (digits_value 10 text)
+pub parsed_number : {E : Type 0} (text : List ℕ) (result : Result ℕ E) → is_decimal text ≡ true
+    → ParsesUnsigned {E = E} 32 10 text result → result_ok result ≡ up_to 4294967295 (digits_value 10 text)
 parsed_number {E} text (Ok number) h parsed =
     let some : 0 < length text = grind (arith, nat_tests) in
     let read = parse_digits digits {E = E} 32 text (Ok number) parsed (decimal_digits text h) in

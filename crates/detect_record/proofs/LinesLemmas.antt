@@ -12,7 +12,8 @@ use Rattle.detect_record.specs.declared.line_fault.LineFault.TheVariants.{Bad, M
 use Rattle.detect_record.proofs.CutLemmas.{cut_first, cut_none}
 
 -- pieces behind the first
-lines_onto : (text : List ℕ) (pieces : List (List ℕ)) → ((pieces ≡ []) → ⊥) → lines_of (text ∷ pieces) ≡ line_in text ∷ lines_of pieces
+lines_onto : (text : List ℕ) (pieces : List (List ℕ)) → ((pieces ≡ []) → ⊥)
+    → lines_of (text ∷ pieces) ≡ line_in text ∷ lines_of pieces
 lines_onto text [] some = absurd (some refl)
 lines_onto text (piece ∷ pieces) some = refl
 
@@ -28,9 +29,11 @@ pieces_some : (bytes : List ℕ) → pieces_of bytes ≡ [] → ⊥
 pieces_some [] e = cc
 pieces_some (byte ∷ bytes) e = split_by (byte == 10) byte (pieces_of bytes) e
 
-pub lines_cut : (bytes text rest : List ℕ) → cut 10 bytes ≡ Some (text, rest) → lines_in bytes ≡ line_in text ∷ lines_in rest
+pub lines_cut : (bytes text rest : List ℕ) → cut 10 bytes ≡ Some (text, rest)
+    → lines_in bytes ≡ line_in text ∷ lines_in rest
 unfolding lines_in
-lines_cut bytes text rest e = ap lines_of (cut_first 10 bytes text rest e) ∙ lines_onto text (pieces_of rest) (pieces_some rest)
+lines_cut bytes text rest e = ap lines_of (cut_first 10 bytes text rest e)
+    ∙ lines_onto text (pieces_of rest) (pieces_some rest)
 
 no_next : (piece : List ℕ) → HasNoNext (unended piece)
 no_next [] = tt
@@ -40,13 +43,16 @@ pub lines_whole : (bytes : List ℕ) → cut 10 bytes ≡ None → HasNoNext (li
 unfolding lines_in
 lines_whole bytes e = rw (cut_none 10 bytes e) (no_next bytes)
 
-pub lines_refused : (bytes text rest : List ℕ) → cut 10 bytes ≡ Some (text, rest) → line_in text ≡ None → HasNoNext (lines_in bytes)
+pub lines_refused : (bytes text rest : List ℕ) → cut 10 bytes ≡ Some (text, rest) → line_in text ≡ None
+    → HasNoNext (lines_in bytes)
 lines_refused bytes text rest e none = rw (lines_cut bytes text rest e) none
 
-pub lines_read : (bytes text rest : List ℕ) (line : Line) → cut 10 bytes ≡ Some (text, rest) → line_in text ≡ Some line → lines_in bytes ≡ Some line ∷ lines_in rest
+pub lines_read : (bytes text rest : List ℕ) (line : Line) → cut 10 bytes ≡ Some (text, rest)
+    → line_in text ≡ Some line → lines_in bytes ≡ Some line ∷ lines_in rest
 lines_read bytes text rest line e read = lines_cut bytes text rest e ∙ ap (λ x. x ∷ lines_in rest) read
 
-pub lines_fault : (bytes text rest : List ℕ) (fault : LineFault) → cut 10 bytes ≡ Some (text, rest) → IsReadAs {T = Line} (Err fault) (line_in text) → IsRefused (lines_in bytes) fault
+pub lines_fault : (bytes text rest : List ℕ) (fault : LineFault) → cut 10 bytes ≡ Some (text, rest)
+    → IsReadAs {T = Line} (Err fault) (line_in text) → IsRefused (lines_in bytes) fault
 lines_fault bytes text rest Bad halves read = lines_refused bytes text rest halves read
 lines_fault bytes text rest Memory halves read = tt
 
@@ -61,7 +67,8 @@ left_of_more : (pieces : List (List ℕ)) → ((pieces ≡ []) → ⊥) → are_
 left_of_more [] some = absurd (some refl)
 left_of_more (piece ∷ pieces) some = refl
 
-left_of_split : (is : Bool) (byte : ℕ) (pieces : List (List ℕ)) → ((pieces ≡ []) → ⊥) → are_none_left (lines_of (cond is ([] ∷ pieces) (onto_first byte pieces))) ≡ false
+left_of_split : (is : Bool) (byte : ℕ) (pieces : List (List ℕ)) → ((pieces ≡ []) → ⊥)
+    → are_none_left (lines_of (cond is ([] ∷ pieces) (onto_first byte pieces))) ≡ false
 left_of_split true byte pieces some = left_of_more pieces some
 left_of_split false byte pieces some = left_of_onto byte pieces
 

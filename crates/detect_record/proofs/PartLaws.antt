@@ -52,9 +52,15 @@ number_back n fits = number_to_back 4294967295 n (omega arith) (omega arith)
 
 -- ---- exit codes
 
-begins : (text : List ℕ) → 0 < length text → list_all is_ascii_digit text ≡ true → (first : ℕ) × (rest : List ℕ) × (text ≡ first ∷ rest) × (is_ascii_digit first ≡ true)
+begins : (text : List ℕ) → 0 < length text → list_all is_ascii_digit text ≡ true → (first : ℕ) × (rest : List ℕ)
+    × (text ≡ first ∷ rest) × (is_ascii_digit first ≡ true)
 begins [] some all = absurd (omega arith)
-begins (first ∷ rest) some all = (first, rest, refl, (and_parts (is_ascii_digit first) (list_all is_ascii_digit rest) all).0)
+begins (first ∷ rest) some all = (
+  first,
+  rest,
+  refl,
+  (and_parts (is_ascii_digit first) (list_all is_ascii_digit rest) all).0,
+)
 
 digit_no_dash : (byte : ℕ) → is_ascii_digit byte ≡ true → (byte == 45) ≡ false
 digit_no_dash byte is = grind (arith, nat_tests)
@@ -62,11 +68,13 @@ digit_no_dash byte is = grind (arith, nat_tests)
 digit_no_n : (byte : ℕ) → is_ascii_digit byte ≡ true → (byte == 110) ≡ false
 digit_no_n byte is = grind (arith, nat_tests)
 
-signed_plain : (first : ℕ) (rest : List ℕ) (n : ℕ) → is_ascii_digit first ≡ true → number_to 2147483647 (first ∷ rest) ≡ Some n → signed_in (first ∷ rest) ≡ Some (pos n)
+signed_plain : (first : ℕ) (rest : List ℕ) (n : ℕ) → is_ascii_digit first ≡ true
+    → number_to 2147483647 (first ∷ rest) ≡ Some n → signed_in (first ∷ rest) ≡ Some (pos n)
 unfolding signed_in
 signed_plain first rest n is read = rw (digit_no_dash first is, read) refl
 
-code_plain : (first : ℕ) (rest : List ℕ) (z : ℤ) → is_ascii_digit first ≡ true → signed_in (first ∷ rest) ≡ Some z → code_in (first ∷ rest) ≡ Some (Some z)
+code_plain : (first : ℕ) (rest : List ℕ) (z : ℤ) → is_ascii_digit first ≡ true → signed_in (first ∷ rest) ≡ Some z
+    → code_in (first ∷ rest) ≡ Some (Some z)
 unfolding code_in
 code_plain first rest z is read = rw (digit_no_n first is, read) refl
 
@@ -107,7 +115,8 @@ at_value (suc n) k h lt =
     let parts = and_parts (is_lower_digit (slice_index lower_digits n)) (all_digits n) h in
     elim (cases_lt k n) [
       | inl below ↦ at_value n k parts.1 below
-      | inr top ↦ let e : n ≡ k = omega arith in subst (λ x. is_lower_digit (slice_index lower_digits x) ≡ true) e parts.0
+      | inr top ↦ let e : n ≡ k = omega arith in subst (λ x. is_lower_digit (slice_index lower_digits x) ≡ true) e
+          parts.0
     ]
 
 lower_digits_all : (bytes : List ℕ) → IsBytes bytes → list_all is_lower_digit (encode_lower bytes) ≡ true
@@ -115,7 +124,8 @@ unfolding encode_with
 lower_digits_all [] fit = refl
 lower_digits_all (b ∷ bs) fit =
     let few : b < 256 = fit 0 in
-    and_from _ _ (at_value 16 (b / 16) refl (omega arith)) (and_from _ _ (at_value 16 (b % 16) refl (omega arith)) (lower_digits_all bs (λ i. fit (suc i))))
+    and_from _ _ (at_value 16 (b / 16) refl (omega arith))
+    (and_from _ _ (at_value 16 (b % 16) refl (omega arith)) (lower_digits_all bs (λ i. fit (suc i))))
 
 lower_byte : (byte : ℕ) → is_lower_digit byte ≡ true → is_plain byte ≡ true
 lower_byte byte is = grind (arith, nat_tests)
@@ -123,14 +133,16 @@ lower_byte byte is = grind (arith, nat_tests)
 lower_no_dash : (byte : ℕ) → is_lower_digit byte ≡ true → (byte == 45) ≡ false
 lower_no_dash byte is = grind (arith, nat_tests)
 
-plan_digits : (first : ℕ) (rest bytes : List ℕ) → list_all is_lower_digit (first ∷ rest) ≡ true → decode_of (first ∷ rest) ≡ Ok bytes → plan_in (first ∷ rest) ≡ Some bytes
+plan_digits : (first : ℕ) (rest bytes : List ℕ) → list_all is_lower_digit (first ∷ rest) ≡ true
+    → decode_of (first ∷ rest) ≡ Ok bytes → plan_in (first ∷ rest) ≡ Some bytes
 unfolding plan_in
 plan_digits first rest bytes all decoded =
     let is = (and_parts (is_lower_digit first) (list_all is_lower_digit rest) all).0 in
     let some : nat_lt 0 (length (first ∷ rest)) ≡ true = lt-ltb 0 (length (first ∷ rest)) (omega arith) in
     rw (lower_no_dash first is, some, all, decoded) refl
 
-encoded_begins : (byte : ℕ) (bytes : List ℕ) → encode_lower (byte ∷ bytes) ≡ slice_index lower_digits (byte / 16) ∷ (slice_index lower_digits (byte % 16) ∷ encode_lower bytes)
+encoded_begins : (byte : ℕ) (bytes : List ℕ) → encode_lower (byte ∷ bytes) ≡ slice_index lower_digits (byte / 16)
+    ∷ (slice_index lower_digits (byte % 16) ∷ encode_lower bytes)
 unfolding encode_with
 encoded_begins byte bytes = refl
 
@@ -141,18 +153,24 @@ plan_back (byte ∷ bytes) are =
     let begin = encoded_begins byte bytes in
     let all = lower_digits_all (byte ∷ bytes) are in
     let decoded = decode_of-encode_lower (byte ∷ bytes) are in
-    rw begin (plan_digits (slice_index lower_digits (byte / 16)) (slice_index lower_digits (byte % 16) ∷ encode_lower bytes) (byte ∷ bytes) (rw begin at all) (rw begin at decoded))
+    rw begin (plan_digits (slice_index lower_digits (byte / 16))
+    (slice_index lower_digits (byte % 16) ∷ encode_lower bytes) (byte ∷ bytes) (rw begin at all)
+    (rw begin at decoded))
 
 pub plain_plan : (plan : List ℕ) → IsBytes plan → are_plain (plan_text plan) ≡ true
 plain_plan [] are = refl
-plain_plan (byte ∷ bytes) are = plain_by is_lower_digit lower_byte (encode_lower (byte ∷ bytes)) (lower_digits_all (byte ∷ bytes) are)
+plain_plan (byte ∷ bytes) are = plain_by is_lower_digit lower_byte (encode_lower (byte ∷ bytes))
+    (lower_digits_all (byte ∷ bytes) are)
 
 -- ---- steps
 
-step_parts : (text place rest side name : List ℕ) (p n : ℕ) (s : Side) → cut 58 text ≡ Some (place, rest) → cut 58 rest ≡ Some (side, name)
-    → number_in place ≡ Some p → side_in side ≡ Some s → number_in name ≡ Some n → step_in text ≡ Some (record { place = p; side = s; name = n })
+step_parts : (text place rest side name : List ℕ) (p n : ℕ) (s : Side) → cut 58 text ≡ Some (place, rest)
+    → cut 58 rest ≡ Some (side, name)
+    → number_in place ≡ Some p → side_in side ≡ Some s → number_in name ≡ Some n
+    → step_in text ≡ Some (record { place = p; side = s; name = n })
 unfolding step_in
-step_parts text place rest side name p n s first second is_place is_side is_name = rw (first, second, is_place, is_side, is_name) refl
+step_parts text place rest side name p n s first second is_place is_side is_name = rw
+    (first, second, is_place, is_side, is_name) refl
 
 no_colon : (byte : ℕ) → is_ascii_digit byte ≡ true → not (byte == 58) ≡ true
 no_colon byte is = grind (arith, nat_tests)
@@ -178,7 +196,8 @@ side_lacks : (side : Side) → lacks 58 (side_byte side) ≡ true
 side_lacks Required = refl
 side_lacks Provided = refl
 
-side_between : (place : List ℕ) (side : Side) (name : List ℕ) → place ++ side_text side ++ name ≡ place ++ (58 ∷ (side_byte side ++ (58 ∷ name)))
+side_between : (place : List ℕ) (side : Side) (name : List ℕ)
+    → place ++ side_text side ++ name ≡ place ++ (58 ∷ (side_byte side ++ (58 ∷ name)))
 side_between place Required name = append_assoc place (codes ":r:") name
 side_between place Provided name = append_assoc place (codes ":v:") name
 
@@ -186,9 +205,11 @@ pub step_back : (step : Step) → IsSoundStep step → step_in (step_text step) 
 unfolding step_text
 step_back step sound =
     let between = side_between (decimal step.place) step.side (decimal step.name) in
-    rw between (step_parts (decimal step.place ++ (58 ∷ (side_byte step.side ++ (58 ∷ decimal step.name)))) (decimal step.place) (side_byte step.side ++ (58 ∷ decimal step.name))
+    rw between (step_parts (decimal step.place ++ (58 ∷ (side_byte step.side ++ (58 ∷ decimal step.name))))
+    (decimal step.place) (side_byte step.side ++ (58 ∷ decimal step.name))
     (side_byte step.side) (decimal step.name) step.place step.name step.side
-    (cut_at 58 (decimal step.place) (side_byte step.side ++ (58 ∷ decimal step.name)) (decimal_lacks step.place sound.0))
+    (cut_at 58 (decimal step.place) (side_byte step.side ++ (58 ∷ decimal step.name))
+    (decimal_lacks step.place sound.0))
     (cut_at 58 (side_byte step.side) (decimal step.name) (side_lacks step.side))
     (number_back step.place sound.0) (side_back step.side) (number_back step.name sound.1))
 
@@ -200,4 +221,5 @@ pub plain_step : (step : Step) → IsSoundStep step → are_plain (step_text ste
 unfolding step_text
 plain_step step sound =
     plain_append (decimal step.place ++ side_text step.side) (decimal step.name)
-    (plain_append (decimal step.place) (side_text step.side) (plain_decimal step.place (omega arith)) (plain_side step.side)) (plain_decimal step.name (omega arith))
+    (plain_append (decimal step.place) (side_text step.side) (plain_decimal step.place (omega arith))
+    (plain_side step.side)) (plain_decimal step.name (omega arith))

@@ -21,13 +21,15 @@ is_plain byte = nat_lt 32 byte && nat_lt byte 128
 abbrev pub are_plain : List ℕ → Bool
 are_plain bytes = list_all is_plain bytes
 
-pub plain_by : (test : ℕ → Bool) → ((byte : ℕ) → test byte ≡ true → is_plain byte ≡ true) → (bytes : List ℕ) → list_all test bytes ≡ true → are_plain bytes ≡ true
+pub plain_by : (test : ℕ → Bool) → ((byte : ℕ) → test byte ≡ true → is_plain byte ≡ true) → (bytes : List ℕ)
+    → list_all test bytes ≡ true → are_plain bytes ≡ true
 plain_by test is_so [] h = refl
 plain_by test is_so (byte ∷ bytes) h =
     let parts = and_parts (test byte) (list_all test bytes) h in
     and_from _ _ (is_so byte parts.0) (plain_by test is_so bytes parts.1)
 
-pub plain_append : (front back : List ℕ) → are_plain front ≡ true → are_plain back ≡ true → are_plain (front ++ back) ≡ true
+pub plain_append : (front back : List ℕ) → are_plain front ≡ true → are_plain back ≡ true
+    → are_plain (front ++ back) ≡ true
 plain_append front back first second = rw (list_all-append is_plain front back, first, second) refl
 
 -- ---- what plain bytes lack
@@ -68,7 +70,8 @@ id_byte byte is = grind (arith, nat_tests)
 
 pub plain_id : (id : List ℕ) → is_bp_id id ≡ true → are_plain id ≡ true
 plain_id id is =
-    let front = and_parts (nat_lt 0 (length id) && nat_le (length id) 128 && list_all is_id_byte id) (not (is_reserved id)) is in
+    let front = and_parts (nat_lt 0 (length id) && nat_le (length id) 128 && list_all is_id_byte id)
+    (not (is_reserved id)) is in
     let bytes = and_parts (nat_lt 0 (length id) && nat_le (length id) 128) (list_all is_id_byte id) front.0 in
     plain_by is_id_byte id_byte id bytes.1
 
@@ -76,8 +79,10 @@ pub plain_version : (version : List ℕ) → is_bp_version version ≡ true → 
 plain_version version is =
     let numbers : IsJoinedNumbers version = (version_numbers version).0 is in
     let (major, minor, patch, fits-major, fits-minor, fits-patch, same) = numbers in
-    rw same (plain_append (decimal major) (46 ∷ (decimal minor ++ (46 ∷ decimal patch))) (plain_decimal major fits-major)
-    (plain_append (decimal minor) (46 ∷ decimal patch) (plain_decimal minor fits-minor) (plain_decimal patch fits-patch)))
+    rw same (plain_append (decimal major) (46 ∷ (decimal minor ++ (46 ∷ decimal patch)))
+    (plain_decimal major fits-major)
+    (plain_append (decimal minor) (46 ∷ decimal patch) (plain_decimal minor fits-minor)
+    (plain_decimal patch fits-patch)))
 
 image_byte : (byte : ℕ) → is_image_byte byte ≡ true → is_plain byte ≡ true
 image_byte byte is = grind (arith, nat_tests)

@@ -24,7 +24,8 @@ put_members target keys members = fold (put_member target) keys members
 abbrev pub met_behind : Option ℕ → Option ℕ → Option ℕ
 met_behind None place = None
 met_behind (Some met) None = None
-met_behind (Some met) (Some place) = if nat_lt place met then Some met else (if place == met then Some (met + 1) else None)
+met_behind (Some met) (Some place) = if nat_lt place met then Some met else
+    (if place == met then Some (met + 1) else None)
 
 -- the asked keys are the first answered ones, or no answered ones begin with them
 abbrev pub IsMet : List Key → List Key → Option ℕ → Type 0

@@ -34,11 +34,13 @@ step_by place None (Some name) = Some (record { place = place; side = Provided; 
 step_by place None None = None
 
 abbrev pub step_at : List TrialRow → List ℕ → ℕ → Option Step
-step_at trial set place = step_by place (first_unprovided trial set place 0 (required_at trial place)) (first_unrequired trial set place 0 (provided_at trial place))
+step_at trial set place = step_by place (first_unprovided trial set place 0 (required_at trial place))
+    (first_unrequired trial set place 0 (provided_at trial place))
 
 abbrev pub first_step_of : List TrialRow → List ℕ → List ℕ → Option Step
 first_step_of trial set [] = None
-first_step_of trial set (place ∷ places) = elim (step_at trial set place) [ Some step ↦ Some step | None ↦ first_step_of trial set places ]
+first_step_of trial set (place ∷ places) = elim (step_at trial set place)
+    [ Some step ↦ Some step | None ↦ first_step_of trial set places ]
 
 -- the first step that fits, the places ascending
 abbrev pub first_step : List TrialRow → List ℕ → Option Step

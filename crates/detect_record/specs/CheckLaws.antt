@@ -11,7 +11,8 @@ use Rattle.detect_record.specs.Checking.{answers_in, check_of, target_in}
 -- what was checked is the first trial that passes
 abbrev pub IsFirst : Checked → Option Ending → Type 0
 IsFirst checked (Some (FirstTrial place resolved group)) =
-    (checked.group ≡ group_rows group) × (checked.plan ≡ resolved.plan) × (checked.place ≡ place) × (checked.trial ≡ resolved.trial)
+    (checked.group ≡ group_rows group) × (checked.plan ≡ resolved.plan) × (checked.place ≡ place)
+    × (checked.trial ≡ resolved.trial)
 IsFirst checked (Some (TooManyTrials place)) = ⊥
 IsFirst checked None = ⊥
 
@@ -21,4 +22,5 @@ abbrev pub CheckedIsFirst : Type 0
 CheckedIsFirst = (catalog : List Descriptor) (order : List (List Entry)) (bytes : List ℕ) (checked : Checked) →
     check_of catalog order bytes ≡ Ok checked →
     IsFirst checked (first_trial (kept_says (target_in bytes) (answers_in bytes)) catalog order)
-    × (keys_of (answers_in bytes) ≡ asked_keys (target_in bytes) (kept_says (target_in bytes) (answers_in bytes)) catalog order)
+    × (keys_of (answers_in bytes) ≡ asked_keys (target_in bytes)
+    (kept_says (target_in bytes) (answers_in bytes)) catalog order)

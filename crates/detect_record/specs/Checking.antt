@@ -35,7 +35,8 @@ pub data Reading : Type 0 where
 
 -- the answers and one more, unless the buildpack has one
 abbrev pub with_answer : Option Target → List (Key × Verdict) → Key → Verdict → Option Reading
-with_answer target answers key verdict = if has_key answers key then None else Some (Answering target (answers ++ (key, verdict) ∷ []))
+with_answer target answers key verdict = if has_key answers key then None else Some
+    (Answering target (answers ++ (key, verdict) ∷ []))
 
 abbrev pub following : Option Target → List (Key × Verdict) → Option Stage → Option Reading
 following target answers (Some stage) = Some (Following target answers stage)
@@ -47,10 +48,13 @@ read_line groups Untitled Head = Some Untargeted
 read_line groups Untitled line = None
 read_line groups Untargeted (TargetLine target) = Some (Answering target [])
 read_line groups Untargeted line = None
-read_line groups (Answering target answers) (Answer key probed) = with_answer target answers key (answer_of build_plan probed)
-read_line groups (Answering target answers) (Group line) = following target answers (after (answered_by target answers groups) (AtGroup 0 groups) line)
+read_line groups (Answering target answers) (Answer key probed) = with_answer target answers key
+    (answer_of build_plan probed)
+read_line groups (Answering target answers) (Group line) = following target answers
+    (after (answered_by target answers groups) (AtGroup 0 groups) line)
 read_line groups (Answering target answers) line = None
-read_line groups (Following target answers stage) (Group line) = following target answers (after (answered_by target answers groups) stage line)
+read_line groups (Following target answers stage) (Group line) = following target answers
+    (after (answered_by target answers groups) stage line)
 read_line groups (Following target answers stage) line = None
 
 abbrev pub read_piece : List (List Member) → Reading → Option Line → Option Reading
@@ -82,7 +86,11 @@ end_of taken (Following target answers stage) = end_at taken stage
 abbrev pub read_all : List (List Member) → ℕ → Reading → List (Option Line) → Result Checked CheckFault
 read_all groups taken reading [] = end_of taken reading
 read_all groups taken reading (piece ∷ pieces) =
-    elim (read_piece groups reading piece) [ Some next ↦ read_all groups (taken + 1) next pieces | None ↦ Err (Bad (taken + 1)) ]
+    elim (read_piece groups reading piece) [
+      | Some next ↦ read_all groups (taken + 1) next pieces
+      | None
+          ↦ Err (Bad (taken + 1))
+    ]
 
 unfoldable pub check_of : List Descriptor → List (List Entry) → List ℕ → Result Checked CheckFault
 check_of catalog order bytes = read_all (listed_groups catalog order) 0 Untitled (lines_in bytes)

@@ -52,7 +52,8 @@ wants_line (AtTrial chosen place rows groups number trials) = true
 wants_line (AtEnd place rows number trial set) = false
 
 -- A call that takes lines: what they come to is what those behind them come to, or the fault.
-abbrev pub GoesOn : {A : Type 0} → Result A CheckFault → Result Checked CheckFault → (A → Result Checked CheckFault) → Type 0
+abbrev pub GoesOn : {A : Type 0} → Result A CheckFault → Result Checked CheckFault
+    → (A → Result Checked CheckFault) → Type 0
 GoesOn (Ok value) from to = from ≡ to value
 GoesOn (Err (Bad line)) from to = from ≡ Err (Bad line)
 GoesOn (Err Memory) from to = Unit {0}
@@ -80,7 +81,8 @@ kept_by trial (Some left) = if nat_lt 0 (length left) && is_closed trial left th
 kept_by trial None = None
 
 -- the stage behind a line of the chosen group's trial, where the line keeps these places or drops the trial
-abbrev pub kept_or_next : ℕ → List AliveRow → List (List Member) → ℕ → List TrialRow → List (List TrialRow) → Option (List ℕ) → Stage
+abbrev pub kept_or_next : ℕ → List AliveRow → List (List Member) → ℕ → List TrialRow → List (List TrialRow)
+    → Option (List ℕ) → Stage
 kept_or_next place rows groups number trial trials (Some set) = AtEnd place rows number trial set
 kept_or_next place rows groups number trial trials None = trying true place rows groups (number + 1) trials
 
@@ -118,14 +120,17 @@ reads_on groups (Some reading) lines = reads groups reading lines
 reads_on groups None lines = Err (Bad lines.taken)
 
 -- an answer was taken, or the line of a group comes
-abbrev pub answered_or_behind : List (List Member) → Option Target → List (Key × Verdict) → LinesLeft → Option AnswerRow → Result Checked CheckFault
+abbrev pub answered_or_behind : List (List Member) → Option Target → List (Key × Verdict) → LinesLeft
+    → Option AnswerRow → Result Checked CheckFault
 answered_or_behind groups target answers lines (Some row) =
     reads_on groups (with_answer target answers row.key (answer_of build_plan row.probed)) lines
 answered_or_behind groups target answers lines None = checks (known_by target answers groups) (AtGroup 0 groups) lines
 
 -- A call that adds an answer, whose line has this number, unless the buildpack has one.
-abbrev pub IsAdded : {A : Type 0} → Result A CheckFault → ℕ → Key → Probed → List (Key × Verdict) → List (Key × Verdict) → Type 0
-IsAdded (Ok value) taken key probed old new = (has_key old key ≡ false) × (new ≡ old ++ (key, answer_of build_plan probed) ∷ [])
+abbrev pub IsAdded : {A : Type 0} → Result A CheckFault → ℕ → Key → Probed → List (Key × Verdict)
+    → List (Key × Verdict) → Type 0
+IsAdded (Ok value) taken key probed old new = (has_key old key ≡ false)
+    × (new ≡ old ++ (key, answer_of build_plan probed) ∷ [])
 IsAdded (Err (Bad line)) taken key probed old new = (has_key old key ≡ true) × (line ≡ taken)
 IsAdded (Err Memory) taken key probed old new = Unit {0}
 

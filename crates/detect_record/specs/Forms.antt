@@ -80,7 +80,8 @@ plan_text (byte ∷ bytes) = encode_lower (byte ∷ bytes)
 -- ---- steps
 
 abbrev pub side_in : List ℕ → Option Side
-side_in text = if bytes_eq text (codes "r") then Some Required else if bytes_eq text (codes "v") then Some Provided else None
+side_in text = if bytes_eq text (codes "r") then Some Required else if bytes_eq text
+    (codes "v") then Some Provided else None
 
 -- a place, a side and the number of a name, with colons between
 unfoldable pub step_in : List ℕ → Option Step

@@ -38,4 +38,5 @@ passed_whole says group = flat_map group_whole (passed_lines says group)
 -- the lines of the groups up to the one at a place, of which the trial of this number is the first that passes
 abbrev pub groups_whole : (Member → Verdict) → ℕ → ℕ → List (List Member) → List ℕ
 groups_whole says place trial groups =
-    flat_map (passed_whole says) (take place groups) ++ flat_map group_whole (chosen_lines says trial (slice_get groups place))
+    flat_map (passed_whole says) (take place groups) ++ flat_map group_whole
+    (chosen_lines says trial (slice_get groups place))

@@ -37,7 +37,8 @@ IsSoundTarget None = Unit {0}
 IsSoundTarget (Some target) = (is_target_name target.os ≡ true) × (is_target_name target.arch ≡ true)
 
 abbrev pub IsSoundAnswer : Key → Probed → Type 0
-IsSoundAnswer key probed = (is_bp_id key.id ≡ true) × (is_bp_version key.version ≡ true) × IsSoundCode probed.code × IsBytes probed.plan
+IsSoundAnswer key probed = (is_bp_id key.id ≡ true) × (is_bp_version key.version ≡ true) × IsSoundCode probed.code
+    × IsBytes probed.plan
 
 abbrev pub IsSound : Line → Type 0
 IsSound Head = Unit {0}

@@ -113,7 +113,8 @@ target_text (Some target) = target.os ++ codes " " ++ target.arch
 target_text None = codes "none"
 
 abbrev pub answer_text : Key → Probed → List ℕ
-answer_text key probed = key.id ++ codes " " ++ key.version ++ codes " " ++ code_text probed.code ++ codes " " ++ plan_text probed.plan
+answer_text key probed = key.id ++ codes " " ++ key.version ++ codes " " ++ code_text probed.code ++ codes " "
+    ++ plan_text probed.plan
 
 unfoldable pub group_text : GroupLine → List ℕ
 group_text (Fails member) = codes "fails " ++ decimal member

@@ -40,8 +40,11 @@ answered_by target answers groups = record {
 -- The law: the first trial that passes by the recorded answers is the kept one, with the places left; and the answered
 -- keys are exactly those that had to be asked, in order.
 abbrev pub RecordProves : Type 0
-RecordProves = (target : Option Target) (answers : List (Key × Verdict)) (groups : List (List Member)) (lines : List GroupLine)
+RecordProves = (target : Option Target) (answers : List (Key × Verdict)) (groups : List (List Member))
+    (lines : List GroupLine)
     (place : ℕ) (rows : List AliveRow) (number : ℕ) (trial : List TrialRow) (set : List ℕ) →
-    after_all (answered_by target answers groups) (Some (AtGroup 0 groups)) lines ≡ Some (AtEnd place rows number trial set) →
-    (first_ending (kept_says target answers) 0 groups ≡ Some (FirstTrial place (resolved_at rows number trial set) (map (λ row. row.key) (at_places rows set))))
+    after_all (answered_by target answers groups) (Some (AtGroup 0 groups)) lines
+    ≡ Some (AtEnd place rows number trial set) →
+    (first_ending (kept_says target answers) 0 groups ≡ Some
+    (FirstTrial place (resolved_at rows number trial set) (map (λ row. row.key) (at_places rows set))))
     × (keys_of answers ≡ asked_in target (reached (kept_says target answers) 0 groups))

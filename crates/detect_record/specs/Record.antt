@@ -57,7 +57,8 @@ is_empty (x ∷ xs) = false
 -- steps that show that a trial fails: the last one has a required row, or leaves no place
 abbrev pub drops : List TrialRow → List ℕ → List Step → Bool
 drops trial set [] = false
-drops trial set (step ∷ []) = step_fits trial set step && (not (may_drop trial step) || is_empty (without step.place set))
+drops trial set (step ∷ []) = step_fits trial set step &&
+    (not (may_drop trial step) || is_empty (without step.place set))
 drops trial set (step ∷ next ∷ steps) =
     step_fits trial set step && may_drop trial step && drops trial (without step.place set) (next ∷ steps)
 
@@ -70,7 +71,8 @@ pub record Answered : Type 0 where
   pub has_answer : Member → Bool
   pub keys_right : ℕ → Bool
 
--- where a reader of the lines is: before the line of the next group, before the line of a trial of a group, which is the
+-- where a reader of the lines is: before the line of the next group, before the line of a trial of a group, which is
+-- the
 -- chosen one or not, or behind the last line
 pub data Stage : Type 0 where
   AtGroup : ℕ → List (List Member) → Stage
@@ -122,9 +124,11 @@ kept_if_chosen true stage = stage
 kept_if_chosen false stage = None
 
 -- the stage behind the line of a trial
-abbrev pub after_trial : Bool → ℕ → List AliveRow → List (List Member) → ℕ → List TrialRow → List (List TrialRow) → GroupLine → Option Stage
+abbrev pub after_trial : Bool → ℕ → List AliveRow → List (List Member) → ℕ → List TrialRow → List (List TrialRow)
+    → GroupLine → Option Stage
 after_trial chosen place rows groups number trial trials (Drop steps) =
-    stage_if (drops trial (places trial) steps && not (chosen && is_empty trials)) (trying chosen place rows groups (number + 1) trials)
+    stage_if (drops trial (places trial) steps && not (chosen && is_empty trials))
+    (trying chosen place rows groups (number + 1) trials)
 after_trial chosen place rows groups number trial trials (Keep steps) =
     kept_if_chosen chosen (kept_stage place rows number trial (left_after trial (places trial) steps))
 after_trial chosen place rows groups number trial trials (Fails member) = None

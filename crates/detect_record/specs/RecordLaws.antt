@@ -19,14 +19,17 @@ abbrev pub RecordsFirstTrial : Type 0
 RecordsFirstTrial = (answered : Answered) (groups : List (List Member)) (lines : List GroupLine)
     (place : ℕ) (rows : List AliveRow) (number : ℕ) (trial : List TrialRow) (set : List ℕ) →
     after_all answered (Some (AtGroup 0 groups)) lines ≡ Some (AtEnd place rows number trial set) →
-    (first_ending answered.says 0 groups ≡ Some (FirstTrial place (resolved_at rows number trial set) (map (λ row. row.key) (at_places rows set))))
+    (first_ending answered.says 0 groups ≡ Some (FirstTrial place (resolved_at rows number trial set)
+    (map (λ row. row.key) (at_places rows set))))
     × (reached answered.says 0 groups ≡ take (place + 1) groups)
     × (answered.keys_right place ≡ true)
 
 -- Where a trial passes first, and each member that was met is answered, the canonical lines meet their rules.
 abbrev pub CanonicalProves : Type 0
-CanonicalProves = (answered : Answered) (groups : List (List Member)) (place : ℕ) (resolved : Resolved) (keys : List Key) →
+CanonicalProves = (answered : Answered) (groups : List (List Member)) (place : ℕ) (resolved : Resolved)
+    (keys : List Key) →
     first_ending answered.says 0 groups ≡ Some (FirstTrial place resolved keys) →
     list_all (list_all answered.has_answer) (reached answered.says 0 groups) ≡ true → answered.keys_right place ≡ true →
     (rows : List AliveRow) × (number : ℕ) × (trial : List TrialRow) × (set : List ℕ)
-    × (after_all answered (Some (AtGroup 0 groups)) (lines_of answered.says groups) ≡ Some (AtEnd place rows number trial set))
+    × (after_all answered (Some (AtGroup 0 groups)) (lines_of answered.says groups)
+    ≡ Some (AtEnd place rows number trial set))

@@ -47,7 +47,8 @@ limited_by kind (whole.Bytes bytes) = Ok (Some bytes)
 -- the file at a path; what is neither a file nor absent can't be read
 abbrev pub file_at : ℕ → LimitKind → Tree → List ℕ → Result (Option (List ℕ)) ReadFault
 file_at limit kind files path =
-    if is_file_or_absent (item_at files path) then limited_by kind (whole_of limit (item_at files path)) else Err (File path)
+    if is_file_or_absent (item_at files path) then limited_by kind (whole_of limit (item_at files path)) else Err
+    (File path)
 
 -- the document at a path
 abbrev pub document_at : Tree → List ℕ → Result (Option (List ℕ)) ReadFault

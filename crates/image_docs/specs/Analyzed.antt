@@ -39,4 +39,5 @@ with_previous (Some name) members = member (codes "previous") (string name) memb
 
 abbrev pub analyzed_members : Analyzed → Members
 analyzed_members analyzed =
-    member (codes "arch") (string analyzed.arch) (member (codes "os") (string analyzed.os) (with_previous analyzed.previous (member (codes "run") (string analyzed.run) no_members)))
+    member (codes "arch") (string analyzed.arch) (member (codes "os") (string analyzed.os)
+    (with_previous analyzed.previous (member (codes "run") (string analyzed.run) no_members)))

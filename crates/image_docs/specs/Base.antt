@@ -26,4 +26,5 @@ is_base base = is_target_name base.os && is_target_name base.arch
 -- what is written of it
 abbrev pub base_members : Base → Members
 base_members base =
-    member (codes "arch") (string base.arch) (member (codes "name") (string base.name) (member (codes "os") (string base.os) (member (codes "top") (digest_data base.top) no_members)))
+    member (codes "arch") (string base.arch) (member (codes "name") (string base.name)
+    (member (codes "os") (string base.os) (member (codes "top") (digest_data base.top) no_members)))

@@ -27,7 +27,8 @@ made_plain byte = by (nat_lt byte 32) refl
 
 pub plain_is_plain : (text : List ℕ) → is_plain (plain text) ≡ true
 plain_is_plain [] = refl
-plain_is_plain (byte ∷ text) = and_from (is_plain_byte (plain_byte byte)) (is_plain (plain text)) (made_plain byte) (plain_is_plain text)
+plain_is_plain (byte ∷ text) = and_from (is_plain_byte (plain_byte byte)) (is_plain (plain text))
+    (made_plain byte) (plain_is_plain text)
 
 -- ---- names of images have none
 
@@ -64,25 +65,33 @@ lead k n = grind (arith, nat_tests)
 
 -- a character of more bytes than one
 wide : (c : ℕ) (two three : Bool)
-    → map plain_byte (cond two ((192 + c / 64) ∷ (128 + c % 64) ∷ []) (cond three ((224 + c / 4096) ∷ (128 + (c / 64) % 64) ∷ (128 + c % 64) ∷ []) ((240 + c / 262144) ∷ (128 + (c / 4096) % 64) ∷ (128 + (c / 64) % 64) ∷ (128 + c % 64) ∷ [])))
-    ≡ cond two ((192 + c / 64) ∷ (128 + c % 64) ∷ []) (cond three ((224 + c / 4096) ∷ (128 + (c / 64) % 64) ∷ (128 + c % 64) ∷ []) ((240 + c / 262144) ∷ (128 + (c / 4096) % 64) ∷ (128 + (c / 64) % 64) ∷ (128 + c % 64) ∷ []))
+    → map plain_byte (cond two ((192 + c / 64) ∷ (128 + c % 64) ∷ [])
+    (cond three ((224 + c / 4096) ∷ (128 + (c / 64) % 64) ∷ (128 + c % 64) ∷ [])
+    ((240 + c / 262144) ∷ (128 + (c / 4096) % 64) ∷ (128 + (c / 64) % 64) ∷ (128 + c % 64) ∷ [])))
+    ≡ cond two ((192 + c / 64) ∷ (128 + c % 64) ∷ [])
+    (cond three ((224 + c / 4096) ∷ (128 + (c / 64) % 64) ∷ (128 + c % 64) ∷ [])
+    ((240 + c / 262144) ∷ (128 + (c / 4096) % 64) ∷ (128 + (c / 64) % 64) ∷ (128 + c % 64) ∷ []))
 wide c true three = ap₂ ◌∷◌ (lead 64 (c / 64)) (ap₂ ◌∷◌ (above (c % 64)) refl)
 wide c false true = ap₂ ◌∷◌ (lead 96 (c / 4096)) (ap₂ ◌∷◌ (above ((c / 64) % 64)) (ap₂ ◌∷◌ (above (c % 64)) refl))
-wide c false false = ap₂ ◌∷◌ (lead 112 (c / 262144)) (ap₂ ◌∷◌ (above ((c / 4096) % 64)) (ap₂ ◌∷◌ (above ((c / 64) % 64)) (ap₂ ◌∷◌ (above (c % 64)) refl)))
+wide c false false = ap₂ ◌∷◌ (lead 112 (c / 262144))
+    (ap₂ ◌∷◌ (above ((c / 4096) % 64)) (ap₂ ◌∷◌ (above ((c / 64) % 64)) (ap₂ ◌∷◌ (above (c % 64)) refl)))
 
 -- the character `?` for each below 32
 plain_char : (c : ℕ) → map plain_byte (encode c) ≡ encode (plain_byte c)
 unfolding encode
 plain_char c = by (nat_lt c 32) (nat_lt c 128) refl refl
   where
-    by : (control ascii : Bool) → nat_lt c 32 ≡ control → nat_lt c 128 ≡ ascii → map plain_byte (encode c) ≡ encode (plain_byte c)
+    by : (control ascii : Bool) → nat_lt c 32 ≡ control → nat_lt c 128 ≡ ascii
+        → map plain_byte (encode c) ≡ encode (plain_byte c)
     by true true e f = rw (f, e) refl
     by true false e f = absurd (false≢true (grind (arith, nat_tests)))
     by false true e f = rw (f, e, f) refl
     by false false e f = rw (f, e, f) (wide c (nat_lt c 2048) (nat_lt c 65536))
 
 -- one more character
-pub plain_more : (made made' rest rest' text : List ℕ) (c : ℕ) → rest ≡ encode c ++ rest' → made' ≡ made ++ encode (plain_byte c) → made ++ plain rest ≡ text → made' ++ plain rest' ≡ text
+pub plain_more : (made made' rest rest' text : List ℕ) (c : ℕ) → rest ≡ encode c ++ rest'
+    → made' ≡ made ++ encode (plain_byte c) → made ++ plain rest ≡ text → made' ++ plain rest' ≡ text
 plain_more made made' rest rest' text c e f h =
     ap (λ m. m ++ plain rest') f ∙ append_assoc made (encode (plain_byte c)) (plain rest')
-    ∙ ap (λ t. made ++ t) (ap (λ t. t ++ plain rest') (sym (plain_char c)) ∙ sym (map-append plain_byte (encode c) rest') ∙ sym (ap plain e)) ∙ h
+    ∙ ap (λ t. made ++ t) (ap (λ t. t ++ plain rest') (sym (plain_char c))
+    ∙ sym (map-append plain_byte (encode c) rest') ∙ sym (ap plain e)) ∙ h

@@ -11,7 +11,8 @@ use Rattle.image_docs.specs.CacheRows.{is_cache_doc, cache_members}
 use Rattle.image_docs.specs.LayerRow.{layers_at, has_layer_names}
 use Rattle.image_docs.specs.LayerRowLaws.{layers_read, layers_dates, layers_within}
 
-pub cache_read : (rows : List LayerRow) → list_all has_layer_names rows ≡ true → is_cache_doc rows ≡ true → layers_at true (cache_members rows) ≡ Ok rows
+pub cache_read : (rows : List LayerRow) → list_all has_layer_names rows ≡ true → is_cache_doc rows ≡ true
+    → layers_at true (cache_members rows) ≡ Ok rows
 cache_read rows typed sound = rw (layers_read true rows typed sound)
 
 pub cache_dates : (rows : List LayerRow) → members_have_valid_dates (cache_members rows) ≡ true

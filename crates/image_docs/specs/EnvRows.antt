@@ -23,7 +23,8 @@ is_name_byte byte = not (byte == 61) && not (byte == 0)
 
 -- a variable that a child can be given
 abbrev pub is_variable : Variable → Bool
-is_variable variable = is_filled variable.name && list_all is_name_byte variable.name && list_all (λ byte. not (byte == 0)) variable.value
+is_variable variable = is_filled variable.name && list_all is_name_byte variable.name
+    && list_all (λ byte. not (byte == 0)) variable.value
 
 -- variables with ascending names
 abbrev pub is_env : List Variable → Bool
@@ -41,7 +42,8 @@ env_at table = value_or [] env_of (codes "env") table
 
 -- what is written of it
 abbrev pub variable_members : Variable → Members
-variable_members variable = member (codes "name") (string variable.name) (member (codes "value") (string variable.value) no_members)
+variable_members variable = member (codes "name") (string variable.name)
+    (member (codes "value") (string variable.value) no_members)
 
 abbrev pub env_data : List Variable → Data
 env_data variables = list_data (table_data variable_members) variables

@@ -12,11 +12,13 @@ use Rattle.image_docs.specs.EnvRows.{variable_in, is_env, env_of, variable_membe
 
 pub env_read : (variables : List Variable) → is_env variables ≡ true → env_of (env_data variables) ≡ Ok variables
 env_read variables sound =
-    rw (list_read (table_data variable_members) (table_of variable_in) (λ variable. true) (λ variable. true) (λ variable typed sound. refl) variables (all_true variables) (all_true variables))
+    rw (list_read (table_data variable_members) (table_of variable_in) (λ variable. true) (λ variable. true)
+    (λ variable typed sound. refl) variables (all_true variables) (all_true variables))
     (cond-true (is_env variables) _ _ sound)
 
 pub env_dates : (variables : List Variable) → has_valid_dates (env_data variables) ≡ true
 env_dates variables = list_dates (table_data variable_members) (λ variable. refl) variables
 
 pub env_within : (variables : List Variable) → depth (env_data variables) ≤ 2
-env_within variables = list_within (table_data variable_members) (λ variable. true) 1 (λ variable sound. le_refl 1) variables (all_true variables)
+env_within variables = list_within (table_data variable_members) (λ variable. true) 1
+    (λ variable sound. le_refl 1) variables (all_true variables)

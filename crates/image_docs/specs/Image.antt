@@ -59,7 +59,17 @@ image_table_in table = do
   env ← env_at table
   entrypoint ← required_at (name_of is_short_path) (codes "entrypoint") table
   provided ← provided_in table
-  Ok (record { base = base; rows = rows; env = env; entrypoint = entrypoint; labels = provided.labels; launch = provided.launch; layers = provided.layers; store = provided.store })
+  Ok (record {
+    base = base;
+    rows = rows;
+    env = env;
+    entrypoint = entrypoint;
+    labels = provided.labels;
+    launch =
+        provided.launch;
+    layers = provided.layers;
+    store = provided.store;
+  })
 
 -- the image that bytes read as, or their first fault
 abbrev pub image_in : List ℕ → Result ImageDoc DocFault
@@ -67,18 +77,24 @@ image_in bytes = document_of image_table_in bytes
 
 abbrev pub has_image_names : ImageDoc → Bool
 has_image_names image =
-    has_base_names image.base && (list_all has_digest image.rows && (has_launch_names image.launch && (list_all has_layer_names image.layers && list_all has_id image.store)))
+    has_base_names image.base && (list_all has_digest image.rows
+    && (has_launch_names image.launch && (list_all has_layer_names image.layers
+    && list_all has_id image.store)))
 
 -- an image that can be read
 abbrev pub is_image_doc : ImageDoc → Bool
 is_image_doc image =
     is_base image.base && (are_rows image.rows && (is_env image.env && (is_short_path image.entrypoint
-    && (list_all is_label image.labels && (is_launch_doc image.launch && (are_layers false image.layers && is_store image.store))))))
+    && (list_all is_label image.labels && (is_launch_doc image.launch
+    && (are_layers false image.layers && is_store image.store))))))
 
 -- what is written of it
 abbrev pub image_members : ImageDoc → Members
 image_members image =
-    member (codes "base") (table_data base_members image.base) (member (codes "entrypoint") (string image.entrypoint) (member (codes "env") (env_data image.env)
-    (member (codes "labels") (list_data (table_data label_members) image.labels) (member (codes "launch") (table_data launch_doc_members image.launch)
-    (member (codes "layers") (layers_data image.layers) (member (codes "rows") (rows_data image.rows) (member (codes "store") (store_data image.store)
+    member (codes "base") (table_data base_members image.base)
+    (member (codes "entrypoint") (string image.entrypoint) (member (codes "env") (env_data image.env)
+    (member (codes "labels") (list_data (table_data label_members) image.labels)
+    (member (codes "launch") (table_data launch_doc_members image.launch)
+    (member (codes "layers") (layers_data image.layers)
+    (member (codes "rows") (rows_data image.rows) (member (codes "store") (store_data image.store)
     (member (codes "version") (integer (pos 2)) no_members))))))))

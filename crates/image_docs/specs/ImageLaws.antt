@@ -39,9 +39,14 @@ pub record Names (image : ImageDoc) : Type 0 where
 
 names_of : (image : ImageDoc) → has_image_names image ≡ true → Names image
 names_of image typed =
-    let a = and_parts (has_base_names image.base) (list_all has_digest image.rows && (has_launch_names image.launch && (list_all has_layer_names image.layers && list_all has_id image.store))) typed in
-    let b = and_parts (list_all has_digest image.rows) (has_launch_names image.launch && (list_all has_layer_names image.layers && list_all has_id image.store)) a.1 in
-    let c = and_parts (has_launch_names image.launch) (list_all has_layer_names image.layers && list_all has_id image.store) b.1 in
+    let a = and_parts (has_base_names image.base)
+    (list_all has_digest image.rows && (has_launch_names image.launch
+    && (list_all has_layer_names image.layers && list_all has_id image.store))) typed in
+    let b = and_parts (list_all has_digest image.rows)
+    (has_launch_names image.launch && (list_all has_layer_names image.layers && list_all has_id image.store))
+    a.1 in
+    let c = and_parts (has_launch_names image.launch)
+    (list_all has_layer_names image.layers && list_all has_id image.store) b.1 in
     let d = and_parts (list_all has_layer_names image.layers) (list_all has_id image.store) c.1 in
     record { base = a.0; rows = b.0; launch = c.0; layers = d.0; store = d.1 }
 
@@ -59,17 +64,39 @@ pub record Parts (image : ImageDoc) : Type 0 where
 
 parts_of : (image : ImageDoc) → is_image_doc image ≡ true → Parts image
 parts_of image sound =
-    let a = and_parts (is_base image.base) (are_rows image.rows && (is_env image.env && (is_short_path image.entrypoint && (list_all is_label image.labels && (is_launch_doc image.launch && (are_layers false image.layers && is_store image.store)))))) sound in
-    let b = and_parts (are_rows image.rows) (is_env image.env && (is_short_path image.entrypoint && (list_all is_label image.labels && (is_launch_doc image.launch && (are_layers false image.layers && is_store image.store))))) a.1 in
+    let a = and_parts (is_base image.base) (are_rows image.rows
+    && (is_env image.env && (is_short_path image.entrypoint
+    && (list_all is_label image.labels && (is_launch_doc image.launch
+    && (are_layers false image.layers && is_store image.store)))))) sound in
+    let b = and_parts (are_rows image.rows) (is_env image.env
+    && (is_short_path image.entrypoint && (list_all is_label image.labels
+    && (is_launch_doc image.launch && (are_layers false image.layers && is_store image.store))))) a.1 in
     let rows = and_parts (list_all is_row image.rows) (are_ordered image.rows) b.0 in
-    let c = and_parts (is_env image.env) (is_short_path image.entrypoint && (list_all is_label image.labels && (is_launch_doc image.launch && (are_layers false image.layers && is_store image.store)))) b.1 in
-    let d = and_parts (is_short_path image.entrypoint) (list_all is_label image.labels && (is_launch_doc image.launch && (are_layers false image.layers && is_store image.store))) c.1 in
-    let e = and_parts (list_all is_label image.labels) (is_launch_doc image.launch && (are_layers false image.layers && is_store image.store)) d.1 in
+    let c = and_parts (is_env image.env) (is_short_path image.entrypoint
+    && (list_all is_label image.labels && (is_launch_doc image.launch
+    && (are_layers false image.layers && is_store image.store)))) b.1 in
+    let d = and_parts (is_short_path image.entrypoint)
+    (list_all is_label image.labels && (is_launch_doc image.launch
+    && (are_layers false image.layers && is_store image.store))) c.1 in
+    let e = and_parts (list_all is_label image.labels)
+    (is_launch_doc image.launch && (are_layers false image.layers && is_store image.store)) d.1 in
     let f = and_parts (is_launch_doc image.launch) (are_layers false image.layers && is_store image.store) e.1 in
     let g = and_parts (are_layers false image.layers) (is_store image.store) f.1 in
-    record { base = a.0; each_row = rows.0; ordered = rows.1; env = c.0; entrypoint = d.0; labels = e.0; launch = f.0; layers = g.0; store = g.1 }
+    record {
+      base = a.0;
+      each_row = rows.0;
+      ordered = rows.1;
+      env = c.0;
+      entrypoint = d.0;
+      labels = e.0;
+      launch =
+          f.0;
+      layers = g.0;
+      store = g.1;
+    }
 
-pub image_read : (image : ImageDoc) → has_image_names image ≡ true → is_image_doc image ≡ true → image_table_in (image_members image) ≡ Ok image
+pub image_read : (image : ImageDoc) → has_image_names image ≡ true → is_image_doc image ≡ true
+    → image_table_in (image_members image) ≡ Ok image
 image_read image typed sound =
     let names = names_of image typed in
     let parts = parts_of image sound in
@@ -79,7 +106,8 @@ image_read image typed sound =
       ordered_read image.rows parts.ordered,
       env_read image.env parts.env,
       name_read is_short_path image.entrypoint parts.entrypoint,
-      list_read (table_data label_members) (table_of label_in) (λ label. true) is_label label_read image.labels (all_true image.labels) parts.labels,
+      list_read (table_data label_members) (table_of label_in) (λ label. true) is_label label_read image.labels
+          (all_true image.labels) parts.labels,
       launch_doc_read image.launch names.launch parts.launch,
       layers_read false image.layers names.layers parts.layers,
       store_read image.store names.store parts.store,
@@ -87,14 +115,19 @@ image_read image typed sound =
 
 pub image_dates : (image : ImageDoc) → members_have_valid_dates (image_members image) ≡ true
 image_dates image =
-    and_from _ _ (env_dates image.env) (and_from _ _ (list_dates (table_data label_members) (λ label. refl) image.labels)
-    (and_from _ _ (launch_doc_dates image.launch) (and_from _ _ (layers_dates image.layers) (and_from _ _ (rows_dates image.rows) (and_from _ _ (store_dates image.store) refl)))))
+    and_from _ _ (env_dates image.env) (and_from _ _
+    (list_dates (table_data label_members) (λ label. refl) image.labels)
+    (and_from _ _ (launch_doc_dates image.launch)
+    (and_from _ _ (layers_dates image.layers) (and_from _ _ (rows_dates image.rows)
+    (and_from _ _ (store_dates image.store) refl)))))
 
 pub image_within : (image : ImageDoc) → is_image_doc image ≡ true → members_depth (image_members image) ≤ 35
 image_within image sound =
     let parts = parts_of image sound in
     max-le (leb-true 1 35 refl) (max-le (zero_within 35) (max-le (le_trans (env_within image.env) (leb-true 2 35 refl))
-    (max-le (le_trans (list_within (table_data label_members) is_label 1 (λ label sound. le_refl 1) image.labels parts.labels) (leb-true 2 35 refl))
+    (max-le (le_trans (list_within (table_data label_members) is_label 1
+    (λ label sound. le_refl 1) image.labels parts.labels) (leb-true 2 35 refl))
     (max-le (le_trans (suc_within _ 3 (launch_doc_within image.launch parts.launch)) (leb-true 4 35 refl))
-    (max-le (layers_within false image.layers parts.layers) (max-le (le_trans (rows_within_list image.rows) (leb-true 2 35 refl))
+    (max-le (layers_within false image.layers parts.layers)
+    (max-le (le_trans (rows_within_list image.rows) (leb-true 2 35 refl))
     (max-le (store_within image.store parts.store) (max-le (zero_within 35) (zero_within 35)))))))))

@@ -41,7 +41,8 @@ is_optional_type None = true
 is_optional_type (Some kind) = is_process_type kind
 
 abbrev pub has_launch_names : LaunchDoc → Bool
-has_launch_names launch = list_all is_key launch.buildpacks && (list_all has_type launch.processes && is_optional_type launch.default)
+has_launch_names launch = list_all is_key launch.buildpacks
+    && (list_all has_type launch.processes && is_optional_type launch.default)
 
 -- a document that can be read
 abbrev pub is_launch_doc : LaunchDoc → Bool
@@ -55,4 +56,5 @@ with_default (Some kind) members = member (codes "default") (string kind) member
 abbrev pub launch_doc_members : LaunchDoc → Members
 launch_doc_members launch =
     member (codes "buildpacks") (list_data (table_data key_members) launch.buildpacks)
-    (with_default launch.default (member (codes "processes") (list_data (table_data process_members) launch.processes) no_members))
+    (with_default launch.default (member (codes "processes")
+    (list_data (table_data process_members) launch.processes) no_members))

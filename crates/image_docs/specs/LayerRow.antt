@@ -33,7 +33,14 @@ layer_in cached table = do
   kept ← cache_flag cached cache
   digest ← required_at digest_of (codes "digest") table
   meta ← metadata_in table
-  Ok (record { id = id; layer = layer; flags = record { launch = launch; build = build; cache = cache }; meta = meta; digest = digest })
+  Ok (record {
+    id = id;
+    layer = layer;
+    flags = record { launch = launch; build = build; cache = cache };
+    meta =
+        meta;
+    digest = digest;
+  })
 
 -- what tells one layer from another
 abbrev pub layer_key : LayerRow → LayerKey
@@ -63,8 +70,11 @@ are_layers cached rows = list_all (is_layer_row cached) rows && are_distinct sam
 -- what is written of it
 abbrev pub layer_members : LayerRow → Members
 layer_members row =
-    member (codes "build") (boolean row.flags.build) (member (codes "cache") (boolean row.flags.cache) (member (codes "digest") (digest_data row.digest)
-    (member (codes "id") (string row.id) (member (codes "launch") (boolean row.flags.launch) (member (codes "layer") (string row.layer) (member (codes "metadata") (metadata_data row.meta) no_members))))))
+    member (codes "build") (boolean row.flags.build)
+    (member (codes "cache") (boolean row.flags.cache) (member (codes "digest") (digest_data row.digest)
+    (member (codes "id") (string row.id) (member (codes "launch") (boolean row.flags.launch)
+    (member (codes "layer") (string row.layer) (member (codes "metadata")
+    (metadata_data row.meta) no_members))))))
 
 abbrev pub layers_data : List LayerRow → Data
 layers_data rows = list_data (table_data layer_members) rows

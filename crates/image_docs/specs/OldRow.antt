@@ -33,8 +33,15 @@ old_by base Launcher place = migrated_by Launcher place
 old_by base Process place = migrated_by Process place
 
 abbrev pub migrated : List ℕ → OldRow → Row
-migrated base old = record { role = old.role; place = old.place; digest = old.digest; by = old_by base old.role old.place }
+migrated base old = record {
+  role = old.role;
+  place = old.place;
+  digest = old.digest;
+  by = old_by base old.role
+      old.place;
+}
 
 -- the rows of an image on the run image of this name
 abbrev pub old_rows_at : List ℕ → TableForm (List Row)
-old_rows_at base table = list_at (table_of old_row_in) (codes "rows") table >>= (λ rows. ordered_rows (map (migrated base) rows))
+old_rows_at base table = list_at (table_of old_row_in) (codes "rows") table
+    >>= (λ rows. ordered_rows (map (migrated base) rows))

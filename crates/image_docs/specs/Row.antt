@@ -1,4 +1,5 @@
--- The rows of an image, from the lowest: where each stands, what its tree is and what made it, in this project's own layout.
+-- The rows of an image, from the lowest: where each stands, what its tree is and what made it, in this project's own
+-- layout.
 use Rattle.std.specs.Prelude.{ℕ, Bool, true, false, not, ◌&&◌, List, [], ◌∷◌, Result, Ok, Err, codes, if◌then◌else◌}
 use Rattle.std.specs.List.{list_all}
 use Rattle.std.specs.Str.{bytes_eq}
@@ -80,7 +81,8 @@ are_rows rows = list_all is_row rows && are_ordered rows
 -- what is written of it
 abbrev pub row_members : Row → Members
 row_members row =
-    member (codes "by") (string row.by) (member (codes "digest") (digest_data row.digest) (member (codes "place") (string row.place) (member (codes "role") (role_data row.role) no_members)))
+    member (codes "by") (string row.by) (member (codes "digest") (digest_data row.digest)
+    (member (codes "place") (string row.place) (member (codes "role") (role_data row.role) no_members)))
 
 abbrev pub rows_data : List Row → Data
 rows_data rows = list_data (table_data row_members) rows

@@ -27,10 +27,18 @@ role_read Process = refl
 pub row_read : (row : Row) → has_digest row ≡ true → is_row row ≡ true → row_in (row_members row) ≡ Ok row
 row_read row typed sound =
     let parts = and_parts (is_short_path row.place) (is_by row.by) sound in
-    rw (role_read row.role, name_read is_short_path row.place parts.0, digest_read row.digest typed, by_read row.by parts.1)
+    rw (
+      role_read row.role,
+      name_read is_short_path row.place parts.0,
+      digest_read row.digest typed,
+      by_read
+          row.by parts.1,
+    )
 
-pub rows_read_list : (rows : List Row) → list_all has_digest rows ≡ true → list_all is_row rows ≡ true → list_of (table_of row_in) (rows_data rows) ≡ Ok rows
-rows_read_list rows typed sound = list_read (table_data row_members) (table_of row_in) has_digest is_row row_read rows typed sound
+pub rows_read_list : (rows : List Row) → list_all has_digest rows ≡ true → list_all is_row rows ≡ true
+    → list_of (table_of row_in) (rows_data rows) ≡ Ok rows
+rows_read_list rows typed sound = list_read (table_data row_members)
+    (table_of row_in) has_digest is_row row_read rows typed sound
 
 pub ordered_read : (rows : List Row) → are_ordered rows ≡ true → ordered_rows rows ≡ Ok rows
 ordered_read rows sound = cond-true (are_ordered rows) _ _ sound
@@ -39,4 +47,5 @@ pub rows_dates : (rows : List Row) → has_valid_dates (rows_data rows) ≡ true
 rows_dates rows = list_dates (table_data row_members) (λ row. refl) rows
 
 pub rows_within_list : (rows : List Row) → depth (rows_data rows) ≤ 2
-rows_within_list rows = list_within (table_data row_members) (λ row. true) 1 (λ row sound. le_refl 1) rows (all_true rows)
+rows_within_list rows = list_within (table_data row_members) (λ row. true) 1 (λ row sound. le_refl 1) rows
+    (all_true rows)

@@ -35,4 +35,5 @@ is_run_doc run = is_target_name run.os && is_target_name run.arch && (is_filled 
 -- what is written of it
 abbrev pub run_members : RunDoc → Members
 run_members run =
-    member (codes "arch") (string run.arch) (member (codes "env") (env_data run.env) (member (codes "os") (string run.os) (member (codes "rows") (list_data digest_data run.rows) no_members)))
+    member (codes "arch") (string run.arch) (member (codes "env") (env_data run.env)
+    (member (codes "os") (string run.os) (member (codes "rows") (list_data digest_data run.rows) no_members)))

@@ -15,10 +15,12 @@ pub run_image_counts : (store name : List ℕ) → Obeys FileCounts cause_of (re
 unfolding reads_run_image
 run_image_counts store name = reads_counts cause_of _ _
 
-pub written_image_counts : (store name : List ℕ) (image : ImageDoc) → Obeys FileCounts cause_of (writes_readable_image store name image)
+pub written_image_counts : (store name : List ℕ) (image : ImageDoc)
+    → Obeys FileCounts cause_of (writes_readable_image store name image)
 unfolding writes_readable_image
 written_image_counts store name image = writes_counts cause_of _ _
 
-pub written_run_image_counts : (store name : List ℕ) (image : RunDoc) → Obeys FileCounts cause_of (writes_readable_run_image store name image)
+pub written_run_image_counts : (store name : List ℕ) (image : RunDoc)
+    → Obeys FileCounts cause_of (writes_readable_run_image store name image)
 unfolding writes_readable_run_image
 written_run_image_counts store name image = writes_counts cause_of _ _

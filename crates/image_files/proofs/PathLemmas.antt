@@ -12,7 +12,8 @@ use Rattle.image_files.specs.Paths.{document_name}
 
 part_bytes : (name : List ℕ) → IsTrue (is_part name) → list_all is_part_byte name ≡ true
 part_bytes name h =
-    (and_parts (nat_lt 0 (length name) && nat_le (length name) 255 && not (bytes_eq name (46 ∷ [])) && not (bytes_eq name (46 ∷ 46 ∷ []))) (list_all is_part_byte name) h).1
+    (and_parts (nat_lt 0 (length name) && nat_le (length name) 255 && not (bytes_eq name (46 ∷ []))
+    && not (bytes_eq name (46 ∷ 46 ∷ []))) (list_all is_part_byte name) h).1
 
 not_dot : (text : List ℕ) → 2 < length text → bytes_eq text (46 ∷ []) ≡ false
 not_dot [] long = absurd (omega arith)
@@ -26,7 +27,8 @@ not_dots (a ∷ []) long = absurd (omega arith)
 not_dots (a ∷ b ∷ []) long = absurd (omega arith)
 not_dots (a ∷ b ∷ c ∷ text) long = grind (arith, nat_tests)
 
-long_part : (text : List ℕ) → 2 < length text → length text ≤ 255 → list_all is_part_byte text ≡ true → IsTrue (is_part text)
+long_part : (text : List ℕ) → 2 < length text → length text ≤ 255 → list_all is_part_byte text ≡ true
+    → IsTrue (is_part text)
 long_part text long short bytes =
     let some : nat_lt 0 (length text) ≡ true = grind (arith, nat_tests) in
     let few : nat_le (length text) 255 ≡ true = grind (arith, nat_tests) in
@@ -38,16 +40,24 @@ document_length name = length-append name (codes ".toml")
 document_bytes : (name : List ℕ) → IsTrue (is_part name) → list_all is_part_byte (document_name name) ≡ true
 document_bytes name part = rw (list_all-append is_part_byte name (codes ".toml"), part_bytes name part) refl
 
-pub document_name_is_part : (name : List ℕ) → IsTrue (is_part name) → length name ≤ 200 → IsTrue (is_part (document_name name))
+pub document_name_is_part : (name : List ℕ) → IsTrue (is_part name) → length name ≤ 200
+    → IsTrue (is_part (document_name name))
 document_name_is_part name part short =
     let size = document_length name in
     long_part (document_name name) (omega (arith, size)) (omega (arith, size)) (document_bytes name part)
 
-pub document_beside_is_part : (name : List ℕ) → IsTrue (is_part name) → length name ≤ 200 → IsTrue (is_part (beside (document_name name)))
+pub document_beside_is_part : (name : List ℕ) → IsTrue (is_part name) → length name ≤ 200
+    → IsTrue (is_part (beside (document_name name)))
 document_beside_is_part name part short =
     let size = document_length name in
-    let all : length (beside (document_name name)) ≡ length name + 9 = length-append (document_name name) (46 ∷ 110 ∷ 101 ∷ 119 ∷ []) ∙ omega (arith, size) in
-    long_part (beside (document_name name)) (omega (arith, all)) (omega (arith, all)) (rw (list_all-append is_part_byte (document_name name) (46 ∷ 110 ∷ 101 ∷ 119 ∷ []), document_bytes name part) refl)
+    let all : length (beside (document_name name)) ≡ length name + 9 = length-append (document_name name)
+    (46 ∷ 110 ∷ 101 ∷ 119 ∷ []) ∙ omega (arith, size) in
+    long_part (beside (document_name name)) (omega (arith, all)) (omega (arith, all))
+    (rw (
+      list_all-append is_part_byte (document_name name) (46 ∷ 110 ∷ 101 ∷ 119 ∷ []),
+      document_bytes name
+          part,
+    ) refl)
 
 image_byte_is_part : (b : ℕ) → is_image_byte b ≡ true → is_part_byte b ≡ true
 image_byte_is_part b is = grind (arith, nat_tests)
@@ -77,4 +87,14 @@ image_name_fits (b ∷ name) is =
     let short : length (b ∷ name) ≤ 128 = leb-true (length (b ∷ name)) 128 few in
     let some : nat_lt 0 (length (b ∷ name)) ≡ true = grind (arith, nat_tests) in
     let within : nat_le (length (b ∷ name)) 255 ≡ true = grind (arith, nat_tests) in
-    record { part = rw (some, within, first_byte_is_no_dot b first, first_byte_is_part b first, image_bytes name rest) refl; short = short }
+    record {
+      part = rw (
+        some,
+        within,
+        first_byte_is_no_dot b first,
+        first_byte_is_part b first,
+        image_bytes name
+            rest,
+      ) refl;
+      short = short;
+    }

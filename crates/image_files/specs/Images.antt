@@ -22,11 +22,13 @@ named name (Some image) = Ok image
 
 -- the image of a name
 abbrev pub image_at : List ℕ → List ℕ → Tree → Result ImageDoc ImageFault
-image_at store name files = and_then (with_fault of_read_fault (document_in image_table_in (image_path store name) files)) (named name)
+image_at store name files = and_then (with_fault of_read_fault
+    (document_in image_table_in (image_path store name) files)) (named name)
 
 -- the run image of a name
 abbrev pub run_image_at : List ℕ → List ℕ → Tree → Result RunDoc ImageFault
-run_image_at store name files = and_then (with_fault of_read_fault (document_in table_in (run_path store name) files)) (named name)
+run_image_at store name files = and_then (with_fault of_read_fault
+    (document_in table_in (run_path store name) files)) (named name)
 
 unfoldable pub reads_image : List ℕ → List ℕ → Seen → Result ImageDoc ImageFault → Seen → Type 0
 reads_image store name = reads cause_of (is_fit_document (image_path store name)) (image_at store name)
@@ -52,7 +54,8 @@ writes_run_image store name image = writes cause_of (run_path store name) (Reads
 unfoldable pub writes_readable_image : List ℕ → List ℕ → ImageDoc → Seen → Result (Unit {0}) ImageFault → Seen → Type 0
 writes_readable_image store name image = writes cause_of (image_path store name) (λ bytes. image_in bytes ≡ Ok image)
 
-unfoldable pub writes_readable_run_image : List ℕ → List ℕ → RunDoc → Seen → Result (Unit {0}) ImageFault → Seen → Type 0
+unfoldable pub writes_readable_run_image : List ℕ → List ℕ → RunDoc → Seen → Result (Unit {0}) ImageFault → Seen
+    → Type 0
 writes_readable_run_image store name image = writes cause_of (run_path store name) (λ bytes. run_in bytes ≡ Ok image)
 
 -- where the files are told, the document at a path reads as this value

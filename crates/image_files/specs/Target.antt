@@ -18,7 +18,8 @@ target_of analyzed = record { os = analyzed.os; arch = analyzed.arch }
 
 -- the target that a work folder's document says; there is none where the document isn't there
 abbrev pub target_at : List ℕ → Tree → Result (Option Target) ReadFault
-target_at work files = document_in table_in (analyzed_document work) files >>= (λ found. Ok (option_map target_of found))
+target_at work files = document_in table_in (analyzed_document work) files
+    >>= (λ found. Ok (option_map target_of found))
 
 -- what stands where the target is read is of the kind that is needed
 abbrev pub is_fit_target : List ℕ → Tree → Bool

@@ -7,11 +7,13 @@ use Rattle.cnb_world.specs.Path.{is_part, is_part_byte}
 use Rattle.cnb_toml.specs.Names.{is_layer_name, is_reserved_layer}
 use Rattle.cnb_env.proofs.PlanNameLemmas.{long_part, part_bytes}
 
-pub document_is_part : (layer : List ℕ) → IsTrue (is_layer_name layer) → IsTrue (is_part layer) → IsTrue (is_part (layer ++ codes ".toml"))
+pub document_is_part : (layer : List ℕ) → IsTrue (is_layer_name layer) → IsTrue (is_part layer)
+    → IsTrue (is_part (layer ++ codes ".toml"))
 document_is_part layer named part =
     let (most, free) = and_parts (nat_le (length layer) 200 && is_part layer) (not (is_reserved_layer layer)) named in
     let (few, again) = and_parts (nat_le (length layer) 200) (is_part layer) most in
     let short : length layer ≤ 200 = leb-true (length layer) 200 few in
     let whole : length (layer ++ codes ".toml") ≡ length layer + 5 = length-append layer (codes ".toml") in
-    let bytes : list_all is_part_byte (layer ++ codes ".toml") ≡ true = rw (list_all-append is_part_byte layer (codes ".toml"), part_bytes layer part) refl in
+    let bytes : list_all is_part_byte (layer ++ codes ".toml")
+    ≡ true = rw (list_all-append is_part_byte layer (codes ".toml"), part_bytes layer part) refl in
     long_part (layer ++ codes ".toml") (omega arith) (omega arith) bytes

@@ -14,6 +14,8 @@ pub other_ids : (a b : List ℕ) → (fingerprint a ≡ fingerprint b → ⊥) �
 other_ids a b ne = false_from_ne_true (bytes_eq a b) (λ h. ne (ap fingerprint ((bytes_eq-Decides a b).0 h)))
 
 -- an entry means no descriptor of another fingerprint
-pub not_meant : (entry : Entry) (descriptor : Descriptor) → (descriptor_fingerprint descriptor ≡ fingerprint entry.id → ⊥) → may_mean entry descriptor ≡ false
+pub not_meant : (entry : Entry) (descriptor : Descriptor)
+    → (descriptor_fingerprint descriptor ≡ fingerprint entry.id → ⊥) → may_mean entry descriptor ≡ false
 not_meant entry descriptor ne =
-    ap (λ b. b && option_map_or (λ version. bytes_eq version descriptor.key.version) entry.version true) (other_ids entry.id descriptor.key.id (λ e. ne (sym e)))
+    ap (λ b. b && option_map_or (λ version. bytes_eq version descriptor.key.version) entry.version true)
+    (other_ids entry.id descriptor.key.id (λ e. ne (sym e)))

@@ -19,10 +19,13 @@ same_key-true a b h =
     λ i. record { id = p i; version = q i }
 
 pub same_key-refl : (a : Key) → same_key a a ≡ true
-same_key-refl a = and_from (bytes_eq a.id a.id) (bytes_eq a.version a.version) ((bytes_eq-Decides a.id a.id).1 refl) ((bytes_eq-Decides a.version a.version).1 refl)
+same_key-refl a = and_from (bytes_eq a.id a.id) (bytes_eq a.version a.version)
+    ((bytes_eq-Decides a.id a.id).1 refl) ((bytes_eq-Decides a.version a.version).1 refl)
 
 pub same_key-swap : (a b : Key) → same_key a b ≡ false → same_key b a ≡ false
-same_key-swap a b e = false_from_ne_true (same_key b a) (λ h. both_ways (same_key a b) e (subst (λ (k : Key). same_key a k ≡ true) (sym (same_key-true b a h)) (same_key-refl a)))
+same_key-swap a b e = false_from_ne_true (same_key b a)
+    (λ h. both_ways (same_key a b) e (subst (λ (k : Key). same_key a k ≡ true) (sym (same_key-true b a h))
+    (same_key-refl a)))
 
 pub neither : (a b : Bool) → (a || b) ≡ false → (a ≡ false) × (b ≡ false)
 neither true b e = cc
@@ -33,15 +36,18 @@ not_true true e = cc
 not_true false e = refl
 
 -- a key that a list has not is no descriptor's
-pub key_not_among : (xs : List Descriptor) (key : Key) (place : ℕ) (d : Descriptor) → has_key xs key ≡ false → slice_get xs place ≡ Some d → same_key key d.key ≡ false
+pub key_not_among : (xs : List Descriptor) (key : Key) (place : ℕ) (d : Descriptor) → has_key xs key ≡ false
+    → slice_get xs place ≡ Some d → same_key key d.key ≡ false
 key_not_among [] key place d n e = cc
 key_not_among (x ∷ xs) key zero d n e =
     let same : x ≡ d = cc in
     subst (λ (y : Descriptor). same_key key y.key ≡ false) same (neither (same_key key x.key) (has_key xs key) n).0
-key_not_among (x ∷ xs) key (suc place) d n e = key_not_among xs key place d (neither (same_key key x.key) (has_key xs key) n).1 e
+key_not_among (x ∷ xs) key (suc place) d n e = key_not_among xs key place d
+    (neither (same_key key x.key) (has_key xs key) n).1 e
 
 -- one descriptor more, of a new key
-pub distinct_push : (xs : List Descriptor) (d : Descriptor) → has_distinct_keys xs ≡ true → has_key xs d.key ≡ false → has_distinct_keys (xs ++ d ∷ []) ≡ true
+pub distinct_push : (xs : List Descriptor) (d : Descriptor) → has_distinct_keys xs ≡ true
+    → has_key xs d.key ≡ false → has_distinct_keys (xs ++ d ∷ []) ≡ true
 distinct_push [] d h n = refl
 distinct_push (x ∷ xs) d h n =
     let parts = and_parts (not (has_key xs x.key)) (has_distinct_keys xs) h in
@@ -49,4 +55,5 @@ distinct_push (x ∷ xs) d h n =
     let new : has_key (xs ++ d ∷ []) x.key ≡ false =
     list_any-append (λ (y : Descriptor). same_key x.key y.key) xs (d ∷ [])
     ∙ (λ i. not_true (has_key xs x.key) parts.0 i || (same_key-swap d.key x.key apart.0 i || false)) in
-    and_from (not (has_key (xs ++ d ∷ []) x.key)) (has_distinct_keys (xs ++ d ∷ [])) (ap not new) (distinct_push xs d parts.1 apart.1)
+    and_from (not (has_key (xs ++ d ∷ []) x.key)) (has_distinct_keys (xs ++ d ∷ [])) (ap not new)
+    (distinct_push xs d parts.1 apart.1)

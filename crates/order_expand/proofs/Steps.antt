@@ -4,7 +4,8 @@ use Rattle.bp_docs.specs.declared.descriptor.Entry.{Entry}
 use Rattle.bp_docs.specs.declared.descriptor.Descriptor.{Descriptor}
 use Rattle.order_expand.specs.Steps.{order_steps, groups_steps}
 
-pub order_steps_zero : (levels : ℕ) (catalog : List Descriptor) (order : List (List Entry)) (behind : ℕ) → levels ≡ 0 → order_steps levels catalog order behind ≡ behind + 2
+pub order_steps_zero : (levels : ℕ) (catalog : List Descriptor) (order : List (List Entry)) (behind : ℕ)
+    → levels ≡ 0 → order_steps levels catalog order behind ≡ behind + 2
 unfolding order_steps
 order_steps_zero zero catalog order behind e = refl
 order_steps_zero (suc levels) catalog order behind e = absurd (omega arith)
@@ -13,4 +14,5 @@ pub order_steps_above : (levels : ℕ) (catalog : List Descriptor) (order : List
     order_steps levels catalog order behind ≡ groups_steps (order_steps (levels - 1) catalog) catalog order behind
 unfolding order_steps
 order_steps_above zero catalog order behind h = absurd (omega arith)
-order_steps_above (suc levels) catalog order behind h = ap (λ n. groups_steps (order_steps n catalog) catalog order behind) (omega arith)
+order_steps_above (suc levels) catalog order behind h = ap
+    (λ n. groups_steps (order_steps n catalog) catalog order behind) (omega arith)

@@ -21,7 +21,8 @@ some_injective x y e = cc
 pub in_table : {X Y : Type 0} (f : Y → X) (table : List X) (rows : List Y) (place : ℕ) (row : Y) (x : X) →
     table ≡ map f rows → slice_get rows place ≡ Some row → slice_get table place ≡ Some x → x ≡ f row
 in_table f table rows place row x t d e =
-    some_injective x (f row) (sym e ∙ (ap (λ ys. slice_get ys place) t ∙ (slice_get-map f rows place ∙ ap (option_map f) d)))
+    some_injective x (f row) (sym e ∙ (ap (λ ys. slice_get ys place) t
+    ∙ (slice_get-map f rows place ∙ ap (option_map f) d)))
 
 -- a descriptor's place is in each table
 pub place_in_table : {X : Type 0} (table : List X) (catalog : List Descriptor) (place : ℕ) (descriptor : Descriptor) →
@@ -31,26 +32,36 @@ place_in_table table catalog place descriptor e d = let h = slice_get_within cat
 -- what stands in a table beside an element
 pub beside : {X Y : Type 0} (f : Y → X) (table : List X) (rows : List Y) (place : ℕ) (row : Y) (x : X) →
     table ≡ map f rows → place < length rows → row ≡ get_or rows place row → slice_get table place ≡ Some x → x ≡ f row
-beside f table rows place row x t h e s = in_table f table rows place row x t (slice_get-get_or rows place row h ∙ ap Some (sym e)) s
+beside f table rows place row x t h e s = in_table f table rows place row x t
+    (slice_get-get_or rows place row h ∙ ap Some (sym e)) s
 
-pub place_beside : {X Y : Type 0} (f : Y → X) (table : List X) (rows : List Y) (place : ℕ) → table ≡ map f rows → place < length rows → place < length table
+pub place_beside : {X Y : Type 0} (f : Y → X) (table : List X) (rows : List Y) (place : ℕ) → table ≡ map f rows
+    → place < length rows → place < length table
 place_beside f table rows place t h = let e = ap length t ∙ length-map rows f in omega arith
 
 -- one more of both
-pub table_push : {X Y : Type 0} (f : Y → X) (table : List X) (rows : List Y) (row : Y) → table ≡ map f rows → table ++ f row ∷ [] ≡ map f (rows ++ row ∷ [])
+pub table_push : {X Y : Type 0} (f : Y → X) (table : List X) (rows : List Y) (row : Y) → table ≡ map f rows
+    → table ++ f row ∷ [] ≡ map f (rows ++ row ∷ [])
 table_push f table rows row t = ap (λ xs. xs ++ f row ∷ []) t ∙ sym (map-append f rows (row ∷ []))
 
 -- ---- an entry's groups by what it names
 
-pub component_in_front : (groups_of : List (List Entry) → List (List Member)) (entry : Entry) (o : Option Descriptor) (d : Descriptor) (clear_env : _) (targets : _) (groups : List (List Member)) (size : Size) →
-    Some d ≡ o → d.body ≡ Component clear_env targets → ((member : Member) → size ≡ size_of (map (λ group. member ∷ group) groups)) → size ≡ size_of (in_front_of groups_of entry o groups)
+pub component_in_front : (groups_of : List (List Entry) → List (List Member)) (entry : Entry)
+    (o : Option Descriptor) (d : Descriptor) (clear_env : _) (targets : _) (groups : List (List Member))
+    (size : Size) →
+    Some d ≡ o → d.body ≡ Component clear_env targets
+    → ((member : Member) → size ≡ size_of (map (λ group. member ∷ group) groups))
+    → size ≡ size_of (in_front_of groups_of entry o groups)
 component_in_front groups_of entry o d clear_env targets groups size n b each =
     let member : Member = record { key = d.key; optional = entry.optional; clear_env = clear_env; targets = targets } in
     subst (λ (o : Option Descriptor). size ≡ size_of (in_front_of groups_of entry o groups)) n
     (subst (λ (body : Body). size ≡ size_of (in_front groups_of entry d.key body groups)) (sym b) (each member))
 
-pub composite_in_front : (groups_of : List (List Entry) → List (List Member)) (entry : Entry) (o : Option Descriptor) (d : Descriptor) (order : List (List Entry)) (groups : List (List Member)) (size : Size) →
-    Some d ≡ o → d.body ≡ Composite order → size ≡ size_of (in_front groups_of entry d.key (Composite order) groups) → size ≡ size_of (in_front_of groups_of entry o groups)
+pub composite_in_front : (groups_of : List (List Entry) → List (List Member)) (entry : Entry)
+    (o : Option Descriptor) (d : Descriptor) (order : List (List Entry)) (groups : List (List Member))
+    (size : Size) →
+    Some d ≡ o → d.body ≡ Composite order → size ≡ size_of (in_front groups_of entry d.key
+    (Composite order) groups) → size ≡ size_of (in_front_of groups_of entry o groups)
 composite_in_front groups_of entry o d order groups size n b e =
     subst (λ (o : Option Descriptor). size ≡ size_of (in_front_of groups_of entry o groups)) n
     (subst (λ (body : Body). size ≡ size_of (in_front groups_of entry d.key body groups)) (sym b) e)

@@ -35,7 +35,8 @@ groups_later catalog places = fold (λ behind place. joined (groups_in catalog p
 
 -- members, and behind them some groups and those of the places that come later
 abbrev pub groups_with : List Descriptor → List MemberComponent → List (List Member) → List Place → List (List Member)
-groups_with catalog members groups later = map (λ group. map member_of members ++ group) (joined groups (groups_later catalog later))
+groups_with catalog members groups later = map (λ group. map member_of members ++ group)
+    (joined groups (groups_later catalog later))
 
 -- the groups that one that is begun comes to
 abbrev pub groups_of : List Descriptor → Begun → List (List Member)

@@ -26,7 +26,8 @@ entry_count order = length (entries_of order)
 -- the entries that a descriptor adds to those that are to be met, unless it was met before
 abbrev pub entries_behind : List Key → Option Descriptor → List Entry
 entries_behind met None = []
-entries_behind met (Some descriptor) = if list_any (same_key descriptor.key) met then [] else entries_of (order_of_body descriptor.body)
+entries_behind met (Some descriptor) = if list_any (same_key descriptor.key) met then [] else entries_of
+    (order_of_body descriptor.body)
 
 abbrev pub with_met : List Key → Option Descriptor → List Key
 with_met met None = met
@@ -38,12 +39,14 @@ abbrev pub met_from : ℕ → List Descriptor → List Key → List Entry → Li
 met_from zero catalog met todo = []
 met_from (suc steps) catalog met [] = []
 met_from (suc steps) catalog met (entry ∷ todo) =
-    entry ∷ met_from steps catalog (with_met met (named catalog entry)) (entries_behind met (named catalog entry) ++ todo)
+    entry ∷ met_from steps catalog (with_met met (named catalog entry))
+    (entries_behind met (named catalog entry) ++ todo)
 
 -- no more entries can be met than the order and all composites have
 abbrev pub met_entries : List Descriptor → List (List Entry) → List Entry
 met_entries catalog order =
-    met_from (entry_count order + sum (map (λ descriptor. entry_count (order_of_body descriptor.body)) catalog)) catalog [] (entries_of order)
+    met_from (entry_count order + sum (map (λ descriptor. entry_count (order_of_body descriptor.body)) catalog))
+    catalog [] (entries_of order)
 
 abbrev pub body_fault : Entry → Body → Option OrderFault
 body_fault entry (Foreign api) = Some (Api entry.id api)
@@ -61,7 +64,8 @@ entry_fault catalog entry = meaning_fault entry (filter (may_mean entry) catalog
 
 abbrev pub first_fault : List Descriptor → List Entry → Option OrderFault
 first_fault catalog [] = None
-first_fault catalog (entry ∷ entries) = elim (entry_fault catalog entry) [ Some fault ↦ Some fault | None ↦ first_fault catalog entries ]
+first_fault catalog (entry ∷ entries) = elim (entry_fault catalog entry)
+    [ Some fault ↦ Some fault | None ↦ first_fault catalog entries ]
 
 -- whether an entry's composites nest deeper than a number of levels
 abbrev pub named_order : Option Descriptor → List (List Entry)
@@ -74,7 +78,8 @@ is_composite (Some descriptor) = nat_lt 0 (length (order_of_body descriptor.body
 
 abbrev pub nests_deeper : ℕ → List Descriptor → Entry → Bool
 nests_deeper zero catalog entry = is_composite (named catalog entry)
-nests_deeper (suc levels) catalog entry = list_any (list_any (nests_deeper levels catalog)) (named_order (named catalog entry))
+nests_deeper (suc levels) catalog entry = list_any (list_any (nests_deeper levels catalog))
+    (named_order (named catalog entry))
 
 -- the first entry of the order file whose composites nest deeper than 16
 abbrev pub first_deep : List Descriptor → List (List Entry) → Option Entry

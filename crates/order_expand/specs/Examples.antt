@@ -32,19 +32,23 @@ member letter = record { key = key letter; optional = false; clear_env = false; 
 abbrev pub optional_member : ℕ → Member
 optional_member letter = record { key = key letter; optional = true; clear_env = false; targets = [] }
 
--- an optional composite of two groups between a component and a composite of two: left out only after each of its groups
+-- an optional composite of two groups between a component and a composite of two: left out only after each of its
+-- groups
 abbrev catalog_of_eight : List Descriptor
 catalog_of_eight = component 69 ∷ component 65 ∷ component 66 ∷ component 67 ∷ component 68 ∷
     composite 79 ((entry 65 ∷ []) ∷ (entry 66 ∷ []) ∷ []) ∷ composite 80 ((entry 67 ∷ []) ∷ (entry 68 ∷ []) ∷ []) ∷ []
 
-pub an_optional_composite_is_left_out_last : listed_groups catalog_of_eight ((entry 69 ∷ optional_entry 79 ∷ entry 80 ∷ []) ∷ [])
-    ≡ map (map member) ((69 ∷ 65 ∷ 67 ∷ []) ∷ (69 ∷ 65 ∷ 68 ∷ []) ∷ (69 ∷ 66 ∷ 67 ∷ []) ∷ (69 ∷ 66 ∷ 68 ∷ []) ∷ (69 ∷ 67 ∷ []) ∷ (69 ∷ 68 ∷ []) ∷ [])
+pub an_optional_composite_is_left_out_last : listed_groups catalog_of_eight
+    ((entry 69 ∷ optional_entry 79 ∷ entry 80 ∷ []) ∷ [])
+    ≡ map (map member) ((69 ∷ 65 ∷ 67 ∷ []) ∷ (69 ∷ 65 ∷ 68 ∷ []) ∷ (69 ∷ 66 ∷ 67 ∷ []) ∷ (69 ∷ 66 ∷ 68 ∷ [])
+    ∷ (69 ∷ 67 ∷ []) ∷ (69 ∷ 68 ∷ []) ∷ [])
 unfolding listed_groups raw_groups
 an_optional_composite_is_left_out_last = refl
 
 -- [s], where s has [t?, u] and t has [v]
 pub an_optional_composite_in_a_composite : listed_groups
-    (composite 115 ((optional_entry 116 ∷ entry 117 ∷ []) ∷ []) ∷ composite 116 ((entry 118 ∷ []) ∷ []) ∷ component 117 ∷ component 118 ∷ [])
+    (composite 115 ((optional_entry 116 ∷ entry 117 ∷ []) ∷ []) ∷ composite 116 ((entry 118 ∷ []) ∷ [])
+    ∷ component 117 ∷ component 118 ∷ [])
     ((entry 115 ∷ []) ∷ [])
     ≡ map (map member) ((118 ∷ 117 ∷ []) ∷ (117 ∷ []) ∷ [])
 unfolding listed_groups raw_groups
@@ -52,7 +56,8 @@ an_optional_composite_in_a_composite = refl
 
 -- [a at 1, k], where k has [a at 2, b]: the later member of the id a is dropped
 pub the_first_of_one_id_stands : listed_groups
-    (component 97 ∷ record { key = record { id = 97 ∷ []; version = 50 ∷ [] }; body = Component false [] } ∷ component 98 ∷ composite 107 ((entry_at 97 50 ∷ entry 98 ∷ []) ∷ []) ∷ [])
+    (component 97 ∷ record { key = record { id = 97 ∷ []; version = 50 ∷ [] }; body = Component false [] }
+    ∷ component 98 ∷ composite 107 ((entry_at 97 50 ∷ entry 98 ∷ []) ∷ []) ∷ [])
     ((entry_at 97 49 ∷ entry 107 ∷ []) ∷ [])
     ≡ map (map member) ((97 ∷ 98 ∷ []) ∷ [])
 unfolding listed_groups raw_groups

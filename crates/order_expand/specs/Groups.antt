@@ -19,22 +19,28 @@ the_only (x ∷ y ∷ xs) = None
 -- whether an entry may mean a descriptor: the same id, and the same version where it gives one
 abbrev pub may_mean : Entry → Descriptor → Bool
 may_mean entry descriptor =
-    bytes_eq entry.id descriptor.key.id && option_map_or (λ version. bytes_eq version descriptor.key.version) entry.version true
+    bytes_eq entry.id descriptor.key.id && option_map_or (λ version. bytes_eq version descriptor.key.version)
+    entry.version true
 
 -- the descriptor that an entry names: the only one that it may mean
 abbrev pub named : List Descriptor → Entry → Option Descriptor
 named catalog entry = the_only (filter (may_mean entry) catalog)
 
--- The groups of an entry and of those behind it. A component stands in front of each. A composite is replaced by each of
+-- The groups of an entry and of those behind it. A component stands in front of each. A composite is replaced by each
+-- of
 -- its own groups in turn, and where it is optional, by none of them last.
-abbrev pub in_front : (List (List Entry) → List (List Member)) → Entry → Key → Body → List (List Member) → List (List Member)
+abbrev pub in_front : (List (List Entry) → List (List Member)) → Entry → Key → Body → List (List Member)
+    → List (List Member)
 in_front groups_of entry key (Component clear_env targets) behind =
-    map (λ group. record { key = key; optional = entry.optional; clear_env = clear_env; targets = targets } ∷ group) behind
+    map (λ group. record { key = key; optional = entry.optional; clear_env = clear_env; targets = targets }
+    ∷ group) behind
 in_front groups_of entry key (Composite order) behind =
-    flat_map (λ front. map (λ group. front ++ group) behind) (groups_of order) ++ (if entry.optional then behind else [])
+    flat_map (λ front. map (λ group. front ++ group) behind) (groups_of order)
+    ++ (if entry.optional then behind else [])
 in_front groups_of entry key (Foreign api) behind = []
 
-abbrev pub in_front_of : (List (List Entry) → List (List Member)) → Entry → Option Descriptor → List (List Member) → List (List Member)
+abbrev pub in_front_of : (List (List Entry) → List (List Member)) → Entry → Option Descriptor → List (List Member)
+    → List (List Member)
 in_front_of groups_of entry (Some descriptor) behind = in_front groups_of entry descriptor.key descriptor.body behind
 in_front_of groups_of entry None behind = []
 

@@ -8,7 +8,8 @@ use Rattle.order_expand.specs.Groups.{may_mean, the_only}
 abbrev pub places_from : ℕ → Entry → List Descriptor → List ℕ
 places_from place entry [] = []
 places_from place entry (descriptor ∷ descriptors) =
-    if may_mean entry descriptor then place ∷ places_from (place + 1) entry descriptors else places_from (place + 1) entry descriptors
+    if may_mean entry descriptor then place ∷ places_from (place + 1) entry descriptors else places_from
+    (place + 1) entry descriptors
 
 -- the place of the descriptor that an entry names
 abbrev pub place_of : List Descriptor → Entry → Option ℕ

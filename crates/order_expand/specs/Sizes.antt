@@ -15,4 +15,5 @@ size_of groups = record { groups = min 4097 (length groups); longest = min 257 (
 
 -- for each descriptor the size of its own order's groups, down to a number of levels
 abbrev pub sizes_at : ℕ → List Descriptor → List Size
-sizes_at levels catalog = map (λ descriptor. size_of (raw_groups levels catalog (order_of_body descriptor.body))) catalog
+sizes_at levels catalog = map (λ descriptor. size_of (raw_groups levels catalog (order_of_body descriptor.body)))
+    catalog

@@ -35,8 +35,10 @@ order_steps zero catalog order behind = behind + 2
 order_steps (suc levels) catalog order behind = groups_steps (order_steps levels catalog) catalog order behind
 
 abbrev pub place_steps : List Descriptor → Place → ℕ → ℕ
-place_steps catalog (Entries levels entries) behind = entries_steps (order_steps levels catalog) catalog entries.now behind
-place_steps catalog (Groups levels groups optional) behind = groups_steps (order_steps levels catalog) catalog groups.now behind
+place_steps catalog (Entries levels entries) behind = entries_steps
+    (order_steps levels catalog) catalog entries.now behind
+place_steps catalog (Groups levels groups optional) behind = groups_steps
+    (order_steps levels catalog) catalog groups.now behind
 place_steps catalog Nowhere behind = 0
 
 abbrev pub later_steps : List Descriptor → List Place → ℕ

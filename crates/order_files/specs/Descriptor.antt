@@ -38,7 +38,8 @@ described path id_folder version (Some bytes) = do
 
 -- the descriptor in the folder of a version
 unfoldable pub descriptor_at : Tree → List ℕ → List ℕ → List ℕ → Result (Option Descriptor) ReadFault
-descriptor_at files folder id_folder version = document_at files (descriptor_path folder) >>= described (descriptor_path folder) id_folder version
+descriptor_at files folder id_folder version = document_at files (descriptor_path folder)
+    >>= described (descriptor_path folder) id_folder version
 
 -- a descriptor's document is a file, or isn't there
 abbrev pub is_fit_descriptor : Tree → List ℕ → Bool

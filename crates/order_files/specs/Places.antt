@@ -14,7 +14,8 @@ IsPlaced id_folder version None = Unit {0}
 IsPlaced id_folder version (Some descriptor) = BelongsTo id_folder version descriptor
 
 abbrev pub belongs_to : List ℕ → List ℕ → Descriptor → Bool
-belongs_to id_folder version descriptor = bytes_eq (folder_of descriptor.key.id) id_folder && bytes_eq descriptor.key.version version
+belongs_to id_folder version descriptor = bytes_eq (folder_of descriptor.key.id) id_folder
+    && bytes_eq descriptor.key.version version
 
 -- whether a descriptor of a version's folder is there
 unfoldable pub has_place : List Descriptor → List ℕ → List ℕ → Bool
@@ -22,8 +23,11 @@ has_place catalog id_folder version = list_any (belongs_to id_folder version) ca
 
 -- nothing came of another version's folder
 abbrev pub KeepsOthers : List ℕ → List ℕ → List Descriptor → List Descriptor → Type 0
-KeepsOthers id_folder version old new = (folder other : List ℕ) → (bytes_eq id_folder folder && bytes_eq version other) ≡ false → has_place new folder other ≡ has_place old folder other
+KeepsOthers id_folder version old new = (folder other : List ℕ)
+    → (bytes_eq id_folder folder && bytes_eq version other) ≡ false
+    → has_place new folder other ≡ has_place old folder other
 
 -- nothing came of another id's folder
 abbrev pub KeepsOtherIds : List ℕ → List Descriptor → List Descriptor → Type 0
-KeepsOtherIds id_folder old new = (folder version : List ℕ) → bytes_eq id_folder folder ≡ false → has_place new folder version ≡ has_place old folder version
+KeepsOtherIds id_folder old new = (folder version : List ℕ) → bytes_eq id_folder folder ≡ false
+    → has_place new folder version ≡ has_place old folder version

@@ -19,7 +19,8 @@ pub put_all_is : (names : List (List ℕ)) → put_all names [] ≡ ascending na
 put_all_is [] = refl
 put_all_is (name ∷ names) = ap (put_name name) (put_all_is names)
 
-pub put_all-push : (names : List (List ℕ)) (name : List ℕ) (set : List (List ℕ)) → put_all (names ++ name ∷ []) set ≡ put_all names (put_name name set)
+pub put_all-push : (names : List (List ℕ)) (name : List ℕ) (set : List (List ℕ))
+    → put_all (names ++ name ∷ []) set ≡ put_all names (put_name name set)
 put_all-push [] name set = refl
 put_all-push (x ∷ names) name set = ap (put_name x) (put_all-push names name set)
 
@@ -30,7 +31,8 @@ put_by f Equal k x xs later = refl
 put_by f Greater k x xs later = refl
 
 -- a set of borrowed names takes a name as a list of names does
-pub insert_put : {K : Type 0} (f : K → List ℕ) (keys : List K) (k : K) → map f (insert_key (λ x y. slice_cmp nat_cmp (f x) (f y)) keys k) ≡ put_name (f k) (map f keys)
+pub insert_put : {K : Type 0} (f : K → List ℕ) (keys : List K) (k : K)
+    → map f (insert_key (λ x y. slice_cmp nat_cmp (f x) (f y)) keys k) ≡ put_name (f k) (map f keys)
 insert_put f [] k = refl
 insert_put f (x ∷ xs) k =
     put_by f (slice_cmp nat_cmp (f k) (f x)) k x xs (insert_key (λ y z. slice_cmp nat_cmp (f y) (f z)) xs k)
@@ -39,19 +41,23 @@ insert_put f (x ∷ xs) k =
 -- ---- the buildpacks that a trial keeps
 
 pub with_keys_at : (rows : List AliveRow) (trial : List TrialRow) (place : ℕ) (alive : AliveRow) (row : TrialRow) →
-    slice_get rows place ≡ Some alive → slice_get trial place ≡ Some row → slice_get (with_keys rows trial) place ≡ Some (record { key = alive.key; row = row })
+    slice_get rows place ≡ Some alive → slice_get trial place ≡ Some row
+    → slice_get (with_keys rows trial) place ≡ Some (record { key = alive.key; row = row })
 with_keys_at [] trial place alive row d e = absurd cc
 with_keys_at (a ∷ rows) [] place alive row d e = absurd cc
-with_keys_at (a ∷ rows) (r ∷ trial) zero alive row d e = ap Some (let p : a ≡ alive = cc in let q : r ≡ row = cc in λ i. record { key = (p i).key; row = q i })
+with_keys_at (a ∷ rows) (r ∷ trial) zero alive row d e = ap Some
+    (let p : a ≡ alive = cc in let q : r ≡ row = cc in λ i. record { key = (p i).key; row = q i })
 with_keys_at (a ∷ rows) (r ∷ trial) (suc place) alive row d e = with_keys_at rows trial place alive row d e
 
-pub with_keys_past : (rows : List AliveRow) (trial : List TrialRow) (place : ℕ) → slice_get rows place ≡ None → slice_get (with_keys rows trial) place ≡ None
+pub with_keys_past : (rows : List AliveRow) (trial : List TrialRow) (place : ℕ) → slice_get rows place ≡ None
+    → slice_get (with_keys rows trial) place ≡ None
 with_keys_past [] trial place d = refl
 with_keys_past (a ∷ rows) [] place d = refl
 with_keys_past (a ∷ rows) (r ∷ trial) zero d = absurd cc
 with_keys_past (a ∷ rows) (r ∷ trial) (suc place) d = with_keys_past rows trial place d
 
-pub with_keys_past_trial : (rows : List AliveRow) (trial : List TrialRow) (place : ℕ) → slice_get trial place ≡ None → slice_get (with_keys rows trial) place ≡ None
+pub with_keys_past_trial : (rows : List AliveRow) (trial : List TrialRow) (place : ℕ)
+    → slice_get trial place ≡ None → slice_get (with_keys rows trial) place ≡ None
 with_keys_past_trial [] trial place d = refl
 with_keys_past_trial (a ∷ rows) [] place d = refl
 with_keys_past_trial (a ∷ rows) (r ∷ trial) zero d = absurd cc

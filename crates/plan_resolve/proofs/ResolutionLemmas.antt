@@ -12,25 +12,30 @@ use Rattle.plan_resolve.specs.Trials.{kept_of}
 use Rattle.plan_resolve.specs.Choices.{choices_of, choice_count}
 use Rattle.plan_resolve.specs.Resolution.{first_passing, resolved_at, Resolution, TooMany, Passes, Fails, cause_of, passes_or_fails, resolution, resolution_answer}
 
-drop_at : (trials : List (List TrialRow)) (number : ℕ) (trial : List TrialRow) → slice_get trials number ≡ Some trial → drop number trials ≡ trial ∷ drop (number + 1) trials
+drop_at : (trials : List (List TrialRow)) (number : ℕ) (trial : List TrialRow)
+    → slice_get trials number ≡ Some trial → drop number trials ≡ trial ∷ drop (number + 1) trials
 drop_at trials number trial e =
     drop_more trials number trial (slice_get_within trials number trial e)
     ∙ ap (λ t. t ∷ drop (number + 1) trials) (get_or_from_slice_get trials number trial trial e)
 
 abbrev answer_of : List AliveRow → ℕ → List TrialRow → Option Resolved → Option (List ℕ) → Option Resolved
-answer_of rows number trial later kept = elim kept [ Some set ↦ Some (resolved_at rows number trial set) | None ↦ later ]
+answer_of rows number trial later kept = elim kept
+    [ Some set ↦ Some (resolved_at rows number trial set) | None ↦ later ]
 
-pub next_fails : (rows : List AliveRow) (trials : List (List TrialRow)) (number : ℕ) (trial : List TrialRow) → slice_get trials number ≡ Some trial → kept_of trial ≡ None →
+pub next_fails : (rows : List AliveRow) (trials : List (List TrialRow)) (number : ℕ) (trial : List TrialRow)
+    → slice_get trials number ≡ Some trial → kept_of trial ≡ None →
     first_passing rows number (drop number trials) ≡ first_passing rows (number + 1) (drop (number + 1) trials)
 next_fails rows trials number trial e fails =
     ap (first_passing rows number) (drop_at trials number trial e)
     ∙ ap (answer_of rows number trial (first_passing rows (number + 1) (drop (number + 1) trials))) fails
 
 -- the search goes on behind trials that all fail
-pub next_fail : (rows : List AliveRow) (trials : List (List TrialRow)) (number count : ℕ) → number + count ≤ length trials →
+pub next_fail : (rows : List AliveRow) (trials : List (List TrialRow)) (number count : ℕ)
+    → number + count ≤ length trials →
     ((k : ℕ) (trial : List TrialRow) → k < count → slice_get trials (number + k) ≡ Some trial → kept_of trial ≡ None) →
     first_passing rows number (drop number trials) ≡ first_passing rows (number + count) (drop (number + count) trials)
-next_fail rows trials number zero within each = let same : number ≡ number + 0 = omega arith in ap (λ n. first_passing rows n (drop n trials)) same
+next_fail rows trials number zero within each = let same : number ≡ number + 0 = omega arith
+    in ap (λ n. first_passing rows n (drop n trials)) same
 next_fail rows trials number (suc count) within each =
     let trial = get_or trials (number + count) [] in
     let here = slice_get-get_or trials (number + count) [] (omega arith) in
@@ -39,13 +44,15 @@ next_fail rows trials number (suc count) within each =
     ∙ (next_fails rows trials (number + count) trial here (each count trial (omega arith) here)
     ∙ ap (λ n. first_passing rows n (drop n trials)) next)
 
-pub next_passes : (rows : List AliveRow) (trials : List (List TrialRow)) (number : ℕ) (trial : List TrialRow) (set : List ℕ) → slice_get trials number ≡ Some trial → kept_of trial ≡ Some set →
+pub next_passes : (rows : List AliveRow) (trials : List (List TrialRow)) (number : ℕ) (trial : List TrialRow)
+    (set : List ℕ) → slice_get trials number ≡ Some trial → kept_of trial ≡ Some set →
     first_passing rows number (drop number trials) ≡ Some (resolved_at rows number trial set)
 next_passes rows trials number trial set e passes =
     ap (first_passing rows number) (drop_at trials number trial e)
     ∙ ap (answer_of rows number trial (first_passing rows (number + 1) (drop (number + 1) trials))) passes
 
-pub none_left : (rows : List AliveRow) (trials : List (List TrialRow)) (number : ℕ) → length trials ≤ number → first_passing rows number (drop number trials) ≡ None
+pub none_left : (rows : List AliveRow) (trials : List (List TrialRow)) (number : ℕ) → length trials ≤ number
+    → first_passing rows number (drop number trials) ≡ None
 none_left rows trials number le = ap (first_passing rows number) (drop_all number trials le)
 
 -- ---- the answer
@@ -60,13 +67,23 @@ count_some false m n e = (refl, cc)
 
 pub resolution_many : (rows : List AliveRow) → nat_lt 65536 (choice_count rows) ≡ true → resolution rows ≡ TooMany
 unfolding resolution
-resolution_many rows many = ap (λ b. elim b [ true ↦ TooMany | false ↦ passes_or_fails (first_passing rows 0 (choices_of rows)) ]) many
+resolution_many rows many = ap (λ b. elim b [
+  | true ↦ TooMany
+  | false
+      ↦ passes_or_fails (first_passing rows 0 (choices_of rows))
+]) many
 
-pub resolution_tried : (rows : List AliveRow) → nat_lt 65536 (choice_count rows) ≡ false → resolution rows ≡ passes_or_fails (first_passing rows 0 (choices_of rows))
+pub resolution_tried : (rows : List AliveRow) → nat_lt 65536 (choice_count rows) ≡ false
+    → resolution rows ≡ passes_or_fails (first_passing rows 0 (choices_of rows))
 unfolding resolution
-resolution_tried rows few = ap (λ b. elim b [ true ↦ TooMany | false ↦ passes_or_fails (first_passing rows 0 (choices_of rows)) ]) few
+resolution_tried rows few = ap (λ b. elim b [
+  | true ↦ TooMany
+  | false
+      ↦ passes_or_fails (first_passing rows 0 (choices_of rows))
+]) few
 
-pub resolves : (passing : Option Resolved) (resolution : Resolution) → resolution ≡ passes_or_fails passing → IsAnswer cause_of (Ok passing) (resolution_answer resolution)
+pub resolves : (passing : Option Resolved) (resolution : Resolution) → resolution ≡ passes_or_fails passing
+    → IsAnswer cause_of (Ok passing) (resolution_answer resolution)
 resolves None resolution e = ap resolution_answer e
 resolves (Some resolved) resolution e = ap resolution_answer e
 
@@ -76,7 +93,8 @@ too_many_so TooMany e = refl
 too_many_so (Passes resolved) e = absurd cc
 too_many_so Fails e = absurd cc
 
-pub passes_so : (resolved : Resolved) (resolution : Resolution) → resolution_answer resolution ≡ Ok (Some resolved) → resolution ≡ Passes resolved
+pub passes_so : (resolved : Resolved) (resolution : Resolution)
+    → resolution_answer resolution ≡ Ok (Some resolved) → resolution ≡ Passes resolved
 passes_so resolved TooMany e = absurd cc
 passes_so resolved (Passes found) e = cc
 passes_so resolved Fails e = absurd cc

@@ -11,7 +11,8 @@ chosen_row row option = record { optional = row.optional; provides = option.prov
 -- in lexicographic order, the first buildpack's alternative varying slowest
 abbrev pub choices_of : List AliveRow → List (List TrialRow)
 choices_of [] = [] ∷ []
-choices_of (row ∷ rows) = flat_map (λ option. map (λ trial. chosen_row row option ∷ trial) (choices_of rows)) row.options
+choices_of (row ∷ rows) = flat_map (λ option. map (λ trial. chosen_row row option ∷ trial) (choices_of rows))
+    row.options
 
 -- how many there are
 abbrev pub choice_count : List AliveRow → ℕ

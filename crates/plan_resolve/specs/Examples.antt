@@ -28,7 +28,8 @@ key letter = record { id = name letter; version = 49 ∷ [] }
 
 -- three optional buildpacks in a chain of names whose last name nobody requires: all three go, the last one first
 pub excluding_goes_on_until_nothing_changes :
-    kept_of (optional_row (120 ∷ []) [] ∷ optional_row (121 ∷ []) (120 ∷ []) ∷ optional_row (122 ∷ []) (121 ∷ []) ∷ row [] [] ∷ []) ≡ Some (3 ∷ [])
+    kept_of (optional_row (120 ∷ []) [] ∷ optional_row (121 ∷ []) (120 ∷ []) ∷ optional_row (122 ∷ []) (121 ∷ [])
+    ∷ row [] [] ∷ []) ≡ Some (3 ∷ [])
 unfolding largest
 excluding_goes_on_until_nothing_changes = refl
 
@@ -48,14 +49,22 @@ unfolding largest
 a_buildpack_may_require_what_it_provides = refl
 
 -- a? provides p and q, b requires p: nobody requires q, so a goes with all its names
-pub an_excluded_buildpack_takes_all_its_names : kept_of (optional_row (112 ∷ 113 ∷ []) [] ∷ row [] (112 ∷ []) ∷ []) ≡ None
+pub an_excluded_buildpack_takes_all_its_names : kept_of
+    (optional_row (112 ∷ 113 ∷ []) [] ∷ row [] (112 ∷ []) ∷ []) ≡ None
 unfolding largest
 an_excluded_buildpack_takes_all_its_names = refl
 
--- two buildpacks with two alternatives each, of which the second of one and the first of the other agree: trial 2 of four
+-- two buildpacks with two alternatives each, of which the second of one and the first of the other agree: trial 2 of
+-- four
 pub the_first_passing_trial :
     resolution (record { key = key 97; optional = false; options = option (112 ∷ []) [] ∷ option (113 ∷ []) [] ∷ [] } ∷
     record { key = key 98; optional = false; options = option [] (113 ∷ []) ∷ option [] (115 ∷ []) ∷ [] } ∷ [])
-    ≡ Passes record { trial = 2; trials = 4; kept = 0 ∷ 1 ∷ []; plan = record { name = name 113; providers = key 97 ∷ []; needs = need 113 ∷ [] } ∷ [] }
+    ≡ Passes record {
+      trial = 2;
+      trials = 4;
+      kept = 0 ∷ 1 ∷ [];
+      plan = record
+          { name = name 113; providers = key 97 ∷ []; needs = need 113 ∷ [] } ∷ [];
+    }
 unfolding resolution largest
 the_first_passing_trial = refl

@@ -20,7 +20,8 @@ is_required_by trial places name = list_any (λ place. has_need (required_at tri
 -- whether what a buildpack requires is provided before it, and what it provides is required behind it
 abbrev pub row_holds : List TrialRow → List ℕ → List ℕ → TrialRow → Bool
 row_holds trial before behind row =
-    list_all (λ need. is_provided_by trial (reverse before) need.name) row.needs && list_all (is_required_by trial behind) row.provides
+    list_all (λ need. is_provided_by trial (reverse before) need.name) row.needs
+    && list_all (is_required_by trial behind) row.provides
 
 -- whether a required place of a set does not hold
 abbrev pub fails : List TrialRow → List ℕ → ℕ → Bool

@@ -22,7 +22,11 @@ resolved_at rows number trial set = record {
 abbrev pub first_passing : List AliveRow → ℕ → List (List TrialRow) → Option Resolved
 first_passing rows number [] = None
 first_passing rows number (trial ∷ trials) =
-    elim (kept_of trial) [ Some set ↦ Some (resolved_at rows number trial set) | None ↦ first_passing rows (number + 1) trials ]
+    elim (kept_of trial) [
+      | Some set ↦ Some (resolved_at rows number trial set)
+      | None
+          ↦ first_passing rows (number + 1) trials
+    ]
 
 -- what a group's trials come to
 pub data Resolution : Type 0 where

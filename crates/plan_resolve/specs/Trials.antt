@@ -39,7 +39,8 @@ is_required trial set place name = list_any (λ other. nat_le place other && has
 -- each name that the buildpack requires is provided in time, and each that it provides is required in time
 abbrev pub holds : List TrialRow → List ℕ → ℕ → Bool
 holds trial set place =
-    list_all (λ need. is_provided trial set place need.name) (required_at trial place) && list_all (is_required trial set place) (provided_at trial place)
+    list_all (λ need. is_provided trial set place need.name) (required_at trial place)
+    && list_all (is_required trial set place) (provided_at trial place)
 
 -- a closed set: each of its buildpacks holds
 abbrev pub is_closed : List TrialRow → List ℕ → Bool
@@ -62,7 +63,8 @@ is_in place set = list_any (λ other. place == other) set
 
 -- the union of all closed sets, which is the largest one
 unfoldable pub largest : List TrialRow → List ℕ
-largest trial = filter (λ place. list_any (λ set. is_closed trial set && is_in place set) (subsets (places trial))) (places trial)
+largest trial = filter (λ place. list_any (λ set. is_closed trial set && is_in place set)
+    (subsets (places trial))) (places trial)
 
 abbrev pub is_optional_at : Option TrialRow → Bool
 is_optional_at (Some row) = row.optional
@@ -70,7 +72,8 @@ is_optional_at None = true
 
 -- a trial passes where something remains, and every required buildpack does
 abbrev pub is_passing : List TrialRow → List ℕ → Bool
-is_passing trial set = nat_lt 0 (length set) && list_all (λ place. is_optional_at (slice_get trial place) || is_in place set) (places trial)
+is_passing trial set = nat_lt 0 (length set) && list_all
+    (λ place. is_optional_at (slice_get trial place) || is_in place set) (places trial)
 
 abbrev pub kept_if : List TrialRow → List ℕ → Option (List ℕ)
 kept_if trial set = if is_passing trial set then Some set else None

@@ -54,7 +54,8 @@ is_row row = is_key row.key
 
 abbrev pub row_members : GroupRow → Members
 row_members row =
-    member (codes "api") (string row.api) (member (codes "id") (string row.key.id) (member (codes "version") (string row.key.version) no_members))
+    member (codes "api") (string row.api) (member (codes "id") (string row.key.id)
+    (member (codes "version") (string row.key.version) no_members))
 
 abbrev pub group_members : List GroupRow → Members
 group_members rows = member (codes "group") (list_data (table_data row_members) rows) no_members

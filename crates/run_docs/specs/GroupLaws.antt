@@ -14,18 +14,28 @@ use Rattle.cnb_toml.specs.WrittenLaws.{zero_within, name_read, list_dates, rows_
 use Rattle.run_docs.specs.declared.group.GroupRow.{GroupRow}
 use Rattle.run_docs.specs.Group.{row_id, is_listed, row_in, rows_in, is_group_doc, is_row, row_members, group_members}
 
-pub row_read : (before : List GroupRow) (row : GroupRow) → is_row row ≡ true → is_new bytes_eq row_id before row ≡ true → row_in before (row_members row) ≡ Ok row
+pub row_read : (before : List GroupRow) (row : GroupRow) → is_row row ≡ true
+    → is_new bytes_eq row_id before row ≡ true → row_in before (row_members row) ≡ Ok row
 row_read before row named new =
     let parts = and_parts (is_bp_id row.key.id) (is_bp_version row.key.version) named in
-    rw (name_read is_bp_id row.key.id parts.0, not-true (is_listed before row.key.id) new, name_read is_bp_version row.key.version parts.1)
+    rw (
+      name_read is_bp_id row.key.id parts.0,
+      not-true (is_listed before row.key.id) new,
+      name_read is_bp_version
+          row.key.version parts.1,
+    )
 
-pub group_read : (rows : List GroupRow) → list_all is_row rows ≡ true → is_group_doc rows ≡ true → rows_in (group_members rows) ≡ Ok rows
+pub group_read : (rows : List GroupRow) → list_all is_row rows ≡ true → is_group_doc rows ≡ true
+    → rows_in (group_members rows) ≡ Ok rows
 group_read rows named sound =
-    rw (rows_read row_members row_in is_row (is_new bytes_eq row_id) row_read rows named (distinct_follow bytes_eq row_id bytes_eq-symmetric rows sound))
+    rw (rows_read row_members row_in is_row (is_new bytes_eq row_id) row_read rows named
+    (distinct_follow bytes_eq row_id bytes_eq-symmetric rows sound))
 
 pub group_dates : (rows : List GroupRow) → members_have_valid_dates (group_members rows) ≡ true
 group_dates rows = and_from _ _ (list_dates (table_data row_members) (λ row. refl) rows) refl
 
 pub group_within : (rows : List GroupRow) → is_group_doc rows ≡ true → members_depth (group_members rows) ≤ 2
 group_within rows sound =
-    max-le (rows_within row_members row_in is_row (is_new bytes_eq row_id) 0 (λ before row new. zero_within 0) rows (distinct_follow bytes_eq row_id bytes_eq-symmetric rows sound)) (zero_within 2)
+    max-le (rows_within row_members row_in is_row (is_new bytes_eq row_id) 0
+    (λ before row new. zero_within 0) rows (distinct_follow bytes_eq row_id bytes_eq-symmetric rows sound))
+    (zero_within 2)

@@ -39,5 +39,6 @@ slice_members paths = member (codes "paths") (list_data string paths) no_members
 
 abbrev pub launch_members : LaunchToml → Members
 launch_members launch =
-    member (codes "labels") (list_data (table_data label_members) launch.labels) (member (codes "processes") (list_data (table_data process_members) launch.processes)
+    member (codes "labels") (list_data (table_data label_members) launch.labels)
+    (member (codes "processes") (list_data (table_data process_members) launch.processes)
     (member (codes "slices") (list_data (table_data slice_members) launch.slices) no_members))

@@ -37,10 +37,12 @@ is_layer_doc layer = is_kept layer.meta
 
 -- what is written of it
 abbrev pub types_members : LayerTypes → Members
-types_members types = member (codes "build") (boolean types.build) (member (codes "cache") (boolean types.cache) (member (codes "launch") (boolean types.launch) no_members))
+types_members types = member (codes "build") (boolean types.build)
+    (member (codes "cache") (boolean types.cache) (member (codes "launch") (boolean types.launch) no_members))
 
 abbrev pub types_of : LayerDoc → LayerTypes
 types_of layer = record { launch = layer.launch; build = layer.build; cache = layer.cache }
 
 abbrev pub layer_members : LayerDoc → Members
-layer_members layer = member (codes "metadata") (metadata_data layer.meta) (member (codes "types") (table_data types_members (types_of layer)) no_members)
+layer_members layer = member (codes "metadata") (metadata_data layer.meta)
+    (member (codes "types") (table_data types_members (types_of layer)) no_members)

@@ -10,7 +10,8 @@ use Rattle.cnb_toml.proofs.RoundTrip.{kept_read}
 use Rattle.run_docs.specs.declared.layer.LayerDoc.{LayerDoc}
 use Rattle.run_docs.specs.Layer.{table_in, is_layer_doc, layer_members}
 
-pub layer_read : (layer : LayerDoc) → true ≡ true → is_layer_doc layer ≡ true → table_in (layer_members layer) ≡ Ok layer
+pub layer_read : (layer : LayerDoc) → true ≡ true → is_layer_doc layer ≡ true
+    → table_in (layer_members layer) ≡ Ok layer
 layer_read layer typed sound = rw (kept_read layer.meta sound (codes "metadata"))
 
 pub layer_dates : (layer : LayerDoc) → members_have_valid_dates (layer_members layer) ≡ true

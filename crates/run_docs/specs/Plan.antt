@@ -75,7 +75,8 @@ has_key_providers entry = list_all is_key entry.providers
 -- what is written of it
 abbrev pub entry_members : PlanEntry → Members
 entry_members entry =
-    member (codes "providers") (list_data (table_data key_members) entry.providers) (member (codes "requires") (list_data (table_data need_members) entry.needs) no_members)
+    member (codes "providers") (list_data (table_data key_members) entry.providers)
+    (member (codes "requires") (list_data (table_data need_members) entry.needs) no_members)
 
 abbrev pub plan_members : List PlanEntry → Members
 plan_members entries = member (codes "entries") (list_data (table_data entry_members) entries) no_members

@@ -10,7 +10,8 @@ use Rattle.cnb_toml.proofs.RoundTrip.{kept_read}
 use Rattle.run_docs.specs.declared.store.StoreToml.{StoreToml}
 use Rattle.run_docs.specs.Store.{table_in, is_store_toml, store_members}
 
-pub store_read : (store : StoreToml) → true ≡ true → is_store_toml store ≡ true → table_in (store_members store) ≡ Ok store
+pub store_read : (store : StoreToml) → true ≡ true → is_store_toml store ≡ true
+    → table_in (store_members store) ≡ Ok store
 store_read store typed sound = rw (kept_read store.meta sound (codes "metadata"))
 
 pub store_dates : (store : StoreToml) → members_have_valid_dates (store_members store) ≡ true

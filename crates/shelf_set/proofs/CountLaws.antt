@@ -23,7 +23,8 @@ beside_rest R rests = record {
   decided = λ s. rests.decided s.world;
 }
 
-pub obeys_in_world : {E A : Type 0} (R : Relation Seen) (cause_of : E → Cause) (step : Seen → Result A E → Seen → Type 0)
+pub obeys_in_world : {E A : Type 0} (R : Relation Seen) (cause_of : E → Cause)
+    (step : Seen → Result A E → Seen → Type 0)
     → Obeys R cause_of step → Obeys (BesideCaches R) cause_of (in_world step)
 unfolding in_world
 obeys_in_world R cause_of step p old new result h = p old.world new.world result h.0
@@ -50,12 +51,14 @@ unfolding gathers
 gathers_ends cause_of old new (Ok gathered) h = tt
 gathers_ends cause_of old new (Err fault) h = memory_end (cause_of fault) h.0
 
-pub finds_ends : {E : Type 0} (cause_of : E → Cause) (digest : List ℕ) → Obeys WantsMemory cause_of (finds cause_of digest)
+pub finds_ends : {E : Type 0} (cause_of : E → Cause) (digest : List ℕ)
+    → Obeys WantsMemory cause_of (finds cause_of digest)
 unfolding finds
 finds_ends cause_of digest old new (Ok search) h = tt
 finds_ends cause_of digest old new (Err fault) h = memory_end (cause_of fault) h.0
 
-pub stores_rows_ends : {E : Type 0} (cause_of : E → Cause) (readable : Bool) (rows : List LayerRow) (trees : List Node) → Obeys WantsMemory cause_of (stores_rows cause_of readable rows trees)
+pub stores_rows_ends : {E : Type 0} (cause_of : E → Cause) (readable : Bool) (rows : List LayerRow)
+    (trees : List Node) → Obeys WantsMemory cause_of (stores_rows cause_of readable rows trees)
 unfolding stores_rows
 stores_rows_ends cause_of readable rows trees old new (Ok gone) h = tt
 stores_rows_ends cause_of readable rows trees old new (Err fault) h = memory_end (cause_of fault) h.0
@@ -68,9 +71,11 @@ memory_rests R rests (Some OutOfMemory) s h = rests.memory s
 memory_rests R rests (Some Decided) s h = absurd h
 
 -- steps over caches leave the world alone
-pub obeys_in_caches : {E A : Type 0} (R : Relation Seen) (cause_of : E → Cause) (step : Caches → Result A E → Caches → Type 0)
+pub obeys_in_caches : {E A : Type 0} (R : Relation Seen) (cause_of : E → Cause)
+    (step : Caches → Result A E → Caches → Type 0)
     → Rests R → Obeys WantsMemory cause_of step → Obeys (BesideCaches R) cause_of (in_caches step)
 unfolding in_caches
 obeys_in_caches R cause_of step rests p old new (Ok value) h = subst (R None old.world) (sym h.1) (rests.none old.world)
 obeys_in_caches R cause_of step rests p old new (Err fault) h =
-    subst (R (Some (cause_of fault)) old.world) (sym h.1) (memory_rests R rests (Some (cause_of fault)) old.world (p old.caches new.caches (Err fault) h.0))
+    subst (R (Some (cause_of fault)) old.world) (sym h.1)
+    (memory_rests R rests (Some (cause_of fault)) old.world (p old.caches new.caches (Err fault) h.0))

@@ -13,19 +13,27 @@ count_split : (turns : List Turn) → length (failed_of turns) + length (left_of
 count_split [] = refl
 count_split (t ∷ ts) = by (has_failed t) (count_split ts)
   where
-    by : (b : Bool) → length (failed_of ts) + length (left_of ts) ≡ length ts → length (cond b (t ∷ failed_of ts) (failed_of ts)) + length (cond (not b) (t ∷ left_of ts) (left_of ts)) ≡ length (t ∷ ts)
+    by : (b : Bool) → length (failed_of ts) + length (left_of ts) ≡ length ts
+        → length (cond b (t ∷ failed_of ts) (failed_of ts)) + length (cond (not b) (t ∷ left_of ts) (left_of ts))
+        ≡ length (t ∷ ts)
     by true h = omega (arith, h)
     by false h = omega (arith, h)
 
-pub dropped_count : (turns : List Turn) (old new : List ShelfState) (places standing gone : List ℕ) → Drops turns old new places standing gone → length gone + length standing ≡ length places
+pub dropped_count : (turns : List Turn) (old new : List ShelfState) (places standing gone : List ℕ)
+    → Drops turns old new places standing gone → length gone + length standing ≡ length places
 dropped_count turns old new places standing gone d =
     let all : length places ≡ length turns = ap length d.numbers ∙ length-map turns number_of in
     let left : length standing ≡ length (left_of turns) = ap length d.left ∙ length-map (left_of turns) number_of in
-    let dropped : length gone ≡ length (failed_of turns) = ap length d.dropped ∙ length-map (failed_of turns) number_of in
+    let dropped : length gone ≡ length (failed_of turns) = ap length d.dropped
+    ∙ length-map (failed_of turns) number_of in
     omega (arith, count_split turns, all, left, dropped)
 
-pub finds_count : (old : List ShelfState) (places digest : List ℕ) (answer : Found) (new : List ShelfState) (standing gone : List ℕ) → Finds old places digest answer new standing gone → length gone + length standing ≡ length places
+pub finds_count : (old : List ShelfState) (places digest : List ℕ) (answer : Found) (new : List ShelfState)
+    (standing gone : List ℕ) → Finds old places digest answer new standing gone
+    → length gone + length standing ≡ length places
 finds_count old places digest answer new standing gone f = dropped_count f.turns old new places standing gone f.drops
 
-pub gathers_count : (old : List ShelfState) (places : List ℕ) (answer : Gathered) (new : List ShelfState) (standing : List ℕ) → Gathers old places answer new standing → length answer.gone + length standing ≡ length places
+pub gathers_count : (old : List ShelfState) (places : List ℕ) (answer : Gathered) (new : List ShelfState)
+    (standing : List ℕ) → Gathers old places answer new standing
+    → length answer.gone + length standing ≡ length places
 gathers_count old places answer new standing g = dropped_count g.turns old new places standing answer.gone g.drops

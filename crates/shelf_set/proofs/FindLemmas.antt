@@ -8,17 +8,34 @@ use Rattle.shelf_set.specs.Finding.{Finds, LeavesSearched, IsFound}
 use Rattle.shelf_set.specs.declared.finding.Found.{Found}
 use Rattle.shelf_set.proofs.TurnLemmas.{standing_again}
 
-pub finds : (old : List ShelfState) (places digest : List ℕ) (found : Result (Option (List ℕ)) Memory) (held : Option (List ℕ)) (answer : Found) (new : List ShelfState) (numbers standing gone : List ℕ) (n : ℕ) → Searches old places digest found new numbers n
-    → found ≡ Ok held → standing ≡ take n numbers → gone ≡ drop n numbers → IsFound digest held answer → Finds old places digest answer new standing gone
+pub finds : (old : List ShelfState) (places digest : List ℕ) (found : Result (Option (List ℕ)) Memory)
+    (held : Option (List ℕ)) (answer : Found) (new : List ShelfState) (numbers standing gone : List ℕ) (n : ℕ)
+    → Searches old places digest found new numbers n
+    → found ≡ Ok held → standing ≡ take n numbers → gone ≡ drop n numbers → IsFound digest held answer
+    → Finds old places digest answer new standing gone
 finds old places digest found held answer new numbers standing gone n s is left dropped f =
-    let t : Searches old places digest (Ok held) new numbers n = subst (λ r. Searches old places digest r new numbers n) is s in
-    let d : Drops t.turns old new places standing gone = subst (λ x. Drops t.turns old new places x gone) (sym left) (subst (λ x. Drops t.turns old new places (take n numbers) x) (sym dropped) t.drops) in
+    let t : Searches old places digest (Ok held) new numbers n = subst
+    (λ r. Searches old places digest r new numbers n) is s in
+    let d : Drops t.turns old new places standing gone = subst (λ x. Drops t.turns old new places x gone)
+    (sym left) (subst (λ x. Drops t.turns old new places (take n numbers) x) (sym dropped) t.drops) in
     record { turns = t.turns; drops = d; same = t.same; held = held; first = t.first; found = f; unasked = t.unasked }
 
-pub leaves : (old : List ShelfState) (places digest : List ℕ) (found : Result (Option (List ℕ)) Memory) (new : List ShelfState) (numbers standing : List ℕ) (n : ℕ) → Searches old places digest found new numbers n → standing ≡ take n numbers → LeavesSearched old places digest new standing
-leaves old places digest found new numbers standing n s left = record { turns = s.turns; gone = drop n numbers; drops = subst (λ x. Drops s.turns old new places x (drop n numbers)) (sym left) s.drops; same = s.same; unasked = s.unasked }
+pub leaves : (old : List ShelfState) (places digest : List ℕ) (found : Result (Option (List ℕ)) Memory)
+    (new : List ShelfState) (numbers standing : List ℕ) (n : ℕ) → Searches old places digest found new numbers n
+    → standing ≡ take n numbers → LeavesSearched old places digest new standing
+leaves old places digest found new numbers standing n s left = record {
+  turns = s.turns;
+  gone = drop n numbers;
+  drops = subst (λ x. Drops s.turns old new places x (drop n numbers))
+      (sym left) s.drops;
+  same = s.same;
+  unasked = s.unasked;
+}
 
-pub again : (old : List ShelfState) (given digest : List ℕ) (found : Result (Option (List ℕ)) Memory) (new : List ShelfState) (numbers standing : List ℕ) (n : ℕ) → Searches old given digest found new numbers n → standing ≡ take n numbers → AreStanding standing new
+pub again : (old : List ShelfState) (given digest : List ℕ) (found : Result (Option (List ℕ)) Memory)
+    (new : List ShelfState) (numbers standing : List ℕ) (n : ℕ) → Searches old given digest found new numbers n
+    → standing ≡ take n numbers → AreStanding standing new
 again old given digest found new numbers standing n s left =
-    let d : Drops s.turns old new given standing (drop n numbers) = subst (λ x. Drops s.turns old new given x (drop n numbers)) (sym left) s.drops in
+    let d : Drops s.turns old new given standing (drop n numbers) = subst
+    (λ x. Drops s.turns old new given x (drop n numbers)) (sym left) s.drops in
     standing_again s.turns old new given standing (drop n numbers) d

@@ -5,15 +5,20 @@ use Rattle.std.proofs.Math.Seq.{set-append_seam}
 use Rattle.std.specs.List.{AllByRecursion}
 use Rattle.shelf_set.specs.Turns.{MovesLast, Replaces}
 
-pub split_at : {X : Type 0} (xs : List X) (i : ℕ) (x : X) → i < length xs → x ≡ get_or xs i x → xs ≡ take i xs ++ x ∷ drop (suc i) xs
-split_at xs i x lt is = sym (take-append-drop i xs) ∙ ap (λ r. take i xs ++ r) (drop-cons xs i x lt ∙ ap (λ y. y ∷ drop (suc i) xs) (sym is))
+pub split_at : {X : Type 0} (xs : List X) (i : ℕ) (x : X) → i < length xs → x ≡ get_or xs i x
+    → xs ≡ take i xs ++ x ∷ drop (suc i) xs
+split_at xs i x lt is = sym (take-append-drop i xs) ∙ ap (λ r. take i xs ++ r)
+    (drop-cons xs i x lt ∙ ap (λ y. y ∷ drop (suc i) xs) (sym is))
 
-set_split : {X : Type 0} (xs : List X) (i : ℕ) (x y : X) → i < length xs → x ≡ get_or xs i x → set xs i y ≡ take i xs ++ y ∷ drop (suc i) xs
+set_split : {X : Type 0} (xs : List X) (i : ℕ) (x y : X) → i < length xs → x ≡ get_or xs i x
+    → set xs i y ≡ take i xs ++ y ∷ drop (suc i) xs
 set_split xs i x y lt is =
     let len : length (take i xs) ≡ i = length-take-le i xs (omega arith) in
-    ap (λ l. set l i y) (split_at xs i x lt is) ∙ ap (λ k. set (take i xs ++ x ∷ drop (suc i) xs) k y) (sym len) ∙ set-append_seam (take i xs) x (drop (suc i) xs) y
+    ap (λ l. set l i y) (split_at xs i x lt is) ∙ ap (λ k. set (take i xs ++ x ∷ drop (suc i) xs) k y) (sym len)
+    ∙ set-append_seam (take i xs) x (drop (suc i) xs) y
 
-pub replaced : {X Y : Type 0} (f : X → Y) (xs : List X) (i : ℕ) (x y : X) → i < length xs → x ≡ get_or xs i x → Replaces (map f xs) i (f x) (f y) (map f (set xs i y))
+pub replaced : {X Y : Type 0} (f : X → Y) (xs : List X) (i : ℕ) (x y : X) → i < length xs → x ≡ get_or xs i x
+    → Replaces (map f xs) i (f x) (f y) (map f (set xs i y))
 replaced f xs i x y lt is = record {
   front = map f (take i xs);
   back = map f (drop (suc i) xs);
@@ -28,7 +33,8 @@ pub record SameSplit {X : Type 0} (a b : List X) (x y : X) (c d : List X) : Type
   pub item : x ≡ y
   pub back : c ≡ d
 
-pub same_split : {X : Type 0} (a b : List X) (x y : X) (c d : List X) → a ++ x ∷ c ≡ b ++ y ∷ d → length a ≡ length b → SameSplit a b x y c d
+pub same_split : {X : Type 0} (a b : List X) (x y : X) (c d : List X) → a ++ x ∷ c ≡ b ++ y ∷ d
+    → length a ≡ length b → SameSplit a b x y c d
 same_split [] [] x y c d e h = record { front = refl; item = cc; back = cc }
 same_split [] (z ∷ b) x y c d e h = absurd (omega (arith, h))
 same_split (z ∷ a) [] x y c d e h = absurd (omega (arith, h))
@@ -38,12 +44,15 @@ same_split (z ∷ a) (w ∷ b) x y c d e h =
     record { front = ap (λ q. q ∷ a) same ∙ ap (λ r. w ∷ r) s.front; item = s.item; back = s.back }
 
 -- where an item was moved to the end
-pub moved : {X : Type 0} (l : List X) (at : ℕ) (new A : List X) (x : X) (B : List X) → MovesLast l at new → l ≡ A ++ x ∷ B → at ≡ length A → new ≡ A ++ (B ++ x ∷ [])
+pub moved : {X : Type 0} (l : List X) (at : ℕ) (new A : List X) (x : X) (B : List X) → MovesLast l at new
+    → l ≡ A ++ x ∷ B → at ≡ length A → new ≡ A ++ (B ++ x ∷ [])
 moved l at new A x B m is place =
     let s = same_split m.front A m.item x m.back B (sym m.entry ∙ is) (sym m.place ∙ place) in
-    m.exit ∙ ap (λ f. f ++ (m.back ++ m.item ∷ [])) s.front ∙ ap (λ b. A ++ (b ++ m.item ∷ [])) s.back ∙ ap (λ y. A ++ (B ++ y ∷ [])) s.item
+    m.exit ∙ ap (λ f. f ++ (m.back ++ m.item ∷ [])) s.front ∙ ap (λ b. A ++ (b ++ m.item ∷ [])) s.back
+    ∙ ap (λ y. A ++ (B ++ y ∷ [])) s.item
 
-pub regroup3 : {X : Type 0} (A R E F : List X) (x : X) → A ++ (R ++ (E ++ (F ++ x ∷ []))) ≡ A ++ ((R ++ (E ++ F)) ++ x ∷ [])
+pub regroup3 : {X : Type 0} (A R E F : List X) (x : X) → A ++ (R ++ (E ++ (F ++ x ∷ []))) ≡ A
+    ++ ((R ++ (E ++ F)) ++ x ∷ [])
 regroup3 A R E F x = simp append_assoc
 
 pub regroup2 : {X : Type 0} (A R F : List X) (x : X) → A ++ (R ++ (F ++ x ∷ [])) ≡ A ++ ((R ++ F) ++ x ∷ [])
@@ -55,6 +64,7 @@ map-last f xs x = map-append f xs (x ∷ [])
 pub onto : {X : Type 0} (xs : List X) (x : X) (ys : List X) → (xs ++ x ∷ []) ++ ys ≡ xs ++ x ∷ ys
 onto xs x ys = append_assoc xs (x ∷ []) ys
 
-pub all_both : {X : Type 0} (P : X → Type 0) (xs ys : List X) → AllByRecursion P xs → AllByRecursion P ys → AllByRecursion P (xs ++ ys)
+pub all_both : {X : Type 0} (P : X → Type 0) (xs ys : List X) → AllByRecursion P xs → AllByRecursion P ys
+    → AllByRecursion P (xs ++ ys)
 all_both P [] ys a b = b
 all_both P (x ∷ xs) ys a b = (a.0, all_both P xs ys a.1 b)

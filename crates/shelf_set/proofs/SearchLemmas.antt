@@ -20,21 +20,28 @@ first_none : (ss : List ShelfState) (digest : List ℕ) → AllByRecursion (Lack
 first_none [] digest all = refl
 first_none (s ∷ ss) digest all = by s.held all.0 (first_none ss digest all.1)
   where
-    by : (o : Option Held) → IfSome o (λ h. get h digest ≡ None) → IsFirst ss digest None → IfSome o (λ h. holds_first digest (get h digest) (IsFirst ss digest None) None)
+    by : (o : Option Held) → IfSome o (λ h. get h digest ≡ None) → IsFirst ss digest None
+        → IfSome o (λ h. holds_first digest (get h digest) (IsFirst ss digest None) None)
     by None l later = tt
     by (Some h) l later = subst (λ f. holds_first digest f (IsFirst ss digest None) None) (sym l) later
 
-first_some : (ss : List ShelfState) (s : ShelfState) (rest : List ShelfState) (digest bytes : List ℕ) → AllByRecursion (Lacks digest) ss → IfSome s.held (λ h. get h digest ≡ Some bytes) → IsFirst (ss ++ s ∷ rest) digest (Some bytes)
+first_some : (ss : List ShelfState) (s : ShelfState) (rest : List ShelfState) (digest bytes : List ℕ)
+    → AllByRecursion (Lacks digest) ss → IfSome s.held (λ h. get h digest ≡ Some bytes)
+    → IsFirst (ss ++ s ∷ rest) digest (Some bytes)
 first_some [] s rest digest bytes all is = by s.held is
   where
-    by : (o : Option Held) → IfSome o (λ h. get h digest ≡ Some bytes) → IfSome o (λ h. holds_first digest (get h digest) (IsFirst rest digest (Some bytes)) (Some bytes))
+    by : (o : Option Held) → IfSome o (λ h. get h digest ≡ Some bytes)
+        → IfSome o (λ h. holds_first digest (get h digest) (IsFirst rest digest (Some bytes)) (Some bytes))
     by None l = tt
     by (Some h) l = subst (λ f. holds_first digest f (IsFirst rest digest (Some bytes)) (Some bytes)) (sym l) refl
 first_some (x ∷ ss) s rest digest bytes all is = by x.held all.0 (first_some ss s rest digest bytes all.1 is)
   where
-    by : (o : Option Held) → IfSome o (λ h. get h digest ≡ None) → IsFirst (ss ++ s ∷ rest) digest (Some bytes) → IfSome o (λ h. holds_first digest (get h digest) (IsFirst (ss ++ s ∷ rest) digest (Some bytes)) (Some bytes))
+    by : (o : Option Held) → IfSome o (λ h. get h digest ≡ None) → IsFirst (ss ++ s ∷ rest) digest (Some bytes)
+        → IfSome o (λ h. holds_first digest (get h digest) (IsFirst (ss ++ s ∷ rest) digest (Some bytes))
+        (Some bytes))
     by None l later = tt
-    by (Some h) l later = subst (λ f. holds_first digest f (IsFirst (ss ++ s ∷ rest) digest (Some bytes)) (Some bytes)) (sym l) later
+    by (Some h) l later = subst (λ f. holds_first digest f (IsFirst (ss ++ s ∷ rest) digest (Some bytes))
+        (Some bytes)) (sym l) later
 
 -- ---- none is asked behind one that holds the digest
 
@@ -42,23 +49,29 @@ first_some (x ∷ ss) s rest digest bytes all is = by x.held all.0 (first_some s
 abbrev IsPassed : List ℕ → Turn → Type 0
 IsPassed digest t = t.failed ≡ false → tells_of digest t.before.held ≡ true → ⊥
 
-passed : (digest : List ℕ) (turns : List Turn) → AllByRecursion TellsSame turns → AllByRecursion (Lacks digest) (map after_of (left_of turns)) → AllByRecursion (IsPassed digest) turns
+passed : (digest : List ℕ) (turns : List Turn) → AllByRecursion TellsSame turns
+    → AllByRecursion (Lacks digest) (map after_of (left_of turns)) → AllByRecursion (IsPassed digest) turns
 passed digest [] same lacks = tt
 passed digest (t ∷ ts) same lacks = by (has_failed t) refl (passed digest ts same.1) lacks
   where
     lacking : (b a : Option Held) → a ≡ b → IfSome a (λ h. get h digest ≡ None) → tells_of digest b ≡ true → ⊥
     lacking None a e l h = cc
     lacking (Some g) None e l h = cc
-    lacking (Some g) (Some k) e l h = let same : k ≡ g = cc in let no : false ≡ true = sym (ap is_some (sym (ap (λ x. get x digest) same) ∙ l)) ∙ h in cc
+    lacking (Some g) (Some k) e l h = let same : k ≡ g = cc
+        in let no : false ≡ true = sym (ap is_some (sym (ap (λ x. get x digest) same) ∙ l)) ∙ h in cc
 
-    by : (v : Bool) → has_failed t ≡ v → (AllByRecursion (Lacks digest) (map after_of (left_of ts)) → AllByRecursion (IsPassed digest) ts)
-        → AllByRecursion (Lacks digest) (map after_of (cond (not v) (t ∷ left_of ts) (left_of ts))) → AllByRecursion (IsPassed digest) (t ∷ ts)
+    by : (v : Bool) → has_failed t ≡ v → (AllByRecursion (Lacks digest) (map after_of (left_of ts))
+        → AllByRecursion (IsPassed digest) ts)
+        → AllByRecursion (Lacks digest) (map after_of (cond (not v) (t ∷ left_of ts) (left_of ts)))
+        → AllByRecursion (IsPassed digest) (t ∷ ts)
     by true e rest l = ((λ stays tells. let no : true ≡ false = sym e ∙ stays in cc), rest l)
     by false e rest l = ((λ stays tells. lacking t.before.held t.after.held same.0.0 l.0 tells), rest l.1)
 
-behind_passed : (digest : List ℕ) (turns rest : List Turn) → AllByRecursion (IsPassed digest) turns → NoneBehind digest rest → NoneBehind digest (turns ++ rest)
+behind_passed : (digest : List ℕ) (turns rest : List Turn) → AllByRecursion (IsPassed digest) turns
+    → NoneBehind digest rest → NoneBehind digest (turns ++ rest)
 behind_passed digest [] rest all none = none
-behind_passed digest (t ∷ ts) rest all none = ((λ stays tells. absurd (all.0 stays tells)), behind_passed digest ts rest all.1 none)
+behind_passed digest (t ∷ ts) rest all none =
+    ((λ stays tells. absurd (all.0 stays tells)), behind_passed digest ts rest all.1 none)
 
 unasked_still : (rest : List ShelfState) (later : List ℕ) → AllByRecursion IsUnasked (still rest later)
 unasked_still rest later = all_still IsUnasked (λ n s. (refl, refl)) rest later
@@ -69,29 +82,38 @@ behind_still digest (s ∷ ss) [] = tt
 behind_still digest (s ∷ ss) (n ∷ ns) = ((λ stays tells. unasked_still ss ns), behind_still digest ss ns)
 
 -- the turns so far, the last one asked, and the others
-behind_last : (digest : List ℕ) (turns : List Turn) (t : Turn) (rest : List ShelfState) (later : List ℕ) → AllByRecursion (IsPassed digest) turns → NoneBehind digest ((turns ++ t ∷ []) ++ still rest later)
+behind_last : (digest : List ℕ) (turns : List Turn) (t : Turn) (rest : List ShelfState) (later : List ℕ)
+    → AllByRecursion (IsPassed digest) turns → NoneBehind digest ((turns ++ t ∷ []) ++ still rest later)
 behind_last digest turns t rest later all =
-    subst (NoneBehind digest) (sym (onto turns t (still rest later))) (behind_passed digest turns (t ∷ still rest later) all ((λ stays tells. unasked_still rest later), behind_still digest rest later))
+    subst (NoneBehind digest) (sym (onto turns t (still rest later)))
+    (behind_passed digest turns (t ∷ still rest later) all
+    ((λ stays tells. unasked_still rest later), behind_still digest rest later))
 
 -- ---- the search
 
-pub begin : (old : List ShelfState) (places digest : List ℕ) → length places ≤ length old → Searching old old places places digest 0 0
+pub begin : (old : List ShelfState) (places digest : List ℕ) → length places ≤ length old
+    → Searching old old places places digest 0 0
 begin old places digest h = record { turns = []; goes = none_yet old places h; same = tt; lacks = tt; count = refl }
 
 same_still : (rest : List ShelfState) (later : List ℕ) → AllByRecursion TellsSame (still rest later)
 same_still rest later = all_still TellsSame (λ n s. (refl, refl)) rest later
 
-module _ (old now new : List ShelfState) (places numbers later digest : List ℕ) (at asked next : ℕ) (lt : asked < length places) (s : Searching old now places numbers digest at asked) where
+module _ (old now new : List ShelfState) (places numbers later digest : List ℕ) (at asked next : ℕ)
+    (lt : asked < length places) (s : Searching old now places numbers digest at asked) where
   -- the next shelf gives this answer
   abbrev Answers : Result (Option (List ℕ)) ShelfFault → Type 0
   Answers result = TakesTurn now numbers at (Asks digest result) (is_failed result) new later next
 
-  next_turn : (result : Result (Option (List ℕ)) ShelfFault) → Answers result → OneMore s.turns old new places later next (Asks digest result) (is_failed result)
+  next_turn : (result : Result (Option (List ℕ)) ShelfFault) → Answers result
+      → OneMore s.turns old new places later next (Asks digest result) (is_failed result)
   next_turn result k =
-      one_more s.turns old now places numbers at (Asks digest result) (is_failed result) new later next (subst (λ n. n < length places) (sym s.count) lt)
+      one_more s.turns old now places numbers at (Asks digest result) (is_failed result) new later next
+      (subst (λ n. n < length places) (sym s.count) lt)
       (λ b a asks. counted result b.faults a.faults asks.faults) s.goes k
 
-  same_more : (result : Result (Option (List ℕ)) ShelfFault) → (m : OneMore s.turns old new places later next (Asks digest result) (is_failed result)) → AllByRecursion TellsSame (s.turns ++ m.turn ∷ [])
+  same_more : (result : Result (Option (List ℕ)) ShelfFault)
+      → (m : OneMore s.turns old new places later next (Asks digest result) (is_failed result))
+      → AllByRecursion TellsSame (s.turns ++ m.turn ∷ [])
   same_more result m = all_both TellsSame s.turns (m.turn ∷ []) s.same ((m.does.held, m.does.rows), tt)
 
   count_more : (t : Turn) → length (s.turns ++ t ∷ []) ≡ asked + 1
@@ -107,11 +129,14 @@ module _ (old now new : List ShelfState) (places numbers later digest : List ℕ
         turns = s.turns ++ m.turn ∷ [];
         goes = m.goes;
         same = same_more (Ok None) m;
-        lacks = subst (λ l. AllByRecursion (Lacks digest) l) (sym (ap (map after_of) e ∙ map-last after_of (left_of s.turns) m.turn)) (all_both (Lacks digest) (map after_of (left_of s.turns)) (m.turn.after ∷ []) s.lacks (lack, tt));
+        lacks = subst (λ l. AllByRecursion (Lacks digest) l)
+            (sym (ap (map after_of) e ∙ map-last after_of (left_of s.turns) m.turn))
+            (all_both (Lacks digest) (map after_of (left_of s.turns)) (m.turn.after ∷ []) s.lacks (lack, tt));
         count = count_more m.turn;
       }
     where
-      lacks_after : (o p : Option Held) → p ≡ o → IfSome o (λ h. None ≡ get h digest) → IfSome p (λ h. get h digest ≡ None)
+      lacks_after : (o p : Option Held) → p ≡ o → IfSome o (λ h. None ≡ get h digest)
+          → IfSome p (λ h. get h digest ≡ None)
       lacks_after o None e told = tt
       lacks_after None (Some h) e told = absurd (cc)
       lacks_after (Some g) (Some h) e told = let same : g ≡ h = cc in sym (told ∙ ap (λ x. get x digest) same)
@@ -124,7 +149,8 @@ module _ (old now new : List ShelfState) (places numbers later digest : List ℕ
         turns = s.turns ++ m.turn ∷ [];
         goes = m.goes;
         same = same_more (Err shelf.Failed) m;
-        lacks = subst (λ l. AllByRecursion (Lacks digest) (map after_of l)) (sym (left-dropped s.turns m.turn m.failing)) s.lacks;
+        lacks = subst (λ l. AllByRecursion (Lacks digest) (map after_of l))
+            (sym (left-dropped s.turns m.turn m.failing)) s.lacks;
         count = count_more m.turn;
       }
 
@@ -132,7 +158,8 @@ module _ (old now new : List ShelfState) (places numbers later digest : List ℕ
   total_then : next + (length places - asked - 1) + (asked + 1) ≡ next + length places
   total_then = omega (arith, lt)
 
-  pub out_of_memory : (e : Memory) → Answers (Err shelf.Memory) → Searches old places digest (Err e) new later (next + (length places - asked - 1))
+  pub out_of_memory : (e : Memory) → Answers (Err shelf.Memory)
+      → Searches old places digest (Err e) new later (next + (length places - asked - 1))
   out_of_memory e k =
       let m = next_turn (Err shelf.Memory) k in
       let g = m.goes in
@@ -141,50 +168,71 @@ module _ (old now new : List ShelfState) (places numbers later digest : List ℕ
       record {
         turns = turns ++ still g.rest g.later;
         drops = finish turns old new places later next _ g end.stands;
-        same = all_both TellsSame turns (still g.rest g.later) (same_more (Err shelf.Memory) m) (same_still g.rest g.later);
+        same = all_both TellsSame turns (still g.rest g.later) (same_more (Err shelf.Memory) m)
+            (same_still g.rest g.later);
         first = tt;
         unasked = behind_last digest s.turns m.turn g.rest g.later (passed digest s.turns s.same s.lacks);
         fits = end.fits;
       }
 
-  pub holding : (bytes : List ℕ) → Answers (Ok (Some bytes)) → Searches old places digest (Ok (Some bytes)) new later (next + (length places - asked - 1))
+  pub holding : (bytes : List ℕ) → Answers (Ok (Some bytes))
+      → Searches old places digest (Ok (Some bytes)) new later (next + (length places - asked - 1))
   holding bytes k =
       let m = next_turn (Ok (Some bytes)) k in
       let g = m.goes in
       let turns : List Turn = s.turns ++ m.turn ∷ [] in
       let end = ends_at turns old new places later next (asked + 1) _ g (count_more m.turn) total_then in
       let A : List ShelfState = map after_of (left_of s.turns) in
-      let told : IfSome m.turn.after.held (λ h. get h digest ≡ Some bytes) = held_after bytes m.turn.before.held m.turn.after.held m.does.held m.does.told in
-      let list : map after_of (left_of (turns ++ still g.rest g.later)) ≡ A ++ m.turn.after ∷ g.rest = left_tell turns g.rest g.later g.paired ∙ ap (λ l. map after_of l ++ g.rest) (left-kept s.turns m.turn m.failing) ∙ ap (λ l. l ++ g.rest) (map-last after_of (left_of s.turns) m.turn) ∙ onto A m.turn.after g.rest in
+      let told : IfSome m.turn.after.held (λ h. get h digest ≡ Some bytes) = held_after bytes m.turn.before.held
+      m.turn.after.held m.does.held m.does.told in
+      let list : map after_of (left_of (turns ++ still g.rest g.later)) ≡ A ++ m.turn.after
+      ∷ g.rest = left_tell turns g.rest g.later g.paired ∙ ap (λ l. map after_of l ++ g.rest)
+      (left-kept s.turns m.turn m.failing) ∙ ap (λ l. l ++ g.rest)
+      (map-last after_of (left_of s.turns) m.turn) ∙ onto A m.turn.after g.rest in
       record {
         turns = turns ++ still g.rest g.later;
         drops = finish turns old new places later next _ g end.stands;
-        same = all_both TellsSame turns (still g.rest g.later) (same_more (Ok (Some bytes)) m) (same_still g.rest g.later);
-        first = subst (λ l. IsFirst l digest (Some bytes)) (sym list) (first_some A m.turn.after g.rest digest bytes s.lacks told);
+        same = all_both TellsSame turns (still g.rest g.later) (same_more (Ok (Some bytes)) m)
+            (same_still g.rest g.later);
+        first = subst (λ l. IsFirst l digest (Some bytes)) (sym list)
+            (first_some A m.turn.after g.rest digest bytes s.lacks told);
         unasked = behind_last digest s.turns m.turn g.rest g.later (passed digest s.turns s.same s.lacks);
         fits = end.fits;
       }
     where
-      held_after : (bytes : List ℕ) (o p : Option Held) → p ≡ o → IfSome o (λ h. Some bytes ≡ get h digest) → IfSome p (λ h. get h digest ≡ Some bytes)
+      held_after : (bytes : List ℕ) (o p : Option Held) → p ≡ o → IfSome o (λ h. Some bytes ≡ get h digest)
+          → IfSome p (λ h. get h digest ≡ Some bytes)
       held_after bytes o None e told = tt
       held_after bytes None (Some h) e told = absurd (cc)
       held_after bytes (Some g) (Some h) e told = let same : g ≡ h = cc in sym (told ∙ ap (λ x. get x digest) same)
 
   -- the same of what a call answered
-  pub lacking_then : (result : Result (Option (List ℕ)) ShelfFault) (found : Option (List ℕ)) → Answers result → result ≡ Ok found → found ≡ None → Searching old new places later digest next (asked + 1)
+  pub lacking_then : (result : Result (Option (List ℕ)) ShelfFault) (found : Option (List ℕ)) → Answers result
+      → result ≡ Ok found → found ≡ None → Searching old new places later digest next (asked + 1)
   lacking_then result found k is none = lacking (subst (λ r. Answers r) (is ∙ ap (λ f. Ok f) none) k)
 
-  pub failing_then : (result : Result (Option (List ℕ)) ShelfFault) (fault : ShelfFault) → Answers result → result ≡ Err fault → fault ≡ shelf.Failed → Searching old new places later digest next (asked + 1)
+  pub failing_then : (result : Result (Option (List ℕ)) ShelfFault) (fault : ShelfFault) → Answers result
+      → result ≡ Err fault → fault ≡ shelf.Failed → Searching old new places later digest next (asked + 1)
   failing_then result fault k is failed = failing (subst (λ r. Answers r) (is ∙ ap (λ f. Err f) failed) k)
 
-  pub ended_then : (result : Result (Option (List ℕ)) ShelfFault) (fault : ShelfFault) (e : Memory) (count : ℕ) → Answers result → result ≡ Err fault → fault ≡ shelf.Memory → count ≡ length places → Searches old places digest (Err e) new later (next + (count - asked - 1))
-  ended_then result fault e count k is ended all = subst (λ n. Searches old places digest (Err e) new later (next + (n - asked - 1))) (sym all) (out_of_memory e (subst (λ r. Answers r) (is ∙ ap (λ f. Err f) ended) k))
+  pub ended_then : (result : Result (Option (List ℕ)) ShelfFault) (fault : ShelfFault) (e : Memory) (count : ℕ)
+      → Answers result → result ≡ Err fault → fault ≡ shelf.Memory → count ≡ length places
+      → Searches old places digest (Err e) new later (next + (count - asked - 1))
+  ended_then result fault e count k is ended all = subst
+      (λ n. Searches old places digest (Err e) new later (next + (n - asked - 1))) (sym all)
+      (out_of_memory e (subst (λ r. Answers r) (is ∙ ap (λ f. Err f) ended) k))
 
-  pub holding_then : (result : Result (Option (List ℕ)) ShelfFault) (found : Option (List ℕ)) (bytes : List ℕ) (count : ℕ) → Answers result → result ≡ Ok found → found ≡ Some bytes → count ≡ length places → Searches old places digest (Ok (Some bytes)) new later (next + (count - asked - 1))
-  holding_then result found bytes count k is some all = subst (λ n. Searches old places digest (Ok (Some bytes)) new later (next + (n - asked - 1))) (sym all) (holding bytes (subst (λ r. Answers r) (is ∙ ap (λ f. Ok f) some) k))
+  pub holding_then : (result : Result (Option (List ℕ)) ShelfFault) (found : Option (List ℕ)) (bytes : List ℕ)
+      (count : ℕ) → Answers result → result ≡ Ok found → found ≡ Some bytes → count ≡ length places
+      → Searches old places digest (Ok (Some bytes)) new later (next + (count - asked - 1))
+  holding_then result found bytes count k is some all = subst
+      (λ n. Searches old places digest (Ok (Some bytes)) new later (next + (n - asked - 1))) (sym all)
+      (holding bytes (subst (λ r. Answers r) (is ∙ ap (λ f. Ok f) some) k))
 
 -- all were asked
-pub nowhere : (old new : List ShelfState) (places numbers digest : List ℕ) (at asked : ℕ) → Searching old new places numbers digest at asked → asked ≡ length places → Searches old places digest (Ok None) new numbers at
+pub nowhere : (old new : List ShelfState) (places numbers digest : List ℕ) (at asked : ℕ)
+    → Searching old new places numbers digest at asked → asked ≡ length places
+    → Searches old places digest (Ok None) new numbers at
 nowhere old new places numbers digest at asked s all =
     let g = s.goes in
     let end = ends_at s.turns old new places numbers at asked at g s.count (ap (λ n. at + n) all) in
@@ -193,11 +241,15 @@ nowhere old new places numbers digest at asked s all =
       turns = s.turns ++ still g.rest g.later;
       drops = finish s.turns old new places numbers at at g end.stands;
       same = all_both TellsSame s.turns (still g.rest g.later) s.same (same_still g.rest g.later);
-      first = subst (λ l. IsFirst l digest None) (sym (left_tell s.turns g.rest g.later g.paired ∙ no_rest g.rest (g.paired ∙ none))) (first_none (map after_of (left_of s.turns)) digest s.lacks);
-      unasked = behind_passed digest s.turns (still g.rest g.later) (passed digest s.turns s.same s.lacks) (behind_still digest g.rest g.later);
+      first = subst (λ l. IsFirst l digest None) (sym
+          (left_tell s.turns g.rest g.later g.paired ∙ no_rest g.rest (g.paired ∙ none)))
+          (first_none (map after_of (left_of s.turns)) digest s.lacks);
+      unasked = behind_passed digest s.turns (still g.rest g.later) (passed digest s.turns s.same s.lacks)
+          (behind_still digest g.rest g.later);
       fits = end.fits;
     }
   where
-    no_rest : (rest : List ShelfState) → length rest ≡ 0 → map after_of (left_of s.turns) ++ rest ≡ map after_of (left_of s.turns)
+    no_rest : (rest : List ShelfState) → length rest ≡ 0 → map after_of (left_of s.turns) ++ rest
+        ≡ map after_of (left_of s.turns)
     no_rest [] h = append-nil (map after_of (left_of s.turns))
     no_rest (r ∷ rest) h = absurd (omega (arith, h))

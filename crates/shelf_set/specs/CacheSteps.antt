@@ -10,9 +10,12 @@ use Rattle.shelf_set.specs.declared.gathering.Gathered.{Gathered}
 -- the rows of all caches are gathered
 unfoldable pub gathers : {E : Type 0} → (E → Cause) → Caches → Result Gathered E → Caches → Type 0
 gathers cause_of old (Ok gathered) new = Gathers old.shelves old.standing gathered new.shelves new.standing
-gathers cause_of old (Err fault) new = (cause_of fault ≡ OutOfMemory) × LeavesSame old.shelves old.standing new.shelves new.standing
+gathers cause_of old (Err fault) new = (cause_of fault ≡ OutOfMemory)
+    × LeavesSame old.shelves old.standing new.shelves new.standing
 
 -- the tree of a digest is searched
 unfoldable pub finds : {E : Type 0} → (E → Cause) → List ℕ → Caches → Result Search E → Caches → Type 0
-finds cause_of digest old (Ok search) new = Finds old.shelves old.standing digest search.found new.shelves new.standing search.gone
-finds cause_of digest old (Err fault) new = (cause_of fault ≡ OutOfMemory) × LeavesSearched old.shelves old.standing digest new.shelves new.standing
+finds cause_of digest old (Ok search) new = Finds old.shelves old.standing digest search.found new.shelves
+    new.standing search.gone
+finds cause_of digest old (Err fault) new = (cause_of fault ≡ OutOfMemory)
+    × LeavesSearched old.shelves old.standing digest new.shelves new.standing

@@ -21,11 +21,13 @@ abbrev pub world_and_caches : Seen → Caches → WorldAndCaches
 world_and_caches world caches = record { world = world; caches = caches }
 
 -- steps over the world alone
-unfoldable pub in_world : {E A : Type 0} → (Seen → Result A E → Seen → Type 0) → WorldAndCaches → Result A E → WorldAndCaches → Type 0
+unfoldable pub in_world : {E A : Type 0} → (Seen → Result A E → Seen → Type 0) → WorldAndCaches → Result A E
+    → WorldAndCaches → Type 0
 in_world step old result new = step old.world result new.world × (new.caches ≡ old.caches)
 
 -- steps over the caches alone
-unfoldable pub in_caches : {E A : Type 0} → (Caches → Result A E → Caches → Type 0) → WorldAndCaches → Result A E → WorldAndCaches → Type 0
+unfoldable pub in_caches : {E A : Type 0} → (Caches → Result A E → Caches → Type 0) → WorldAndCaches → Result A E
+    → WorldAndCaches → Type 0
 in_caches step old result new = step old.caches result new.caches × (new.world ≡ old.world)
 
 -- what contracts see of caches

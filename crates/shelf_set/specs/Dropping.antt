@@ -43,7 +43,8 @@ failed_of turns = filter has_failed turns
 abbrev pub left_of : List Turn → List Turn
 left_of turns = filter (λ t. not (has_failed t)) turns
 
--- Of the shelves that stood, exactly those that failed are dropped, and exactly their counts rose. The others stand in their
+-- Of the shelves that stood, exactly those that failed are dropped, and exactly their counts rose. The others stand in
+-- their
 -- old order. The dropped ones are at the end, behind those that were dropped before, which are as they were; `gone` has
 -- their numbers.
 pub record Drops (turns : List Turn) (old new : List ShelfState) (places standing gone : List ℕ) : Type 0 where

@@ -36,7 +36,8 @@ IsUnasked t = (t.failed ≡ false) × (t.after ≡ t.before)
 -- Behind a shelf that is left and tells that it holds the digest none is asked.
 abbrev pub NoneBehind : List ℕ → List Turn → Type 0
 NoneBehind digest [] = Unit {0}
-NoneBehind digest (t ∷ ts) = (t.failed ≡ false → tells_of digest t.before.held ≡ true → AllByRecursion IsUnasked ts) × NoneBehind digest ts
+NoneBehind digest (t ∷ ts) = (t.failed ≡ false → tells_of digest t.before.held ≡ true
+    → AllByRecursion IsUnasked ts) × NoneBehind digest ts
 
 -- what is found: nothing where no shelf holds the digest, and else what these bytes are under it
 abbrev pub IsFound : List ℕ → Option (List ℕ) → Found → Type 0
@@ -45,9 +46,11 @@ IsFound digest (Some bytes) found.None = ⊥
 IsFound digest (Some bytes) (found.Tree tree) = IsJudged digest bytes (judged.Tree tree)
 IsFound digest (Some bytes) (found.Damaged asked is bad) = IsJudged digest bytes (judged.Damaged asked is bad)
 
--- What is answered and left: the failed shelves are dropped, all shelves tell what they told, and the first of those left
+-- What is answered and left: the failed shelves are dropped, all shelves tell what they told, and the first of those
+-- left
 -- that holds the digest decides. Those behind it aren't asked.
-pub record Finds (old : List ShelfState) (places digest : List ℕ) (answer : Found) (new : List ShelfState) (standing gone : List ℕ) : Type 0 where
+pub record Finds (old : List ShelfState) (places digest : List ℕ) (answer : Found) (new : List ShelfState)
+    (standing gone : List ℕ) : Type 0 where
   pub turns : List Turn
   pub drops : Drops turns old new places standing gone
   pub same : AllByRecursion TellsSame turns
@@ -57,14 +60,16 @@ pub record Finds (old : List ShelfState) (places digest : List ℕ) (answer : Fo
   pub unasked : NoneBehind digest turns
 
 -- what is left where memory ran out: the failed shelves are dropped, and all tell what they told
-pub record LeavesSame (old : List ShelfState) (places : List ℕ) (new : List ShelfState) (standing : List ℕ) : Type 0 where
+pub record LeavesSame (old : List ShelfState) (places : List ℕ) (new : List ShelfState)
+    (standing : List ℕ) : Type 0 where
   pub turns : List Turn
   pub gone : List ℕ
   pub drops : Drops turns old new places standing gone
   pub same : AllByRecursion TellsSame turns
 
 -- the same of a search for a digest, which asks none behind a shelf that holds it
-pub record LeavesSearched (old : List ShelfState) (places digest : List ℕ) (new : List ShelfState) (standing : List ℕ) : Type 0 where
+pub record LeavesSearched (old : List ShelfState) (places digest : List ℕ) (new : List ShelfState)
+    (standing : List ℕ) : Type 0 where
   pub turns : List Turn
   pub gone : List ℕ
   pub drops : Drops turns old new places standing gone

@@ -29,7 +29,8 @@ given_by held document = option_map (held_rows held) (document_rows document)
 
 -- a shelf gave this; of one that doesn't tell nothing is said
 abbrev pub HasGiven : Turn → Given → Type 0
-HasGiven t given = (given.number ≡ t.number) × IfSome t.after.rows (λ document. IfSome t.after.held (λ held. given.rows ≡ given_by held document))
+HasGiven t given = (given.number ≡ t.number) × IfSome t.after.rows
+    (λ document. IfSome t.after.held (λ held. given.rows ≡ given_by held document))
 
 -- these shelves gave these, each its own
 abbrev pub HaveGiven : List Turn → List Given → Type 0
@@ -52,9 +53,11 @@ all_rows given = flat_map (λ one. unwrap_or one.rows []) given
 abbrev pub unread_of : List Given → List ℕ
 unread_of given = map (λ one. one.number) (filter (λ one. is_none one.rows) given)
 
--- What is answered and left: the failed shelves are dropped, all shelves tell what they told, and the rows are those that
+-- What is answered and left: the failed shelves are dropped, all shelves tell what they told, and the rows are those
+-- that
 -- the shelves left gave, in order, of one layer the first.
-pub record Gathers (old : List ShelfState) (places : List ℕ) (answer : Gathered) (new : List ShelfState) (standing : List ℕ) : Type 0 where
+pub record Gathers (old : List ShelfState) (places : List ℕ) (answer : Gathered) (new : List ShelfState)
+    (standing : List ℕ) : Type 0 where
   pub turns : List Turn
   pub drops : Drops turns old new places standing answer.gone
   pub same : AllByRecursion TellsSame turns

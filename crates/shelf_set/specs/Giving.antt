@@ -24,7 +24,8 @@ pub record ReadsRows (result : Result (Option (List LayerRow)) ShelfFault) (befo
   pub told : IfSome before.rows (λ document. IfOk result (λ rows. rows ≡ document_rows document))
 
 -- a row is put behind others, if the shelf holds its tree
-pub record KeepsRow (row : LayerRow) (old : List LayerRow) (result : Result Unit ShelfFault) (new : List LayerRow) (before after : ShelfState) : Type 0 where
+pub record KeepsRow (row : LayerRow) (old : List LayerRow) (result : Result Unit ShelfFault) (new : List LayerRow)
+    (before after : ShelfState) : Type 0 where
   pub answered : Answered result before after
   pub told : IfSome before.held (λ held. OnOk result (new ≡ old ++ held_rows held (row ∷ [])))
 
@@ -36,24 +37,28 @@ pub record Keeping (seen kept : List LayerRow) (before now : ShelfState) : Type 
   pub told : IfSome before.held (λ h. kept ≡ held_rows h seen)
 
 -- those of some rows that a shelf holds
-pub record KeepsRows (rows : List LayerRow) (result : Result (List LayerRow) ShelfFault) (before after : ShelfState) : Type 0 where
+pub record KeepsRows (rows : List LayerRow) (result : Result (List LayerRow) ShelfFault)
+    (before after : ShelfState) : Type 0 where
   pub answered : Answered result before after
   pub told : IfSome before.held (λ held. IfOk result (λ kept. kept ≡ held_rows held rows))
 
 -- what a shelf gives
 pub record Gives (result : Result (Option (List LayerRow)) ShelfFault) (before after : ShelfState) : Type 0 where
   pub answered : Answered result before after
-  pub told : IfSome before.rows (λ document. IfSome before.held (λ held. IfOk result (λ rows. rows ≡ given_by held document)))
+  pub told : IfSome before.rows (λ document. IfSome before.held
+      (λ held. IfOk result (λ rows. rows ≡ given_by held document)))
 
 -- the same, put behind what others gave
-pub record GivesMore (number : ℕ) (old : List Given) (result : Result Unit ShelfFault) (new : List Given) (before after : ShelfState) : Type 0 where
+pub record GivesMore (number : ℕ) (old : List Given) (result : Result Unit ShelfFault) (new : List Given)
+    (before after : ShelfState) : Type 0 where
   pub answered : Answered result before after
   pub more : OnOk result ((rows : Option (List LayerRow)) × (new ≡ old ++ record { number = number; rows = rows } ∷ [])
       × IfSome before.rows (λ document. IfSome before.held (λ held. rows ≡ given_by held document)))
   pub less : OnErr result (new ≡ old)
 
 -- so many shelves had their turns, and those that stand gave this
-pub record Giving (old now : List ShelfState) (places numbers : List ℕ) (given : List Given) (at asked : ℕ) : Type 0 where
+pub record Giving (old now : List ShelfState) (places numbers : List ℕ) (given : List Given)
+    (at asked : ℕ) : Type 0 where
   pub turns : List Turn
   pub goes : Goes turns old now places numbers at
   pub same : AllByRecursion TellsSame turns
@@ -61,7 +66,8 @@ pub record Giving (old now : List ShelfState) (places numbers : List ℕ) (given
   pub count : length turns ≡ asked
 
 -- what asking each shelf answers and leaves; the first of the numbers, so many, are those of the shelves that stand
-pub record GivesEach (old : List ShelfState) (places : List ℕ) (given : Result (List Given) Memory) (new : List ShelfState) (numbers : List ℕ) (standing : ℕ) : Type 0 where
+pub record GivesEach (old : List ShelfState) (places : List ℕ) (given : Result (List Given) Memory)
+    (new : List ShelfState) (numbers : List ℕ) (standing : ℕ) : Type 0 where
   pub turns : List Turn
   pub drops : Drops turns old new places (take standing numbers) (drop standing numbers)
   pub same : AllByRecursion TellsSame turns

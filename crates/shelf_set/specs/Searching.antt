@@ -11,7 +11,8 @@ use Rattle.shelf_set.specs.Turns.{Goes}
 use Rattle.shelf_set.specs.Finding.{TellsSame, IsFirst, NoneBehind}
 
 -- what one shelf answers, and how it is before and after
-pub record Asks (digest : List ℕ) (result : Result (Option (List ℕ)) ShelfFault) (before after : ShelfState) : Type 0 where
+pub record Asks (digest : List ℕ) (result : Result (Option (List ℕ)) ShelfFault)
+    (before after : ShelfState) : Type 0 where
   pub held : after.held ≡ before.held
   pub rows : after.rows ≡ before.rows
   pub faults : CountsShelf result before.faults after.faults
@@ -22,7 +23,8 @@ abbrev pub Lacks : List ℕ → ShelfState → Type 0
 Lacks digest s = IfSome s.held (λ h. get h digest ≡ None)
 
 -- so many shelves were asked, and none of those that stand holds the digest
-pub record Searching (old now : List ShelfState) (places numbers : List ℕ) (digest : List ℕ) (at asked : ℕ) : Type 0 where
+pub record Searching (old now : List ShelfState) (places numbers : List ℕ) (digest : List ℕ)
+    (at asked : ℕ) : Type 0 where
   pub turns : List Turn
   pub goes : Goes turns old now places numbers at
   pub same : AllByRecursion TellsSame turns
@@ -30,7 +32,9 @@ pub record Searching (old now : List ShelfState) (places numbers : List ℕ) (di
   pub count : length turns ≡ asked
 
 -- what the search answers and leaves; the first of the numbers, so many, are those of the shelves that stand
-pub record Searches (old : List ShelfState) (places : List ℕ) (digest : List ℕ) (found : Result (Option (List ℕ)) Memory) (new : List ShelfState) (numbers : List ℕ) (standing : ℕ) : Type 0 where
+pub record Searches (old : List ShelfState) (places : List ℕ) (digest : List ℕ)
+    (found : Result (Option (List ℕ)) Memory) (new : List ShelfState) (numbers : List ℕ)
+    (standing : ℕ) : Type 0 where
   pub turns : List Turn
   pub drops : Drops turns old new places (take standing numbers) (drop standing numbers)
   pub same : AllByRecursion TellsSame turns

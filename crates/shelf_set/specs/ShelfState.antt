@@ -18,5 +18,6 @@ abbrev pub shelf_seen : {H : Type 0} → shelf.Ghosts H → H → ShelfState
 shelf_seen ghosts h = state_of (ghosts.held h) (ghosts.rows h) (ghosts.faults h)
 
 -- of boxed shelves, each with its own calls
-abbrev pub shelves_seen : {X Z : Type 0} {F : X → Type 0} → ((x : X) → shelf.Ghosts (F x)) → List (DynBox X Z F) → List ShelfState
+abbrev pub shelves_seen : {X Z : Type 0} {F : X → Type 0} → ((x : X) → shelf.Ghosts (F x)) → List (DynBox X Z F)
+    → List ShelfState
 shelves_seen ghosts boxes = map (λ box. shelf_seen (ghosts box.vtable) box.value) boxes

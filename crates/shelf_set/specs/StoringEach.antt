@@ -38,19 +38,22 @@ HasAfter trees rows (Ok done) before after = HasAll trees rows before after
 HasAfter trees rows (Err fault) before after = HasSome trees before after
 
 -- what one shelf answers, and how it is before and after
-pub record Stores (trees : List TreeBytes) (rows : List ℕ) (result : Result Unit ShelfFault) (before after : ShelfState) : Type 0 where
+pub record Stores (trees : List TreeBytes) (rows : List ℕ) (result : Result Unit ShelfFault)
+    (before after : ShelfState) : Type 0 where
   pub faults : CountsShelf result before.faults after.faults
   pub has : HasAfter trees rows result before after
 
 -- so many shelves had their turns
-pub record Storing (trees : List TreeBytes) (rows : List ℕ) (old now : List ShelfState) (places numbers : List ℕ) (at asked : ℕ) : Type 0 where
+pub record Storing (trees : List TreeBytes) (rows : List ℕ) (old now : List ShelfState) (places numbers : List ℕ)
+    (at asked : ℕ) : Type 0 where
   pub turns : List Turn
   pub goes : Goes turns old now places numbers at
   pub stored : AllByRecursion (IsStored trees rows) turns
   pub count : length turns ≡ asked
 
 -- what storing on each shelf answers and leaves; the first of the numbers, so many, are those of the shelves that stand
-pub record StoresEach (trees : List TreeBytes) (rows : List ℕ) (old : List ShelfState) (places : List ℕ) (memory : Result Unit Memory) (new : List ShelfState) (numbers : List ℕ) (standing : ℕ) : Type 0 where
+pub record StoresEach (trees : List TreeBytes) (rows : List ℕ) (old : List ShelfState) (places : List ℕ)
+    (memory : Result Unit Memory) (new : List ShelfState) (numbers : List ℕ) (standing : ℕ) : Type 0 where
   pub turns : List Turn
   pub drops : Drops turns old new places (take standing numbers) (drop standing numbers)
   pub stored : OnOk memory (AllByRecursion (IsStored trees rows) turns)

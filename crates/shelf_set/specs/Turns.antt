@@ -35,7 +35,8 @@ Settles true old numbers at new later next = MovesLast old at new × MovesLast n
 Settles false old numbers at new later next = (new ≡ old) × (later ≡ numbers) × (next ≡ at + 1)
 
 -- the shelf at a place is asked, of which this holds before and after, and settled by whether it failed
-pub record TakesTurn (old : List ShelfState) (numbers : List ℕ) (at : ℕ) (Does : ShelfState → ShelfState → Type 0) (fails : Bool) (new : List ShelfState) (later : List ℕ) (next : ℕ) : Type 0 where
+pub record TakesTurn (old : List ShelfState) (numbers : List ℕ) (at : ℕ) (Does : ShelfState → ShelfState → Type 0)
+    (fails : Bool) (new : List ShelfState) (later : List ℕ) (next : ℕ) : Type 0 where
   pub before : ShelfState
   pub after : ShelfState
   pub between : List ShelfState

@@ -12,7 +12,8 @@ use Rattle.steps.specs.Outside.{SpawnerSeen, faults_of}
 abbrev pub IsMadeOf : List Ran → List (List Ran) → Type 0
 IsMadeOf [] shares = AllByRecursion (λ share. share ≡ []) shares
 IsMadeOf (ran ∷ rans) shares =
-    (front : List (List Ran)) × (rest : List Ran) × (back : List (List Ran)) × (shares ≡ front ++ (ran ∷ rest) ∷ back) × IsMadeOf rans (front ++ rest ∷ back)
+    (front : List (List Ran)) × (rest : List Ran) × (back : List (List Ran))
+    × (shares ≡ front ++ (ran ∷ rest) ∷ back) × IsMadeOf rans (front ++ rest ∷ back)
 
 -- each child answers as its spawner says, where that is fixed
 abbrev pub AreSaid : Option (List Reply) → List Ran → Type 0
@@ -47,7 +48,8 @@ AreSome [] jobs = Unit {0}
 AreSome (job ∷ some) [] = ⊥
 AreSome (job ∷ some) (first ∷ jobs) = ((job ≡ first) × AreSome some jobs) ⊎ AreSome (job ∷ some) jobs
 
--- refused by what the children answered, or, with some of the children asked, for one that gave no answer or for want of memory
+-- refused by what the children answered, or, with some of the children asked, for one that gave no answer or for want
+-- of memory
 abbrev pub AsksBy : Cause → Type 0 → Type 0 → Type 0
 AsksBy (FileFailed path) Part All = ⊥
 AsksBy ChildFailed Part All = Part
@@ -68,7 +70,8 @@ NoneFell _ _ = ⊥
 abbrev pub OneRose : List ℕ → List ℕ → Type 0
 OneRose [] nows = ⊥
 OneRose (before ∷ befores) [] = ⊥
-OneRose (before ∷ befores) (now ∷ nows) = (Rose before now × NoneFell befores nows) ⊎ ((before ≤ now) × OneRose befores nows)
+OneRose (before ∷ befores) (now ∷ nows) = (Rose before now × NoneFell befores nows)
+    ⊎ ((before ≤ now) × OneRose befores nows)
 
 abbrev pub SpawnersBy : Cause → List ℕ → List ℕ → Type 0
 SpawnersBy ChildFailed before now = OneRose before now
@@ -80,18 +83,22 @@ abbrev pub SpawnersEnd : Option Cause → List ℕ → List ℕ → Type 0
 SpawnersEnd None before now = now ≡ before
 SpawnersEnd (Some cause) before now = SpawnersBy cause before now
 
--- the counts of spawners' faults: a refusal for a child comes where one rose, and they stay at any other answer but want of memory
+-- the counts of spawners' faults: a refusal for a child comes where one rose, and they stay at any other answer but
+-- want of memory
 abbrev pub CountsSpawners : {A E : Type 0} → (E → Cause) → Result A E → List ℕ → List ℕ → Type 0
 CountsSpawners cause_of result before now = SpawnersEnd (ended_by cause_of result) before now
 
 -- Children were asked: what they answered, in the order of asking, and the spawners that ran them.
-pub record Asks {E A : Type 0} (cause_of : E → Cause) (listed : List DetectJob) (jobs : List Ran → List DetectJob) (want : List Ran → Result A E)
+pub record Asks {E A : Type 0} (cause_of : E → Cause) (listed : List DetectJob) (jobs : List Ran → List DetectJob)
+    (want : List Ran → Result A E)
     (old : List SpawnerSeen) (result : Result A E) (new : List SpawnerSeen) : Type 0 where
   pub answers : List Ran
   pub asked : AskedBy answers old new
-  pub meets : MeetsAnswers cause_of result (want answers) (AreSome (map (λ ran. ran.job) answers) listed) (map (λ ran. ran.job) answers ≡ jobs answers)
+  pub meets : MeetsAnswers cause_of result (want answers) (AreSome (map (λ ran. ran.job) answers) listed)
+      (map (λ ran. ran.job) answers ≡ jobs answers)
   pub counts : CountsSpawners cause_of result (faults_of old) (faults_of new)
 
 -- Exactly those of the listed children are asked that have to be, by what they answer, and the answers decide.
-unfoldable pub asks : {E A : Type 0} → (E → Cause) → List DetectJob → (List Ran → List DetectJob) → (List Ran → Result A E) → List SpawnerSeen → Result A E → List SpawnerSeen → Type 0
+unfoldable pub asks : {E A : Type 0} → (E → Cause) → List DetectJob → (List Ran → List DetectJob)
+    → (List Ran → Result A E) → List SpawnerSeen → Result A E → List SpawnerSeen → Type 0
 asks cause_of listed jobs want old result new = Asks cause_of listed jobs want old result new

@@ -26,4 +26,5 @@ CountsEither cause_of result before now befores nows = EitherEnd (ended_by cause
 -- what a step says of all counts, by what ended it
 pub record OutsideCounts (last : Option Cause) (old new : Outside) : Type 0 where
   pub files : FilesEnd last old.world.file_faults new.world.file_faults
-  pub children : EitherEnd last old.world.child_faults new.world.child_faults (faults_of old.spawners) (faults_of new.spawners)
+  pub children : EitherEnd last old.world.child_faults new.world.child_faults (faults_of old.spawners)
+      (faults_of new.spawners)

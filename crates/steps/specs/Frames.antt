@@ -17,7 +17,8 @@ standing files path = option_map (λ t. item_at t path) files
 -- what stands at a path is what stood there, or a whole file of bytes of which this holds
 abbrev pub IsOldOrNew : Option Tree → Option Tree → List ℕ → (List ℕ → Type 0) → Type 0
 IsOldOrNew old new path Says =
-    (standing new path ≡ standing old path) ⊎ ((bytes : List ℕ) × Says bytes × (standing new path ≡ option_map (λ files. Some (File false bytes)) old))
+    (standing new path ≡ standing old path) ⊎ ((bytes : List ℕ) × Says bytes
+    × (standing new path ≡ option_map (λ files. Some (File false bytes)) old))
 
 -- the paths where a folder may come to stand, where this one is made
 abbrev pub folder_paths : List ℕ → List (List ℕ)

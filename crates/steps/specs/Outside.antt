@@ -6,7 +6,8 @@ use Rattle.cnb_world.specs.declared.child.Reply.{Reply}
 use Rattle.cnb_world.specs.declared.child.Spawner as spawner
 use Rattle.cnb_world.specs.declared.world.World as world
 
--- of a world: its files, where they are told, the children that ran in it, its counts of failed calls on files, of children
+-- of a world: its files, where they are told, the children that ran in it, its counts of failed calls on files, of
+-- children
 -- that gave no end, and of calls on a path of the wrong kind, and the path whose call failed last
 pub record Seen : Type 0 where
   pub files : Option Tree
@@ -26,7 +27,8 @@ seen ghosts w = record {
   misused = ghosts.misused w;
 }
 
--- of a spawner: the detect children that it ran, what each buildpack's child says, where that is fixed, and its count of
+-- of a spawner: the detect children that it ran, what each buildpack's child says, where that is fixed, and its count
+-- of
 -- children that gave no answer
 pub record SpawnerSeen : Type 0 where
   pub runs : List Ran
@@ -45,7 +47,8 @@ pub record Outside : Type 0 where
   pub spawners : List SpawnerSeen
 
 abbrev pub outside : {W S : Type 0} → world.Ghosts W → spawner.Ghosts S → W → List S → Outside
-outside world_ghosts spawner_ghosts w spawners = record { world = seen world_ghosts w; spawners = spawners_seen spawner_ghosts spawners }
+outside world_ghosts spawner_ghosts w spawners = record
+    { world = seen world_ghosts w; spawners = spawners_seen spawner_ghosts spawners }
 
 -- the counts of the spawners
 abbrev pub faults_of : List SpawnerSeen → List ℕ

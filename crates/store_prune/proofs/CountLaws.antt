@@ -45,36 +45,47 @@ unfolding lists
 list_counts folder = obeys_bind _ _ _ _ files_link (there_counts folder) (list_where_counts folder)
 
 module _ {A : Type 0} (form : TableForm A) (digests : A → List (List ℕ)) where
-  where_counts : (path : List ℕ) (named : List (List ℕ)) (there : Bool) → Obeys FileCounts cause_of (adds_where form digests path named there)
+  where_counts : (path : List ℕ) (named : List (List ℕ)) (there : Bool)
+      → Obeys FileCounts cause_of (adds_where form digests path named there)
   unfolding adds_where reads_names
-  where_counts path named true = obeys_bind _ _ _ _ files_link (reads_counts cause_of _ _) (λ more. obeys_gives _ _ _ files_rest)
+  where_counts path named true = obeys_bind _ _ _ _ files_link (reads_counts cause_of _ _)
+      (λ more. obeys_gives _ _ _ files_rest)
   where_counts path named false = obeys_yields _ _ _ files_rest
 
-  document_counts : (path : List ℕ) (named : List (List ℕ)) → Obeys FileCounts cause_of (adds_document form digests path named)
+  document_counts : (path : List ℕ) (named : List (List ℕ))
+      → Obeys FileCounts cause_of (adds_document form digests path named)
   unfolding adds_document
   document_counts path named = obeys_bind _ _ _ _ files_link (looked_counts path) (where_counts path named)
 
-  if_counts : (path : List ℕ) (named : List (List ℕ)) (is : Bool) → Obeys FileCounts cause_of (adds_if form digests path named is)
+  if_counts : (path : List ℕ) (named : List (List ℕ)) (is : Bool)
+      → Obeys FileCounts cause_of (adds_if form digests path named is)
   unfolding adds_if
   if_counts path named true = document_counts path named
   if_counts path named false = obeys_yields _ _ _ files_rest
 
-  name_counts : (folder name : List ℕ) (named : List (List ℕ)) → Obeys FileCounts cause_of (adds_name form digests folder name named)
+  name_counts : (folder name : List ℕ) (named : List (List ℕ))
+      → Obeys FileCounts cause_of (adds_name form digests folder name named)
   unfolding adds_name
   name_counts folder name named = if_counts (joined folder name) named (is_document_name name)
 
-  folder_counts : (folder : List ℕ) (named : List (List ℕ)) → Obeys FileCounts cause_of (adds_folder form digests folder named)
+  folder_counts : (folder : List ℕ) (named : List (List ℕ))
+      → Obeys FileCounts cause_of (adds_folder form digests folder named)
   unfolding adds_folder
-  folder_counts folder named = obeys_bind _ _ _ _ files_link (list_counts folder) (λ names. obeys_each _ _ _ files_link files_rest (name_counts folder) names named)
+  folder_counts folder named = obeys_bind _ _ _ _ files_link (list_counts folder)
+      (λ names. obeys_each _ _ _ files_link files_rest (name_counts folder) names named)
 
 named_counts : (store : List ℕ) → Obeys FileCounts cause_of (reads_named store)
 unfolding reads_named
-named_counts store = obeys_bind _ _ _ _ files_link (folder_counts image_table_in digests_of_image (images_folder store) []) (λ named. folder_counts table_in digests_of_run (runs_folder store) named)
+named_counts store = obeys_bind _ _ _ _ files_link
+    (folder_counts image_table_in digests_of_image (images_folder store) [])
+    (λ named. folder_counts table_in digests_of_run (runs_folder store) named)
 
-digest_counts : (store : List ℕ) (digest : Option (List ℕ)) (trees : List (List ℕ)) → Obeys FileCounts cause_of (adds_digest store digest trees)
+digest_counts : (store : List ℕ) (digest : Option (List ℕ)) (trees : List (List ℕ))
+    → Obeys FileCounts cause_of (adds_digest store digest trees)
 unfolding adds_digest
 digest_counts store None trees = obeys_yields _ _ _ files_rest
-digest_counts store (Some digest) trees = obeys_bind _ _ _ _ files_link (looked_counts _) (λ there. obeys_gives _ _ _ files_rest)
+digest_counts store (Some digest) trees = obeys_bind _ _ _ _ files_link (looked_counts _)
+    (λ there. obeys_gives _ _ _ files_rest)
 
 tree_counts : (store name : List ℕ) (trees : List (List ℕ)) → Obeys FileCounts cause_of (adds_tree store name trees)
 unfolding adds_tree
@@ -82,7 +93,8 @@ tree_counts store name trees = digest_counts store (tree_digest name) trees
 
 trees_counts : (store : List ℕ) → Obeys FileCounts cause_of (reads_trees store)
 unfolding reads_trees
-trees_counts store = obeys_bind _ _ _ _ files_link (list_counts (trees_of store)) (λ names. obeys_each _ _ _ files_link files_rest (tree_counts store) names [])
+trees_counts store = obeys_bind _ _ _ _ files_link (list_counts (trees_of store))
+    (λ names. obeys_each _ _ _ files_link files_rest (tree_counts store) names [])
 
 survey_counts : (store : List ℕ) → Obeys FileCounts cause_of (surveys store)
 unfolding surveys
@@ -101,7 +113,8 @@ unfolding prunes_command
 prune_counts words =
     obeys_bind _ _ _ _ files_link (survey_counts words.store)
     (λ pruned. obeys_bind _ _ _ _ files_link (obeys_gives _ _ _ files_rest)
-    (λ text. obeys_bind _ _ _ _ files_link (remove_counts words.store pruned.removed) (λ gone. obeys_yields _ _ _ files_rest)))
+    (λ text. obeys_bind _ _ _ _ files_link (remove_counts words.store pruned.removed)
+    (λ gone. obeys_yields _ _ _ files_rest)))
 
 -- ---- `verify`
 
@@ -113,20 +126,24 @@ image_cause (image.File path) = refl
 image_cause image.Memory = refl
 
 next_counts : (store digest : List ℕ) (done : Unit {0}) → Obeys FileCounts verify_cause (checks_next store digest done)
-next_counts store digest done = obeys_told FileCounts tree_store.cause_of verify_cause Store _ (λ fault. refl) (check_tree_counts store digest)
+next_counts store digest done = obeys_told FileCounts tree_store.cause_of verify_cause Store _ (λ fault. refl)
+    (check_tree_counts store digest)
 
 check_image_counts : (store : List ℕ) (image : ImageDoc) → Obeys FileCounts verify_cause (checks_image store image)
 unfolding checks_image checks_all
 check_image_counts store image =
     obeys_bind _ _ _ _ files_link (obeys_gives _ _ _ files_rest)
-    (λ digests. obeys_bind _ _ _ _ files_link (obeys_each _ _ _ files_link files_rest (next_counts store) digests tt) (λ checked. obeys_yields _ _ _ files_rest))
+    (λ digests. obeys_bind _ _ _ _ files_link (obeys_each _ _ _ files_link files_rest
+    (next_counts store) digests tt) (λ checked. obeys_yields _ _ _ files_rest))
 
 verifies_counts : (store name : List ℕ) → Obeys FileCounts verify_cause (verifies store name)
 unfolding verifies
 verifies_counts store name =
-    obeys_bind _ _ _ _ files_link (obeys_told FileCounts image_files.cause_of verify_cause of_image_fault _ image_cause (image_counts store name))
+    obeys_bind _ _ _ _ files_link (obeys_told FileCounts image_files.cause_of verify_cause of_image_fault _
+    image_cause (image_counts store name))
     (λ image. check_image_counts store image)
 
 pub verify_counts : (words : VerifyWords) → Obeys FileCounts verify_cause (verifies_command words)
 unfolding verifies_command
-verify_counts words = obeys_bind _ _ _ _ files_link (verifies_counts words.store words.image) (λ count. obeys_gives _ _ _ files_rest)
+verify_counts words = obeys_bind _ _ _ _ files_link (verifies_counts words.store words.image)
+    (λ count. obeys_gives _ _ _ files_rest)

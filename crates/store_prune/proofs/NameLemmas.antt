@@ -19,18 +19,23 @@ abbrev toml : List ℕ
 toml = codes ".toml"
 
 -- what stands before the ending
-pub ends_so : (name front : List ℕ) (n : ℕ) → n ≡ 5 → name ≡ take (length name - n) name ++ toml → front ≡ take (length name - n) name → is_image_name front ≡ is_document_name name
+pub ends_so : (name front : List ℕ) (n : ℕ) → n ≡ 5 → name ≡ take (length name - n) name ++ toml
+    → front ≡ take (length name - n) name → is_image_name front ≡ is_document_name name
 ends_so name front n five whole is =
     let at : take (length name - n) name ≡ take (length name - 5) name = ap (λ k. take (length name - k) name) five in
-    let ends : ends_with nat_eq name toml ≡ true = (ends_is Decides-eqb name toml (ends_with nat_eq name toml) refl).1 (take (length name - n) name) whole in
+    let ends : ends_with nat_eq name toml ≡ true = (ends_is Decides-eqb name toml
+    (ends_with nat_eq name toml) refl).1 (take (length name - n) name) whole in
     ap is_image_name (is ∙ at) ∙ ap (λ b. b && is_image_name (take (length name - 5) name)) (sym ends)
 
 pub ends_not : (name : List ℕ) → ((front : List ℕ) → name ≢ front ++ toml) → false ≡ is_document_name name
 ends_not name lacks =
-    let ends : ends_with nat_eq name toml ≡ false = false_from_ne_true (ends_with nat_eq name toml) (λ h. lacks (take (length name - 5) name) ((ends_is Decides-eqb name toml (ends_with nat_eq name toml) refl).0 h)) in
+    let ends : ends_with nat_eq name toml ≡ false = false_from_ne_true (ends_with nat_eq name toml)
+    (λ h. lacks (take (length name - 5) name) ((ends_is Decides-eqb name toml
+    (ends_with nat_eq name toml) refl).0 h)) in
     ap (λ b. b && is_image_name (take (length name - 5) name)) (sym ends)
 
-pub digest_named : (name digest : List ℕ) → encode_lower digest ≡ name → is_digest digest ≡ true → Some digest ≡ tree_digest name
+pub digest_named : (name digest : List ℕ) → encode_lower digest ≡ name → is_digest digest ≡ true
+    → Some digest ≡ tree_digest name
 digest_named name digest is sized = ap result_ok (sym (digest_read digest sized)) ∙ ap tree_digest is
 
 pub no_digest : (name : List ℕ) → is_digest_text name ≡ false → None ≡ tree_digest name

@@ -24,20 +24,34 @@ not_listed folder old = ended _ _ _ _ _ (nothing_read _ _ _ Memory _ refl)
 
 module _ {A : Type 0} (form : TableForm A) (digests : A → List (List ℕ)) where
   -- and before the name of a document was gone to
-  pub name_refused : (folder name : List ℕ) (named : List (List ℕ)) (old : Seen) → is_document_name name ≡ true → adds_name form digests folder name named old (Err Memory) old
+  pub name_refused : (folder name : List ℕ) (named : List (List ℕ)) (old : Seen) → is_document_name name ≡ true
+      → adds_name form digests folder name named old (Err Memory) old
   unfolding adds_document
-  name_refused folder name named old is = name_added form digests folder name (joined folder name) named old old (Err Memory) is refl (ended _ _ _ _ _ (not_looked (joined folder name) old))
+  name_refused folder name named old is = name_added form digests folder name (joined folder name) named old old
+      (Err Memory) is refl (ended _ _ _ _ _ (not_looked (joined folder name) old))
 
   -- and before a folder of documents was read
-  pub folder_refused : (folder : List ℕ) (named : List (List ℕ)) (old : Seen) → adds_folder form digests folder named old (Err Memory) old
+  pub folder_refused : (folder : List ℕ) (named : List (List ℕ)) (old : Seen)
+      → adds_folder form digests folder named old (Err Memory) old
   unfolding adds_folder
   folder_refused folder named old = ended _ _ _ _ _ (not_listed folder old)
 
-  pub folder_at : (folder other : List ℕ) (named : List (List ℕ)) (old new : Seen) (result : Result (List (List ℕ)) PruneFault) → folder ≡ other → adds_folder form digests folder named old result new → adds_folder form digests other named old result new
-  folder_at folder other named old new result same h = subst (λ f. adds_folder form digests f named old result new) same h
+  pub folder_at : (folder other : List ℕ) (named : List (List ℕ)) (old new : Seen)
+      (result : Result (List (List ℕ)) PruneFault) → folder ≡ other
+      → adds_folder form digests folder named old result new → adds_folder form digests other named old result new
+  folder_at folder other named old new result same h = subst
+      (λ f. adds_folder form digests f named old result new) same h
 
-  pub named_at : (folder : List ℕ) (before named : List (List ℕ)) (old new : Seen) (result : Result (List (List ℕ)) PruneFault) → before ≡ named → adds_folder form digests folder before old result new → adds_folder form digests folder named old result new
-  named_at folder before named old new result same h = subst (λ n. adds_folder form digests folder n old result new) same h
+  pub named_at : (folder : List ℕ) (before named : List (List ℕ)) (old new : Seen)
+      (result : Result (List (List ℕ)) PruneFault) → before ≡ named
+      → adds_folder form digests folder before old result new
+      → adds_folder form digests folder named old result new
+  named_at folder before named old new result same h = subst
+      (λ n. adds_folder form digests folder n old result new) same h
 
-  pub names_at : (folder : List ℕ) (names others named : List (List ℕ)) (old new : Seen) (result : Result (List (List ℕ)) PruneFault) → names ≡ others → for_each (adds_name form digests folder) names named old result new → for_each (adds_name form digests folder) others named old result new
-  names_at folder names others named old new result same h = subst (λ ns. for_each (adds_name form digests folder) ns named old result new) same h
+  pub names_at : (folder : List ℕ) (names others named : List (List ℕ)) (old new : Seen)
+      (result : Result (List (List ℕ)) PruneFault) → names ≡ others
+      → for_each (adds_name form digests folder) names named old result new
+      → for_each (adds_name form digests folder) others named old result new
+  names_at folder names others named old new result same h = subst
+      (λ ns. for_each (adds_name form digests folder) ns named old result new) same h

@@ -31,15 +31,23 @@ pub record HasTree (store : List ℕ) (files : Tree) (digest : List ℕ) : Type 
 
 -- ---- what holds of each digest of a text holds of those of an image's rows
 
-rows_sound : (sound : List ℕ → Bool) → ((name digest : List ℕ) → is_digest_text name ≡ true → tree_digest name ≡ Some digest → sound digest ≡ true)
-    → (store name : List ℕ) (files : Tree) (image : ImageDoc) → image_at store name files ≡ Ok image → list_all sound (map (λ row. row.digest) image.rows) ≡ true
+rows_sound : (sound : List ℕ → Bool) → ((name digest : List ℕ) → is_digest_text name ≡ true
+    → tree_digest name ≡ Some digest → sound digest ≡ true)
+    → (store name : List ℕ) (files : Tree) (image : ImageDoc) → image_at store name files ≡ Ok image
+    → list_all sound (map (λ row. row.digest) image.rows) ≡ true
 rows_sound sound each store name files image h =
     let all : list_all sound (digests_of_image image) ≡ true =
-    subst (λ (r : Result (List (List ℕ)) PruneFault). IfOk r (λ named. list_all sound named ≡ true)) (image_names_of store name files image h) (document_sound sound image_table_in digests_of_image (image_digests sound each) (image_path store name) files)
+    subst (λ (r : Result (List (List ℕ)) PruneFault). IfOk r (λ named. list_all sound named ≡ true))
+    (image_names_of store name files image h) (document_sound sound image_table_in digests_of_image
+    (image_digests sound each) (image_path store name) files)
     in
-    (and_parts (list_all sound (map (λ row. row.digest) image.rows)) (list_all sound (map (λ row. row.digest) image.layers)) (sym (list_all-append sound (map (λ row. row.digest) image.rows) (map (λ row. row.digest) image.layers)) ∙ all)).0
+    (and_parts (list_all sound (map (λ row. row.digest) image.rows))
+    (list_all sound (map (λ row. row.digest) image.layers))
+    (sym (list_all-append sound (map (λ row. row.digest) image.rows) (map (λ row. row.digest) image.layers))
+    ∙ all)).0
 
-each_so : (sound : List ℕ → Bool) (digests : List (List ℕ)) → list_all sound digests ≡ true → AllByRecursion (λ digest. sound digest ≡ true) digests
+each_so : (sound : List ℕ → Bool) (digests : List (List ℕ)) → list_all sound digests ≡ true
+    → AllByRecursion (λ digest. sound digest ≡ true) digests
 each_so sound [] h = tt
 each_so sound (digest ∷ digests) h =
     let parts = and_parts (sound digest) (list_all sound digests) h in
@@ -63,23 +71,34 @@ now_with some digest = by (is_among some digest) refl
 
 fold_more : (digests some : List (List ℕ)) → Includes (fold with_digest some digests) some
 fold_more [] some digest h = h
-fold_more (first ∷ digests) some digest h = fold_more digests (with_digest some first) digest (more_with some first digest h)
+fold_more (first ∷ digests) some digest h = fold_more digests (with_digest some first) digest
+    (more_with some first digest h)
 
-same_among : (those : List (List ℕ)) (one other : List ℕ) → encode_lower one ≡ encode_lower other → is_among those one ≡ true → is_among those other ≡ true
+same_among : (those : List (List ℕ)) (one other : List ℕ) → encode_lower one ≡ encode_lower other
+    → is_among those one ≡ true → is_among those other ≡ true
 same_among [] one other same h = h
-same_among (first ∷ those) one other same h = by (bytes_eq (encode_lower first) (encode_lower one)) refl h (same_among those one other same)
+same_among (first ∷ those) one other same h = by (bytes_eq (encode_lower first) (encode_lower one)) refl h
+    (same_among those one other same)
   where
-    by : (b : Bool) → bytes_eq (encode_lower first) (encode_lower one) ≡ b → (b || is_among those one) ≡ true → (is_among those one ≡ true → is_among those other ≡ true) → is_among (first ∷ those) other ≡ true
-    by true e there rest = or_left (bytes_eq (encode_lower first) (encode_lower other)) (is_among those other) (ap (bytes_eq (encode_lower first)) (sym same) ∙ e)
-    by false e there rest = or_right (bytes_eq (encode_lower first) (encode_lower other)) (is_among those other) (rest there)
+    by : (b : Bool) → bytes_eq (encode_lower first) (encode_lower one) ≡ b → (b || is_among those one) ≡ true
+        → (is_among those one ≡ true → is_among those other ≡ true) → is_among (first ∷ those) other ≡ true
+    by true e there rest = or_left (bytes_eq (encode_lower first) (encode_lower other)) (is_among those other)
+        (ap (bytes_eq (encode_lower first)) (sym same) ∙ e)
+    by false e there rest = or_right (bytes_eq (encode_lower first) (encode_lower other)) (is_among those other)
+        (rest there)
 
 fold_has : (digests some : List (List ℕ)) → Includes (fold with_digest some digests) digests
 fold_has [] some digest h = absurd (cc)
-fold_has (first ∷ digests) some digest h = by (bytes_eq (encode_lower first) (encode_lower digest)) refl h (fold_has digests (with_digest some first) digest)
+fold_has (first ∷ digests) some digest h = by (bytes_eq (encode_lower first) (encode_lower digest)) refl h
+    (fold_has digests (with_digest some first) digest)
   where
-    by : (b : Bool) → bytes_eq (encode_lower first) (encode_lower digest) ≡ b → (b || is_among digests digest) ≡ true → (is_among digests digest ≡ true → is_among (fold with_digest (with_digest some first) digests) digest ≡ true)
+    by : (b : Bool) → bytes_eq (encode_lower first) (encode_lower digest) ≡ b
+        → (b || is_among digests digest) ≡ true → (is_among digests digest ≡ true
+        → is_among (fold with_digest (with_digest some first) digests) digest ≡ true)
         → is_among (fold with_digest (with_digest some first) digests) digest ≡ true
-    by true e there rest = fold_more digests (with_digest some first) digest (same_among (with_digest some first) first digest ((bytes_eq-Decides (encode_lower first) (encode_lower digest)).0 e) (now_with some first))
+    by true e there rest = fold_more digests (with_digest some first) digest
+        (same_among (with_digest some first) first digest
+        ((bytes_eq-Decides (encode_lower first) (encode_lower digest)).0 e) (now_with some first))
     by false e there rest = rest there
 
 -- ---- the tree of each row
@@ -89,15 +108,25 @@ pub record Found (P : List ℕ → Type 0) (digest : List ℕ) : Type 0 where
   pub same : encode_lower other ≡ encode_lower digest
   pub holds : P other
 
-found_of : (P : List ℕ → Type 0) (digests : List (List ℕ)) (digest : List ℕ) → AllByRecursion P digests → is_among digests digest ≡ true → Found P digest
+found_of : (P : List ℕ → Type 0) (digests : List (List ℕ)) (digest : List ℕ) → AllByRecursion P digests
+    → is_among digests digest ≡ true → Found P digest
 found_of P [] digest all h = absurd (cc)
-found_of P (first ∷ digests) digest all h = by (bytes_eq (encode_lower first) (encode_lower digest)) refl h (found_of P digests digest all.1)
+found_of P (first ∷ digests) digest all h = by (bytes_eq (encode_lower first) (encode_lower digest)) refl h
+    (found_of P digests digest all.1)
   where
-    by : (b : Bool) → bytes_eq (encode_lower first) (encode_lower digest) ≡ b → (b || is_among digests digest) ≡ true → (is_among digests digest ≡ true → Found P digest) → Found P digest
-    by true e there rest = record { other = first; same = (bytes_eq-Decides (encode_lower first) (encode_lower digest)).0 e; holds = all.0 }
+    by : (b : Bool) → bytes_eq (encode_lower first) (encode_lower digest) ≡ b
+        → (b || is_among digests digest) ≡ true → (is_among digests digest ≡ true → Found P digest)
+        → Found P digest
+    by true e there rest = record {
+      other = first;
+      same =
+          (bytes_eq-Decides (encode_lower first) (encode_lower digest)).0 e;
+      holds = all.0;
+    }
     by false e there rest = rest there
 
-both_of : (P Q : List ℕ → Type 0) (digests : List (List ℕ)) → AllByRecursion P digests → AllByRecursion Q digests → AllByRecursion (λ digest. P digest × Q digest) digests
+both_of : (P Q : List ℕ → Type 0) (digests : List (List ℕ)) → AllByRecursion P digests → AllByRecursion Q digests
+    → AllByRecursion (λ digest. P digest × Q digest) digests
 both_of P Q [] h k = tt
 both_of P Q (digest ∷ digests) h k = ((h.0, k.0), both_of P Q digests h.1 k.1)
 
@@ -108,17 +137,22 @@ module _ (store name : List ℕ) (files : Tree) (count : ℕ) (whole : IsWhole s
   backs : list_all reads_back row_digests ≡ true
   backs = rows_sound reads_back text_back store name files whole.image whole.read
 
-  kept : AllByRecursion (λ digest. HasTreeFile store files digest × (reads_back digest ≡ true)) (trees_of_rows whole.image)
+  kept : AllByRecursion (λ digest. HasTreeFile store files digest × (reads_back digest ≡ true))
+      (trees_of_rows whole.image)
   kept =
       both_of (HasTreeFile store files) (λ digest. reads_back digest ≡ true) (trees_of_rows whole.image) whole.trees
       (fold_all (λ digest. reads_back digest ≡ true) row_digests [] tt (each_so reads_back row_digests backs))
 
-  tree_of : (digest : List ℕ) → reads_back digest ≡ true → is_among (trees_of_rows whole.image) digest ≡ true → HasTreeFile store files digest
+  tree_of : (digest : List ℕ) → reads_back digest ≡ true → is_among (trees_of_rows whole.image) digest ≡ true
+      → HasTreeFile store files digest
   tree_of digest back among =
-      let found = found_of (λ d. HasTreeFile store files d × (reads_back d ≡ true)) (trees_of_rows whole.image) digest kept among in
+      let found = found_of (λ d. HasTreeFile store files d × (reads_back d ≡ true))
+      (trees_of_rows whole.image) digest kept among in
       subst (HasTreeFile store files) (same_digest found.other digest found.holds.1 back found.same) found.holds.0
 
-  each_has : (rows : List Row) → list_all reads_back (map (λ row. row.digest) rows) ≡ true → list_all names_file (map (λ row. row.digest) rows) ≡ true → Includes (trees_of_rows whole.image) (map (λ row. row.digest) rows)
+  each_has : (rows : List Row) → list_all reads_back (map (λ row. row.digest) rows) ≡ true
+      → list_all names_file (map (λ row. row.digest) rows) ≡ true
+      → Includes (trees_of_rows whole.image) (map (λ row. row.digest) rows)
       → AllByRecursion (λ row. HasTree store files row.digest) rows
   each_has [] back names among = tt
   each_has (row ∷ rows) back names among =
@@ -126,8 +160,10 @@ module _ (store name : List ℕ) (files : Tree) (count : ℕ) (whole : IsWhole s
       let named = and_parts (names_file row.digest) (list_all names_file (map (λ row. row.digest) rows)) names in
       let others = map (λ row. row.digest) rows in (
         record { file = tree_of row.digest backed.0 (among row.digest (one_among row.digest others)); name = named.0 },
-        each_has rows backed.1 named.1 (λ digest h. among digest (or_right (bytes_eq (encode_lower row.digest) (encode_lower digest)) (is_among others digest) h)),
+        each_has rows backed.1 named.1 (λ digest h. among digest
+            (or_right (bytes_eq (encode_lower row.digest) (encode_lower digest)) (is_among others digest) h)),
       )
 
   pub rows_have : AllByRecursion (λ row. HasTree store files row.digest) whole.image.rows
-  rows_have = each_has whole.image.rows backs (rows_sound names_file text_names store name files whole.image whole.read) (fold_has row_digests [])
+  rows_have = each_has whole.image.rows backs (rows_sound names_file text_names store name files whole.image
+      whole.read) (fold_has row_digests [])

@@ -18,7 +18,8 @@ looks_for path = reads cause_of (λ files. true) (λ files. Ok (is_some (item_at
 
 -- the names in what stands there; what is no folder can't be listed
 unfoldable pub lists_where : List ℕ → Bool → Seen → Result (List (List ℕ)) PruneFault → Seen → Type 0
-lists_where folder true = reads cause_of (λ files. can_list files folder) (λ files. with_fault of_read_fault (names_at files folder))
+lists_where folder true = reads cause_of (λ files. can_list files folder)
+    (λ files. with_fault of_read_fault (names_at files folder))
 lists_where folder false = yields []
 
 -- the names in a folder, ascending; none where nothing stands there

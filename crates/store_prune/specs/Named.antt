@@ -41,7 +41,8 @@ named_by digests path (Some value) = Ok (digests value)
 module _ {A : Type 0} (form : TableForm A) (digests : A → List (List ℕ)) where
   -- what the document at a path names
   abbrev pub names_of_document : List ℕ → Tree → Result (List (List ℕ)) PruneFault
-  names_of_document path files = and_then (with_fault of_read_fault (document_in form path files)) (named_by digests path)
+  names_of_document path files = and_then (with_fault of_read_fault (document_in form path files))
+      (named_by digests path)
 
   unfoldable pub reads_names : List ℕ → Seen → Result (List (List ℕ)) PruneFault → Seen → Type 0
   reads_names path = reads cause_of (is_fit_document path) (names_of_document path)

@@ -47,7 +47,8 @@ module _ {A : Type 0} (form : TableForm A) (digests : A → List (List ℕ)) whe
   -- what a name in a folder of documents gives
   abbrev pub name_in : List ℕ → Tree → List ℕ → List (List ℕ) → Result (List (List ℕ)) PruneFault
   name_in folder files name named =
-      if is_document_name name then found_in (joined folder name) files named (is_file (item_at files (joined folder name))) else Ok named
+      if is_document_name name then found_in (joined folder name) files named
+      (is_file (item_at files (joined folder name))) else Ok named
 
   -- what the documents of a folder name, by file name ascending: the regular files with such names
   abbrev pub folder_in : List ℕ → Tree → List (List ℕ) → Result (List (List ℕ)) PruneFault
@@ -56,39 +57,47 @@ module _ {A : Type 0} (form : TableForm A) (digests : A → List (List ℕ)) whe
 -- what the documents of a store name; of refused ones the first decides
 abbrev pub named_in : List ℕ → Tree → Result (List (List ℕ)) PruneFault
 named_in store files =
-    and_then (folder_in image_table_in digests_of_image (images_folder store) files []) (λ named. folder_in table_in digests_of_run (runs_folder store) files named)
+    and_then (folder_in image_table_in digests_of_image (images_folder store) files [])
+    (λ named. folder_in table_in digests_of_run (runs_folder store) files named)
 
 -- a digest more, if its tree's file is a regular file
 abbrev pub digest_at : List ℕ → Tree → Option (List ℕ) → List (List ℕ) → Result (List (List ℕ)) PruneFault
 digest_at store files None trees = Ok trees
-digest_at store files (Some digest) trees = Ok (with_tree trees digest (is_file (item_at files (tree_path store digest))))
+digest_at store files (Some digest) trees = Ok
+    (with_tree trees digest (is_file (item_at files (tree_path store digest))))
 
 -- the digests of the tree files of a store, ascending
 abbrev pub trees_in : List ℕ → Tree → Result (List (List ℕ)) PruneFault
-trees_in store files = and_then (listed_in (trees_of store) files) (λ names. each_in (λ name trees. digest_at store files (tree_digest name) trees) names [])
+trees_in store files = and_then (listed_in (trees_of store) files)
+    (λ names. each_in (λ name trees. digest_at store files (tree_digest name) trees) names [])
 
 -- what a prune removes
 abbrev pub pruned_in : List ℕ → Tree → Result Pruned PruneFault
-pruned_in store files = and_then (named_in store files) (λ named. and_then (trees_in store files) (λ trees. Ok (pruned_of named trees)))
+pruned_in store files = and_then (named_in store files)
+    (λ named. and_then (trees_in store files) (λ trees. Ok (pruned_of named trees)))
 
 -- the files of the trees that are removed
 abbrev pub removed_files : List ℕ → Pruned → List (List ℕ)
 removed_files store pruned = map (tree_path store) pruned.removed
 
--- the files without exactly those of the trees that aren't named, where all went well; after a refused document as before
+-- the files without exactly those of the trees that aren't named, where all went well; after a refused document as
+-- before
 abbrev pub PrunesUnnamed : List ℕ → Option Tree → Result Pruned PruneFault → Option Tree → Type 0
-PrunesUnnamed store old (Ok pruned) new = IfSome old (λ files. pruned_in store files ≡ Ok pruned) × (new ≡ option_map (all_without (removed_files store pruned)) old)
+PrunesUnnamed store old (Ok pruned) new = IfSome old (λ files. pruned_in store files ≡ Ok pruned)
+    × (new ≡ option_map (all_without (removed_files store pruned)) old)
 PrunesUnnamed store old (Err fault) new = WhereDecided (cause_of fault) (new ≡ old)
 
 -- what is neither at these paths nor below them is as before
 abbrev pub KeepsOthers : List (List ℕ) → Option Tree → Option Tree → Type 0
-KeepsOthers paths old new = (path : List ℕ) → list_any (λ removed. is_within removed path) paths ≡ false → standing new path ≡ standing old path
+KeepsOthers paths old new = (path : List ℕ) → list_any (λ removed. is_within removed path) paths ≡ false
+    → standing new path ≡ standing old path
 
 abbrev pub KeepsWhere : List ℕ → Result Pruned PruneFault → Option Tree → Option Tree → Type 0
 KeepsWhere store (Ok pruned) old new = KeepsOthers (removed_files store pruned) old new
 KeepsWhere store (Err fault) old new = new ≡ old
 
--- whatever is answered: all but the files of trees that aren't named is as before, and all of them where a document is refused
+-- whatever is answered: all but the files of trees that aren't named is as before, and all of them where a document is
+-- refused
 abbrev pub KeepsNamed : List ℕ → Option Tree → Option Tree → Type 0
 KeepsNamed store old new = IfSome old (λ files. KeepsWhere store (pruned_in store files) old new)
 
@@ -99,7 +108,8 @@ StandNamed store named old new = (digest : List ℕ) → IsTrue (is_among named 
 
 -- whatever is answered: the file of each tree that a document names is as before
 abbrev pub KeepsNamedTrees : List ℕ → Option Tree → Option Tree → Type 0
-KeepsNamedTrees store old new = IfSome old (λ files. IfOk (named_in store files) (λ named. StandNamed store named old new))
+KeepsNamedTrees store old new = IfSome old (λ files. IfOk (named_in store files)
+    (λ named. StandNamed store named old new))
 
 -- an image's document, and the file of each tree that it names, are as before; so `verify` says yes where it did
 pub record KeepsImage (store name : List ℕ) (old : Tree) (new : Option Tree) : Type 0 where

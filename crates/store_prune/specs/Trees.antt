@@ -14,9 +14,11 @@ abbrev pub with_tree : List (List ℕ) → List ℕ → Bool → List (List ℕ)
 with_tree trees digest there = if there then trees ++ digest ∷ [] else trees
 
 -- a digest more, if its tree's file is a regular file
-unfoldable pub adds_digest : List ℕ → Option (List ℕ) → List (List ℕ) → Seen → Result (List (List ℕ)) PruneFault → Seen → Type 0
+unfoldable pub adds_digest : List ℕ → Option (List ℕ) → List (List ℕ) → Seen → Result (List (List ℕ)) PruneFault
+    → Seen → Type 0
 adds_digest store None trees = yields trees
-adds_digest store (Some digest) trees = looks_for_file (tree_path store digest) >>= (λ there. gives cause_of (Ok (with_tree trees digest there)))
+adds_digest store (Some digest) trees = looks_for_file (tree_path store digest)
+    >>= (λ there. gives cause_of (Ok (with_tree trees digest there)))
 
 -- what a name in the folder of the trees' files gives
 unfoldable pub adds_tree : List ℕ → List ℕ → List (List ℕ) → Seen → Result (List (List ℕ)) PruneFault → Seen → Type 0

@@ -26,4 +26,5 @@ pub record IsWhole (store name : List ℕ) (files : Tree) (count : ℕ) : Type 0
 -- yes exactly where the image is whole, unless a call failed or memory ran out
 abbrev pub VerifiesExactly : List ℕ → List ℕ → Option Tree → Result ℕ VerifyFault → Type 0
 VerifiesExactly store name old (Ok count) = IfSome old (λ files. IsWhole store name files count)
-VerifiesExactly store name old (Err fault) = IfSome old (λ files. WhereDecided (verify_cause fault) ((count : ℕ) → IsWhole store name files count → ⊥))
+VerifiesExactly store name old (Err fault) = IfSome old
+    (λ files. WhereDecided (verify_cause fault) ((count : ℕ) → IsWhole store name files count → ⊥))

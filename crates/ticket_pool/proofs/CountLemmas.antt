@@ -15,7 +15,8 @@ abbrev Later : ℕ → ℕ → Type 0
 Later before now = before ≤ now
 
 -- a child without an answer, counted by its one spawner
-pub counts_one : (fault : DetectFault) (before between now : ℕ) → between ≡ before → CountsDetect {T = Probed} (Err fault) between now
+pub counts_one : (fault : DetectFault) (before between now : ℕ) → between ≡ before
+    → CountsDetect {T = Probed} (Err fault) between now
     → CountsPool {T = Unit {0}} (Err (pool_fault fault)) (before ∷ []) (now ∷ [])
 counts_one detect.Failed before between now e rose =
     let rises : Rose before now = subst (λ n. Rose n now) e rose in
@@ -43,16 +44,25 @@ none_fell (Err Child) bs ns c = c.none_fell
 none_fell (Err Memory) bs ns c = all_stay bs ns c
 
 rose-left : (bs ns bs' ns' : List ℕ) → SomeRose bs ns → AllZip Later bs' ns' → SomeRose (bs ++ bs') (ns ++ ns')
-rose-left bs ns bs' ns' r l = record { none_fell = zip-append Later bs bs' ns ns' r.none_fell l; one_rose = one_rose-left bs ns bs' ns' r.one_rose }
+rose-left bs ns bs' ns' r l = record {
+  none_fell = zip-append Later bs bs' ns ns' r.none_fell l;
+  one_rose =
+      one_rose-left bs ns bs' ns' r.one_rose;
+}
 
 rose-right : (bs ns bs' ns' : List ℕ) → AllZip Later bs ns → SomeRose bs' ns' → SomeRose (bs ++ bs') (ns ++ ns')
-rose-right bs ns bs' ns' l r = record { none_fell = zip-append Later bs bs' ns ns' l r.none_fell; one_rose = one_rose-right bs ns bs' ns' l r.one_rose }
+rose-right bs ns bs' ns' l r = record {
+  none_fell = zip-append Later bs bs' ns ns' l r.none_fell;
+  one_rose =
+      one_rose-right bs ns bs' ns' l r.one_rose;
+}
 
 both_stay : (bs ns bs' ns' : List ℕ) → ns ≡ bs → ns' ≡ bs' → ns ++ ns' ≡ bs ++ bs'
 both_stay bs ns bs' ns' p q = λ i. p i ++ q i
 
 -- the counts of two halves
-pub counts-append : {T : Type 0} (a b : Result T PoolFault) (bs ns bs' ns' : List ℕ) → CountsPool a bs ns → CountsPool b bs' ns' → CountsPool (first_fault a b) (bs ++ bs') (ns ++ ns')
+pub counts-append : {T : Type 0} (a b : Result T PoolFault) (bs ns bs' ns' : List ℕ) → CountsPool a bs ns
+    → CountsPool b bs' ns' → CountsPool (first_fault a b) (bs ++ bs') (ns ++ ns')
 counts-append (Ok x) (Ok y) bs ns bs' ns' p q = both_stay bs ns bs' ns' p q
 counts-append (Ok x) (Err Child) bs ns bs' ns' p q = rose-right bs ns bs' ns' (all_stay bs ns p) q
 counts-append (Ok x) (Err Memory) bs ns bs' ns' p q = both_stay bs ns bs' ns' p q
@@ -62,13 +72,15 @@ counts-append (Err Memory) (Err Child) bs ns bs' ns' p q = rose-right bs ns bs' 
 counts-append (Err Memory) (Err Memory) bs ns bs' ns' p q = both_stay bs ns bs' ns' p q
 
 -- the counts of spawners beside which others do nothing
-pub counts_beside : {T : Type 0} (end : Result T PoolFault) (bs ns more : List ℕ) → CountsPool end bs ns → CountsPool end (bs ++ more) (ns ++ more)
+pub counts_beside : {T : Type 0} (end : Result T PoolFault) (bs ns more : List ℕ) → CountsPool end bs ns
+    → CountsPool end (bs ++ more) (ns ++ more)
 counts_beside (Ok x) bs ns more c = ap (λ l. l ++ more) c
 counts_beside (Err Child) bs ns more c = rose-left bs ns more more c (all_stay more more refl)
 counts_beside (Err Memory) bs ns more c = ap (λ l. l ++ more) c
 
 -- what holds where both halves ended well
-pub if_both : {T P Q R : Type 0} (a b : Result T PoolFault) → IfOk a (λ _. P) → IfOk b (λ _. Q) → (P → Q → R) → IfOk (first_fault a b) (λ _. R)
+pub if_both : {T P Q R : Type 0} (a b : Result T PoolFault) → IfOk a (λ _. P) → IfOk b (λ _. Q) → (P → Q → R)
+    → IfOk (first_fault a b) (λ _. R)
 if_both (Ok x) (Ok y) p q f = f p q
 if_both (Ok x) (Err fault) p q f = tt
 if_both (Err Child) b p q f = tt

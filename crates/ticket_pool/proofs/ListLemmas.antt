@@ -12,7 +12,8 @@ module _ {A : Type 0} (P : A → Type 0) where
   all_parts (x ∷ xs) ys p = let r = all_parts xs ys p.1 in ((p.0, r.0), r.1)
 
 module _ {A B : Type 0} (R : A → B → Type 0) where
-  pub zip-append : (xs xs' : List A) (ys ys' : List B) → AllZip R xs ys → AllZip R xs' ys' → AllZip R (xs ++ xs') (ys ++ ys')
+  pub zip-append : (xs xs' : List A) (ys ys' : List B) → AllZip R xs ys → AllZip R xs' ys'
+      → AllZip R (xs ++ xs') (ys ++ ys')
   zip-append [] xs' [] ys' p q = q
   zip-append [] xs' (y ∷ ys) ys' p q = absurd p
   zip-append (x ∷ xs) xs' [] ys' p q = absurd p

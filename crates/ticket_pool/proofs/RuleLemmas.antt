@@ -9,7 +9,8 @@ use Rattle.ticket_pool.specs.Numbers.{weigh, same, late_one, late_of, upto, AllB
 use Rattle.ticket_pool.specs.TicketRule.{view, total, IsView, TicketRule, drew, IsWhole, Drew, Looked, kept_part, given_part, joined, spent}
 use Rattle.ticket_pool.proofs.NumberLemmas.{merged-empty, weigh-snoc, weigh-merged, same-upto-high, same-upto-le, late_one-le, late-upto, length-upto, below_from, ascending-snoc, ascending-merged, ascending_same, ascending-upto}
 
-pub total-set : (f : View → ℕ) (l : List View) (i : ℕ) (v w : View) → get_elem? l i ≡ some v → total f (set l i w) + f v ≡ total f l + f w
+pub total-set : (f : View → ℕ) (l : List View) (i : ℕ) (v w : View) → get_elem? l i ≡ some v
+    → total f (set l i w) + f v ≡ total f l + f w
 total-set f [] i v w e = absurd (some-ne-none v (sym e))
 total-set f (x ∷ xs) zero v w e = let is : f x ≡ f v = ap f (some-injective x v e) in omega arith
 total-set f (x ∷ xs) (suc i) v w e = let r = total-set f xs i v w e in omega arith
@@ -23,16 +24,20 @@ total-ge f [] i v e = absurd (some-ne-none v (sym e))
 total-ge f (x ∷ xs) zero v e = let is : f x ≡ f v = ap f (some-injective x v e) in omega arith
 total-ge f (x ∷ xs) (suc i) v e = let r = total-ge f xs i v e in omega arith
 
-total-le : (f g : View → ℕ) (l : List View) → ((i : ℕ) (v : View) → get_elem? l i ≡ some v → f v ≤ g v) → total f l ≤ total g l
+total-le : (f g : View → ℕ) (l : List View) → ((i : ℕ) (v : View) → get_elem? l i ≡ some v → f v ≤ g v)
+    → total f l ≤ total g l
 total-le f g [] h = omega arith
 total-le f g (x ∷ xs) h = let a = h zero x refl in let r = total-le f g xs (λ i v e. h (suc i) v e) in omega arith
 
-total-none : (f : View → ℕ) (l : List View) → total (λ v. v.spawners) l ≡ 0 → ((i : ℕ) (v : View) → get_elem? l i ≡ some v → v.spawners ≡ 0 → f v ≡ 0) → total f l ≡ 0
+total-none : (f : View → ℕ) (l : List View) → total (λ v. v.spawners) l ≡ 0
+    → ((i : ℕ) (v : View) → get_elem? l i ≡ some v → v.spawners ≡ 0 → f v ≡ 0) → total f l ≡ 0
 total-none f [] none h = refl
-total-none f (x ∷ xs) none h = let a = h zero x refl (omega arith) in let r = total-none f xs (omega arith) (λ i v e. h (suc i) v e) in omega arith
+total-none f (x ∷ xs) none h = let a = h zero x refl (omega arith)
+    in let r = total-none f xs (omega arith) (λ i v e. h (suc i) v e) in omega arith
 
 -- where one view has all spawners, it has all of f
-total-alone : (f : View → ℕ) (l : List View) (i : ℕ) (v : View) → get_elem? l i ≡ some v → total (λ u. u.spawners) l ≡ v.spawners
+total-alone : (f : View → ℕ) (l : List View) (i : ℕ) (v : View) → get_elem? l i ≡ some v
+    → total (λ u. u.spawners) l ≡ v.spawners
     → ((j : ℕ) (u : View) → get_elem? l j ≡ some u → u.spawners ≡ 0 → f u ≡ 0) → total f l ≡ f v
 total-alone f [] i v e all h = absurd (some-ne-none v (sym e))
 total-alone f (x ∷ xs) zero v e all h =
@@ -49,14 +54,17 @@ set_at [] i v w e = absurd (some-ne-none v (sym e))
 set_at (x ∷ xs) zero v w e = refl
 set_at (x ∷ xs) (suc i) v w e = set_at xs i v w e
 
-kept_else : (l : List View) (i j : ℕ) (v b : View) → get_elem? l i ≡ some v → ¬ (j ≡ i) → get_elem? (set (set l i b) j spent) i ≡ some b
+kept_else : (l : List View) (i j : ℕ) (v b : View) → get_elem? l i ≡ some v → ¬ (j ≡ i)
+    → get_elem? (set (set l i b) j spent) i ≡ some b
 kept_else l i j v b at apart = set_else (set l i b) j i spent (λ e. apart (sym e)) ∙ set_at l i v b at
 
 at_first : (ws : List ℕ) (n : ℕ) → get_elem? ws 0 ≡ some n → get_or ws 0 0 ≡ n
 at_first [] n e = absurd (some-ne-none n (sym e))
 at_first (x ∷ xs) n e = some-injective x n e
 
-views_set : (jobs : ℕ) (views : List View) (id : ℕ) (w : View) → ((j : ℕ) (u : View) → get_elem? views j ≡ some u → IsView jobs u) → IsView jobs w → (j : ℕ) (u : View) → get_elem? (set views id w) j ≡ some u → IsView jobs u
+views_set : (jobs : ℕ) (views : List View) (id : ℕ) (w : View)
+    → ((j : ℕ) (u : View) → get_elem? views j ≡ some u → IsView jobs u) → IsView jobs w → (j : ℕ) (u : View)
+    → get_elem? (set views id w) j ≡ some u → IsView jobs u
 views_set jobs views id w others mine j u e =
     ⊎_elim
     (λ (x : (j ≡ id) × (w ≡ u)). subst (IsView jobs) x.1 mine)
@@ -71,26 +79,36 @@ module _ (jobs spawners : ℕ) where
   pub word_small : (s : St) → TicketRule jobs spawners s → get_or s.words 0 0 ≤ jobs + spawners
   word_small s r =
       let late = r.1 (late_one jobs) in
-      let le = total-le (λ v. weigh (late_one jobs) v.drawn) (λ v. v.spawners) s.views (λ i v e. let f = r.3 i v e in let is = f.1 in let room = f.2 in omega arith) in
+      let le = total-le (λ v. weigh (late_one jobs) v.drawn) (λ v. v.spawners) s.views
+      (λ i v e. let f = r.3 i v e in let is = f.1 in let room = f.2 in omega arith) in
       let sum = r.2 in
       omega (arith, late-upto jobs (get_or s.words 0 0))
 
   -- a seat with all spawners has drawn exactly the numbers below the word
-  pub whole : (s : St) → TicketRule jobs spawners s → (id : ℕ) (v : View) → get_elem? s.views id ≡ some v → v.spawners ≡ spawners → v.drawn ≡ upto (get_or s.words 0 0)
+  pub whole : (s : St) → TicketRule jobs spawners s → (id : ℕ) (v : View) → get_elem? s.views id ≡ some v
+      → v.spawners ≡ spawners → v.drawn ≡ upto (get_or s.words 0 0)
   whole s r id v at all =
       ascending_same v.drawn (upto (get_or s.words 0 0)) (r.3 id v at).0 (ascending-upto (get_or s.words 0 0))
-      (λ h. sym (total-alone (λ u. weigh h u.drawn) s.views id v at (r.2 ∙ sym all) (λ j u e none. ap (weigh h) ((r.3 j u e).3 none))) ∙ r.1 h)
+      (λ h. sym (total-alone (λ u. weigh h u.drawn) s.views id v at (r.2 ∙ sym all)
+      (λ j u e none. ap (weigh h) ((r.3 j u e).3 none))) ∙ r.1 h)
 
-  is_whole : (s : St) → TicketRule jobs spawners s → (id : ℕ) (v : View) → get_elem? s.views id ≡ some v → IsWhole spawners v
-  is_whole s r id v at all = let e = whole s r id v at all in e ∙ ap upto (sym (ap length e ∙ length-upto (get_or s.words 0 0)))
+  is_whole : (s : St) → TicketRule jobs spawners s → (id : ℕ) (v : View) → get_elem? s.views id ≡ some v
+      → IsWhole spawners v
+  is_whole s r id v at all = let e = whole s r id v at all in e
+      ∙ ap upto (sym (ap length e ∙ length-upto (get_or s.words 0 0)))
 
-  own-le : (s : St) → TicketRule jobs spawners s → (id : ℕ) (v : View) → get_elem? s.views id ≡ some v → (h : ℕ → ℕ) → weigh h v.drawn ≤ weigh h (upto (get_or s.words 0 0))
+  own-le : (s : St) → TicketRule jobs spawners s → (id : ℕ) (v : View) → get_elem? s.views id ≡ some v
+      → (h : ℕ → ℕ) → weigh h v.drawn ≤ weigh h (upto (get_or s.words 0 0))
   own-le s r id v at h = let t = total-ge (λ u. weigh h u.drawn) s.views id v at in let e = r.1 h in omega arith
 
-  own_below : (s : St) → TicketRule jobs spawners s → (id : ℕ) (v : View) → get_elem? s.views id ≡ some v → AllBelow (get_or s.words 0 0) v.drawn
-  own_below s r id v at = below_from (get_or s.words 0 0) v.drawn (λ x le. let t = own-le s r id v at (same x) in let z = same-upto-high x (get_or s.words 0 0) le in omega arith)
+  own_below : (s : St) → TicketRule jobs spawners s → (id : ℕ) (v : View) → get_elem? s.views id ≡ some v
+      → AllBelow (get_or s.words 0 0) v.drawn
+  own_below s r id v at = below_from (get_or s.words 0 0) v.drawn
+      (λ x le. let t = own-le s r id v at (same x) in let z = same-upto-high x (get_or s.words 0 0) le
+      in omega arith)
 
-  pub draws : (slots id : ℕ) (me : Me (Unit {0}) View) → jobs + spawners < 2 ^ 32 → me.0.late < me.0.spawners → Allows (TicketRule jobs spawners) slots id me 0 (λ n. (n + 1) % 2 ^ 64) (Drew jobs spawners me)
+  pub draws : (slots id : ℕ) (me : Me (Unit {0}) View) → jobs + spawners < 2 ^ 32 → me.0.late < me.0.spawners
+      → Allows (TicketRule jobs spawners) slots id me 0 (λ n. (n + 1) % 2 ^ 64) (Drew jobs spawners me)
   draws slots id me small room s r _ at _ =
       let n : ℕ = get_or s.words 0 0 in
       let w : View = drew jobs me.0 n in
@@ -108,7 +126,8 @@ module _ (jobs spawners : ℕ) where
         (λ h.
             let t = total-set (λ v. weigh h v.drawn) s.views id me.0 w at in
             let e = r.1 h in
-            let a : weigh h (upto (get_or (set s.words 0 m) 0 0)) ≡ weigh h (upto (suc n)) = ap (λ k. weigh h (upto k)) word in
+            let a : weigh h (upto (get_or (set s.words 0 m) 0 0)) ≡ weigh h (upto (suc n)) = ap
+            (λ k. weigh h (upto k)) word in
             omega (arith, weigh-snoc h me.0.drawn n, weigh-snoc h (upto n) n)),
         (let t = total-set (λ v. v.spawners) s.views id me.0 w at in let e = r.2 in omega arith),
         views_set jobs s.views id w r.3 (
@@ -120,7 +139,8 @@ module _ (jobs spawners : ℕ) where
       ) in
       (w, keeps, tt, kept, (refl, refl, below, ascending, is_whole s' kept id w (set_at s.views id me.0 w at)))
 
-  pub sees : (slots id : ℕ) (me : Me (Unit {0}) View) → Allows (TicketRule jobs spawners) slots id me 0 (λ n. n) (λ n me'. Looked spawners me me')
+  pub sees : (slots id : ℕ) (me : Me (Unit {0}) View) → Allows (TicketRule jobs spawners) slots id me 0 (λ n. n)
+      (λ n me'. Looked spawners me me')
   sees slots id me s r _ at _ =
       let n : ℕ = get_or s.words 0 0 in
       let wide = r.0 in
@@ -135,7 +155,8 @@ module _ (jobs spawners : ℕ) where
       ) in
       (me.0, keeps, tt, kept, (refl, refl, (r.3 id me.0 at).0, is_whole s r id me.0 at))
 
-  pub cuts : (id k : ℕ) (v : View) → v.drawn ≡ [] → 1 ≤ k → k < v.spawners → Splits (TicketRule jobs spawners) id v (kept_part k v) (given_part k v)
+  pub cuts : (id k : ℕ) (v : View) → v.drawn ≡ [] → 1 ≤ k → k < v.spawners
+      → Splits (TicketRule jobs spawners) id v (kept_part k v) (given_part k v)
   cuts id k v none some_given some_left s r at = (
     r.0,
     (λ h.
@@ -152,20 +173,28 @@ module _ (jobs spawners : ℕ) where
   )
     where
       left_view : IsView jobs (kept_part k v)
-      left_view = let mine = r.3 id v at in (mine.0, mine.1, (let e : v.late ≡ 0 = mine.1 ∙ ap (late_of jobs) none in omega arith), λ z. none)
+      left_view = let mine = r.3 id v at in (
+        mine.0,
+        mine.1,
+        (let e : v.late ≡ 0 = mine.1 ∙ ap (late_of jobs) none in omega arith),
+        λ z. none,
+      )
 
   pub joins : (id other : ℕ) (v w : View) → Joins (TicketRule jobs spawners) id v other w (joined v w) spent
   joins id other v w s r at apart there =
       let b : View = joined v w in
-      let theirs : get_elem? s.views other ≡ some w = ⊎_elim (λ (t : (other ≡ id) × (b ≡ w)). absurd (apart t.0)) (λ (t : (other ≢ id) × (get_elem? s.views other ≡ some w)). t.1) (at_set s.views id other b w there) in
+      let theirs : get_elem? s.views other ≡ some w = ⊎_elim (λ (t : (other ≡ id) × (b ≡ w)). absurd (apart t.0))
+      (λ (t : (other ≢ id) × (get_elem? s.views other ≡ some w)). t.1) (at_set s.views id other b w there) in
       let f = r.3 id v at in
       let g = r.3 other w theirs in
       let two : (h : ℕ → ℕ) → weigh h v.drawn + weigh h w.drawn ≤ weigh h (upto (get_or s.words 0 0)) = λ h.
       let t = total-set (λ u. weigh h u.drawn) s.views id v b at in
       let u = total-set (λ u. weigh h u.drawn) (set s.views id b) other w spent there in
-      let l = total-ge (λ u. weigh h u.drawn) (set (set s.views id b) other spent) id b (kept_else s.views id other v b at apart) in
+      let l = total-ge (λ u. weigh h u.drawn) (set (set s.views id b) other spent) id b
+      (kept_else s.views id other v b at apart) in
       let e = r.1 h in omega (arith, weigh-merged h v.drawn w.drawn) in
-      let disjoint : Apart v.drawn w.drawn = λ x. let t = two (same x) in let z = same-upto-le x (get_or s.words 0 0) in omega arith in
+      let disjoint : Apart v.drawn w.drawn = λ x. let t = two (same x)
+      in let z = same-upto-le x (get_or s.words 0 0) in omega arith in
       let is_view : IsView jobs b = (
         ascending-merged v.drawn w.drawn disjoint f.0 g.0,
         (let p = f.1 in let q = g.1 in omega (arith, weigh-merged (late_one jobs) v.drawn w.drawn)),
@@ -180,18 +209,22 @@ module _ (jobs spawners : ℕ) where
         (let t = total-set (λ u. u.spawners) s.views id v b at in
             let u = total-set (λ u. u.spawners) (set s.views id b) other w spent there in
             let e = r.2 in omega arith),
-        views_set jobs (set s.views id b) other spent (views_set jobs s.views id b r.3 is_view) (tt, refl, omega arith, λ z. refl),
+        views_set jobs (set s.views id b) other spent (views_set jobs s.views id b r.3 is_view)
+            (tt, refl, omega arith, λ z. refl),
       )
 
   pub opens : (ws : List ℕ) → ws ≡ 0 ∷ [] → TicketRule jobs spawners (opening ws [] (view [] spawners 0))
-  opens ws is = subst (λ (l : List ℕ). TicketRule jobs spawners (opening l [] (view [] spawners 0))) (sym is) (refl, (λ h. refl), omega arith, only)
+  opens ws is = subst (λ (l : List ℕ). TicketRule jobs spawners (opening l [] (view [] spawners 0))) (sym is)
+      (refl, (λ h. refl), omega arith, only)
     where
       only : (i : ℕ) (v : View) → get_elem? (view [] spawners 0 ∷ []) i ≡ some v → IsView jobs v
       only zero v e = subst (IsView jobs) (some-injective _ _ e) (tt, refl, omega arith, λ z. refl)
       only (suc i) v e = absurd (some-ne-none v (sym e))
 
   -- what the last seat learns of the word
-  pub closes : (id : ℕ) (v : View) (ws : List ℕ) (xs : List (Unit {0})) (n : ℕ) → Final (Seen (TicketRule jobs spawners) id v) ws xs → v.spawners ≡ spawners → get_elem? ws 0 ≡ some n → (v.drawn ≡ upto n) × (n ≤ jobs + spawners)
+  pub closes : (id : ℕ) (v : View) (ws : List ℕ) (xs : List (Unit {0})) (n : ℕ)
+      → Final (Seen (TicketRule jobs spawners) id v) ws xs → v.spawners ≡ spawners → get_elem? ws 0 ≡ some n
+      → (v.drawn ≡ upto n) × (n ≤ jobs + spawners)
   closes id v ws xs n f all first =
       let s = f.0 in
       let r = f.1.0 in
@@ -199,13 +232,19 @@ module _ (jobs spawners : ℕ) where
       ((whole s r id v f.1.1 all ∙ ap upto word), (let low = word_small s r in omega arith))
 
 -- the steps, where the numbers go by another name
-pub draws_as : (jobs spawners j d slots id : ℕ) (me : Me (Unit {0}) View) → j ≡ jobs → d ≡ spawners → jobs + spawners < 2 ^ 32 → me.0.late < me.0.spawners
+pub draws_as : (jobs spawners j d slots id : ℕ) (me : Me (Unit {0}) View) → j ≡ jobs → d ≡ spawners
+    → jobs + spawners < 2 ^ 32 → me.0.late < me.0.spawners
     → Allows (TicketRule jobs spawners) slots id me 0 (λ n. (n + 1) % 2 ^ 64) (Drew j d me)
 draws_as jobs spawners j d slots id me p q small room =
-    subst (λ (k : ℕ × ℕ). Allows (TicketRule jobs spawners) slots id me 0 (λ n. (n + 1) % 2 ^ 64) (Drew k.0 k.1 me)) (λ i. (sym p i, sym q i)) (draws jobs spawners slots id me small room)
+    subst (λ (k : ℕ × ℕ). Allows (TicketRule jobs spawners) slots id me 0 (λ n. (n + 1) % 2 ^ 64)
+    (Drew k.0 k.1 me)) (λ i. (sym p i, sym q i)) (draws jobs spawners slots id me small room)
 
-pub sees_as : (jobs spawners d slots id : ℕ) (me : Me (Unit {0}) View) → d ≡ spawners → Allows (TicketRule jobs spawners) slots id me 0 (λ n. n) (λ n me'. Looked d me me')
-sees_as jobs spawners d slots id me q = subst (λ (k : ℕ). Allows (TicketRule jobs spawners) slots id me 0 (λ n. n) (λ n me'. Looked k me me')) (sym q) (sees jobs spawners slots id me)
+pub sees_as : (jobs spawners d slots id : ℕ) (me : Me (Unit {0}) View) → d ≡ spawners
+    → Allows (TicketRule jobs spawners) slots id me 0 (λ n. n) (λ n me'. Looked d me me')
+sees_as jobs spawners d slots id me q = subst
+    (λ (k : ℕ). Allows (TicketRule jobs spawners) slots id me 0 (λ n. n) (λ n me'. Looked k me me')) (sym q)
+    (sees jobs spawners slots id me)
 
-pub joined-fresh : (v w : View) → (v.drawn ≡ [] → v.late ≡ 0) → (w.drawn ≡ [] → w.late ≡ 0) → (joined v w).drawn ≡ [] → (joined v w).late ≡ 0
+pub joined-fresh : (v w : View) → (v.drawn ≡ [] → v.late ≡ 0) → (w.drawn ≡ [] → w.late ≡ 0)
+    → (joined v w).drawn ≡ [] → (joined v w).late ≡ 0
 joined-fresh v w f g e = let m = merged-empty v.drawn w.drawn e in let p = f m.0 in let q = g m.1 in omega arith

@@ -27,7 +27,12 @@ draw round worker =
 -- a worker gives a number its answer
 abbrev pub give : Round → ℕ → ℕ → Probed → Round
 give round number worker probed =
-    record { next = round.next; held = put round.held worker None; answers = put round.answers number (Some (worker, probed)) }
+    record {
+      next = round.next;
+      held = put round.held worker None;
+      answers = put round.answers number
+          (Some (worker, probed));
+    }
 
 -- a worker gives its answer to the number that it holds
 abbrev pub end : Option ℕ → Round → ℕ → Probed → Round

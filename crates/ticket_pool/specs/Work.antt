@@ -20,7 +20,8 @@ numbers list = map (λ answer. answer.number) list
 -- the runs of these answers
 abbrev pub rows : List DetectJob → List Answer → List Ran
 rows jobs list =
-    filter_map (λ answer. option_map (λ job. record { job = job; probed = answer.probed }) (slice_get jobs answer.number)) list
+    filter_map (λ answer. option_map (λ job. record { job = job; probed = answer.probed })
+    (slice_get jobs answer.number)) list
 
 -- answers of jobs, their numbers ascending
 abbrev pub IsDealt : ℕ → List Answer → Type 0
@@ -57,7 +58,8 @@ pub record DrewAll (jobs workers : ℕ) (lists : List (List Answer)) (pass : Vie
 -- What workers with one pass did, of all those of a round: each spawner's new runs are those of its list, whose numbers
 -- the pass has drawn.
 pub record Worked {S : Type 0} (runs : S → List Ran) (says : S → Option (List Reply)) (faults : S → ℕ)
-    (jobs : List DetectJob) (all : ℕ) (olds news : List S) (lists : List (List Answer)) (pass : View) (end : Result (Unit {0}) PoolFault) : Type 0 where
+    (jobs : List DetectJob) (all : ℕ) (olds news : List S) (lists : List (List Answer)) (pass : View)
+    (end : Result (Unit {0}) PoolFault) : Type 0 where
   pub ran : RanLists runs jobs olds news lists
   pub spawners : pass.spawners ≡ length olds
   pub late : pass.late ≤ length olds

@@ -40,14 +40,17 @@ some_value (Some v) lt = refl
 some_value None lt = absurd (omega arith)
 
 -- a digit reads as a value, whose digit it is
-pub digit : (c : ℕ) → is_lower_digit c ≡ true → (v : ℕ) × (v < 16) × (hex_digit_value c ≡ Some v) × (slice_index lower_digits v ≡ c)
+pub digit : (c : ℕ) → is_lower_digit c ≡ true → (v : ℕ) × (v < 16) × (hex_digit_value c ≡ Some v)
+    × (slice_index lower_digits v ≡ c)
 digit c h =
-    let test = or_digit (is_lower_digit c) (nat_lt (value_of c) 16 && (slice_index lower_digits (value_of c) == c)) (at_char 128 c refl (small c h)) h in
+    let test = or_digit (is_lower_digit c) (nat_lt (value_of c) 16
+    && (slice_index lower_digits (value_of c) == c)) (at_char 128 c refl (small c h)) h in
     let parts = and_parts (nat_lt (value_of c) 16) (slice_index lower_digits (value_of c) == c) test in
     let lt : value_of c < 16 = ltb-true (value_of c) 16 parts.0 in
     (value_of c, lt, some_value (hex_digit_value c) lt, eqb-true (slice_index lower_digits (value_of c)) c parts.1)
 
-pub lower_read : (i : ℕ) (text : List ℕ) → length text % 2 ≡ 0 → list_all is_lower_digit text ≡ true → (bytes : List ℕ) × (decode_pairs i text ≡ Ok bytes) × (encode_lower bytes ≡ text)
+pub lower_read : (i : ℕ) (text : List ℕ) → length text % 2 ≡ 0 → list_all is_lower_digit text ≡ true
+    → (bytes : List ℕ) × (decode_pairs i text ≡ Ok bytes) × (encode_lower bytes ≡ text)
 unfolding decode_pairs encode_with
 lower_read i [] even h = ([], refl, refl)
 lower_read i (a ∷ []) even h = absurd (omega arith)
@@ -68,11 +71,13 @@ lower_read i (a ∷ b ∷ rest) even h =
     let second : slice_index lower_digits ((da.0 * 16 + db.0) % 16) ≡ b = ap (slice_index lower_digits) low ∙ db.3 in (
       (da.0 * 16 + db.0) ∷ ih.0,
       decode_pairs-ok_pair i a b (da.0 * 16 + db.0) rest pair ∙ ap (cons_byte (da.0 * 16 + db.0)) ih.1,
-      ap (λ x. x ∷ slice_index lower_digits ((da.0 * 16 + db.0) % 16) ∷ encode_lower ih.0) first ∙ ap (λ x. a ∷ x ∷ encode_lower ih.0) second ∙ ap (λ x. a ∷ b ∷ x) ih.2,
+      ap (λ x. x ∷ slice_index lower_digits ((da.0 * 16 + db.0) % 16) ∷ encode_lower ih.0) first
+          ∙ ap (λ x. a ∷ x ∷ encode_lower ih.0) second ∙ ap (λ x. a ∷ b ∷ x) ih.2,
     )
 
 -- a text of 64 lower case digits is read, and is the text of what is read
-pub digest_read : (text : List ℕ) → is_digest_text text ≡ true → (bytes : List ℕ) × (decode_sized text 32 ≡ Ok bytes) × (text ≡ encode_lower bytes)
+pub digest_read : (text : List ℕ) → is_digest_text text ≡ true → (bytes : List ℕ)
+    × (decode_sized text 32 ≡ Ok bytes) × (text ≡ encode_lower bytes)
 digest_read text h =
     let parts = and_parts (length text == 64) (list_all is_lower_digit text) h in
     let size : length text ≡ 64 = eqb-true (length text) 64 parts.0 in
@@ -91,15 +96,18 @@ at_value (suc n) k h lt =
     let parts = and_parts (is_lower_digit (slice_index lower_digits n)) (all_digits n) h in
     elim (cases_lt k n) [
       | inl below ↦ at_value n k parts.1 below
-      | inr top ↦ let e : n ≡ k = omega arith in subst (λ x. is_lower_digit (slice_index lower_digits x) ≡ true) e parts.0
+      | inr top ↦ let e : n ≡ k = omega arith in subst (λ x. is_lower_digit (slice_index lower_digits x) ≡ true) e
+          parts.0
     ]
 
-pub lower_digits_all : (bytes : List ℕ) → ((i : ℕ) → slice_index bytes i < 256) → list_all is_lower_digit (encode_lower bytes) ≡ true
+pub lower_digits_all : (bytes : List ℕ) → ((i : ℕ) → slice_index bytes i < 256)
+    → list_all is_lower_digit (encode_lower bytes) ≡ true
 unfolding encode_with
 lower_digits_all [] fit = refl
 lower_digits_all (b ∷ bs) fit =
     let few : b < 256 = fit 0 in
-    and_from _ _ (at_value 16 (b / 16) refl (omega arith)) (and_from _ _ (at_value 16 (b % 16) refl (omega arith)) (lower_digits_all bs (λ i. fit (suc i))))
+    and_from _ _ (at_value 16 (b / 16) refl (omega arith))
+    (and_from _ _ (at_value 16 (b % 16) refl (omega arith)) (lower_digits_all bs (λ i. fit (suc i))))
 
 lower_length : (bytes : List ℕ) → length (encode_lower bytes) ≡ 2 * length bytes
 unfolding encode_with
@@ -107,5 +115,8 @@ lower_length [] = refl
 lower_length (b ∷ bs) = let rest : length (encode_lower bs) ≡ 2 * length bs = lower_length bs in omega arith
 
 -- 32 bytes are written with 64 digits
-pub lower_text : (bytes : List ℕ) → length bytes ≡ 32 → ((i : ℕ) → slice_index bytes i < 256) → is_digest_text (encode_lower bytes) ≡ true
-lower_text bytes size fit = and_from _ _ (ap (λ n. n == 64) (let e : length (encode_lower bytes) ≡ 64 = omega (arith, lower_length bytes) in e)) (lower_digits_all bytes fit)
+pub lower_text : (bytes : List ℕ) → length bytes ≡ 32 → ((i : ℕ) → slice_index bytes i < 256)
+    → is_digest_text (encode_lower bytes) ≡ true
+lower_text bytes size fit = and_from _ _ (ap (λ n. n == 64)
+    (let e : length (encode_lower bytes) ≡ 64 = omega (arith, lower_length bytes) in e))
+    (lower_digits_all bytes fit)

@@ -21,9 +21,19 @@ divided bytes kind = record {
 pub tree_spells : (root : Node) (bytes : List ℕ) → is_tree root ≡ true → bytes ≡ spelling_of root → Spells root bytes
 tree_spells root bytes tree is =
     let parts = and_parts (fits root 0) (nat_le (length (spelling_of root)) limit) tree in
-    record { fit = parts.0; size = omega (arith, leb-true (length (spelling_of root)) limit parts.1, ap length is); is = is }
+    record {
+      fit = parts.0;
+      size = omega (
+        arith,
+        leb-true (length (spelling_of root)) limit parts.1,
+        ap length
+            is,
+      );
+      is = is;
+    }
 
 -- two trees are equal exactly where their bytes are
-pub same_exactly : (root other : Node) (bytes spelling : List ℕ) → Spells root bytes → Spells other spelling → (spelling ≡ bytes) ↔ (other ≡ root)
+pub same_exactly : (root other : Node) (bytes spelling : List ℕ) → Spells root bytes → Spells other spelling
+    → (spelling ≡ bytes) ↔ (other ≡ root)
 same_exactly root other bytes spelling a b =
     (λ e. one_tree bytes other root (subst (Spells other) e b) a, λ e. b.is ∙ ap spelling_of e ∙ sym a.is)

@@ -28,7 +28,8 @@ use Rattle.tree_canon.proofs.Scans.{taken_of}
 use Rattle.tree_canon.proofs.Tells.{given_all}
 use Rattle.tree_canon.proofs.Making.{cut_made}
 
-module _ (at : ℕ) (c : CutTree) (part bytes piece : List ℕ) (fits : IsBytes piece) (reads : SpellsUpTo at c part bytes) where
+module _ (at : ℕ) (c : CutTree) (part bytes piece : List ℕ) (fits : IsBytes piece)
+    (reads : SpellsUpTo at c part bytes) where
   holds_on : Holds (run (Going at c part) piece) (bytes ++ piece)
   holds_on = run_holds (Going at c part) bytes piece fits reads
 
@@ -36,7 +37,8 @@ module _ (at : ℕ) (c : CutTree) (part bytes piece : List ℕ) (fits : IsBytes 
   pub divided_on : IsDivided (bytes ++ piece)
   divided_on = divided (bytes ++ piece) (by_state (run (Going at c part) piece) (bytes ++ piece) holds_on)
 
-  pub broken_on : (place : ℕ) (reason : Reason) → run (Going at c part) piece ≡ Stuck place reason → IsBroken (bytes ++ piece) place reason
+  pub broken_on : (place : ℕ) (reason : Reason) → run (Going at c part) piece ≡ Stuck place reason
+      → IsBroken (bytes ++ piece) place reason
   broken_on place reason e = subst (λ (s : State). Holds s (bytes ++ piece)) e holds_on
 
 -- what was read of bytes that go on has no broken field
@@ -45,9 +47,11 @@ reads_unbroken at c part bytes h place reason broken =
     let n : ℕ = length (cut_bytes c) in
     let runs : run start bytes ≡ Going (length (cut_bytes c)) c part
     = ap (run start) h.is ∙ run-append start (cut_bytes c) part
-    ∙ ap (λ s. run s part) ((cut_moves c h.sound).is ∙ ap (λ m. Going m c []) (let z : 0 + length (cut_bytes c) ≡ length (cut_bytes c) = omega arith in z))
+    ∙ ap (λ s. run s part) ((cut_moves c h.sound).is ∙ ap (λ m. Going m c [])
+    (let z : 0 + length (cut_bytes c) ≡ length (cut_bytes c) = omega arith in z))
     ∙ part_kept (length (cut_bytes c)) c [] part h.partial in
-    let same : Stuck place reason ≡ Going (length (cut_bytes c)) c part = sym (broken_runs bytes place reason broken) ∙ runs in
+    let same : Stuck place reason ≡ Going (length (cut_bytes c)) c part = sym
+    (broken_runs bytes place reason broken) ∙ runs in
     cc
 
 -- ---- what a decoder has read
@@ -99,10 +103,13 @@ module _ (s : Scanner) (b : Building) (bytes : List ℕ) (h : HasMade s b bytes)
 
   -- the bytes are those that a decoder's fields tell
   pub read_is : bytes ≡ bytes_read s b
-  read_is = h.told.reads.is ∙ ap (λ x. cut_bytes h.told.cut ++ x) (sym part_is) ∙ ap (λ c. cut_bytes c ++ part_of b.current s.part.items) (sym cut_is)
+  read_is = h.told.reads.is ∙ ap (λ x. cut_bytes h.told.cut ++ x) (sym part_is)
+      ∙ ap (λ c. cut_bytes c ++ part_of b.current s.part.items) (sym cut_is)
 
 -- before the first byte
-pub between_none : (s : Scanner) (b : Building) → HasTold s [] [] → bytes_taken s.next s.part.items < field_width s.next → IsSmall s → s.owed ≡ 0 → made b ≡ made_none → IsBetween s b
+pub between_none : (s : Scanner) (b : Building) → HasTold s [] []
+    → bytes_taken s.next s.part.items < field_width s.next → IsSmall s → s.owed ≡ 0 → made b ≡ made_none
+    → IsBetween s b
 between_none s b told partial small owed is =
     let h : HasMade s b [] = record { given = []; told = told; is = is } in
     record { partial = partial; small = small; owed = owed; made = subst (HasMade s b) (read_is s b [] h owed) h }
@@ -112,7 +119,8 @@ between_none s b told partial small owed is =
 pub between : (s : Scanner) (b : Building) (o : Option DecodeFault) → o ≡ None → IsDecoding s b o → IsBetween s b
 between s b o none h = subst (IsDecoding s b) none h
 
-fed_is : (s : Scanner) (b : Building) (o : Option DecodeFault) (now : Fed) → fed_by s b o ≡ now → o ≡ None → now ≡ Ok (bytes_read s b)
+fed_is : (s : Scanner) (b : Building) (o : Option DecodeFault) (now : Fed) → fed_by s b o ≡ now → o ≡ None
+    → now ≡ Ok (bytes_read s b)
 fed_is s b o now is none = sym is ∙ ap (fed_by s b) none
 
 -- what a call makes of a scanner and of a tree under way, where it has read all bytes
@@ -122,7 +130,8 @@ pub record HasReadAll (s t : Scanner) (b d : Building) (bytes : List ℕ) : Type
   pub owed : t.owed ≡ 0
   pub made : (before : List ℕ) → HasMade s b before → HasMade t d (before ++ bytes)
 
-module _ (s : Scanner) (b : Building) (o : Option DecodeFault) (now : Fed) (piece : List ℕ) (fits : IsBytes piece) (is : fed_by s b o ≡ now) (none : o ≡ None) (h : IsDecoding s b o) where
+module _ (s : Scanner) (b : Building) (o : Option DecodeFault) (now : Fed) (piece : List ℕ) (fits : IsBytes piece)
+    (is : fed_by s b o ≡ now) (none : o ≡ None) (h : IsDecoding s b o) where
   here : IsBetween s b
   here = between s b o none h
 
@@ -132,30 +141,49 @@ module _ (s : Scanner) (b : Building) (o : Option DecodeFault) (now : Fed) (piec
   pub keeps_decoding : (t : Scanner) (d : Building) → HasReadAll s t b d piece → IsDecoding t d o
   keeps_decoding t d n =
       let m = made_next t d n in
-      subst (IsDecoding t d) (sym none) (record { partial = n.partial; small = n.small; owed = n.owed; made = subst (HasMade t d) (read_is t d (bytes_read s b ++ piece) m n.owed) m })
+      subst (IsDecoding t d) (sym none) (record {
+        partial = n.partial;
+        small = n.small;
+        owed = n.owed;
+        made =
+            subst (HasMade t d) (read_is t d (bytes_read s b ++ piece) m n.owed) m;
+      })
 
   pub feeds_ok : (t : Scanner) (d : Building) → HasReadAll s t b d piece → Feeds now piece (Ok tt) (fed_by t d o)
   feeds_ok t d n =
       let m = made_next t d n in
       let after : FeedsTo (bytes_read s b ++ piece) (Ok tt) (fed_by t d o)
-      = (reads_unbroken m.told.count m.told.cut m.told.part (bytes_read s b ++ piece) m.told.reads, ap (fed_by t d) none ∙ ap Ok (sym (read_is t d (bytes_read s b ++ piece) m n.owed))) in
+      = (
+        reads_unbroken m.told.count m.told.cut m.told.part (bytes_read s b ++ piece) m.told.reads,
+        ap
+            (fed_by t d) none ∙ ap Ok (sym (read_is t d (bytes_read s b ++ piece) m n.owed)),
+      ) in
       subst (λ f. Feeds f piece (Ok tt) (fed_by t d o)) (sym (fed_is s b o now is none)) after
 
-  feeds_fault : (fault : DecodeFault) → ((state : State) → IsAt s state → (at : ℕ) (reason : Reason) → fault ≡ faults.Bad at reason → run state piece ≡ Stuck at reason) → FeedsTo (bytes_read s b ++ piece) (Err fault) (Err fault)
+  feeds_fault : (fault : DecodeFault) → ((state : State) → IsAt s state → (at : ℕ) (reason : Reason)
+      → fault ≡ faults.Bad at reason → run state piece ≡ Stuck at reason)
+      → FeedsTo (bytes_read s b ++ piece) (Err fault) (Err fault)
   feeds_fault (faults.Bad at reason) bad =
-      let told = here.made.told in
-      (broken_on told.count told.cut told.part (bytes_read s b) piece fits told.reads at reason (bad (Going told.count told.cut told.part) told.reached at reason refl), refl)
+      let told = here.made.told in (
+        broken_on told.count told.cut told.part (bytes_read s b) piece fits told.reads at reason
+            (bad (Going told.count told.cut told.part) told.reached at reason refl),
+        refl,
+      )
   feeds_fault faults.Memory bad = refl
 
-  pub feeds_err : (fault : DecodeFault) → ((state : State) → IsAt s state → (at : ℕ) (reason : Reason) → fault ≡ faults.Bad at reason → run state piece ≡ Stuck at reason) → Feeds now piece (Err fault) (Err fault)
-  feeds_err fault bad = subst (λ f. Feeds f piece (Err fault) (Err fault)) (sym (fed_is s b o now is none)) (feeds_fault fault bad)
+  pub feeds_err : (fault : DecodeFault) → ((state : State) → IsAt s state → (at : ℕ) (reason : Reason)
+      → fault ≡ faults.Bad at reason → run state piece ≡ Stuck at reason)
+      → Feeds now piece (Err fault) (Err fault)
+  feeds_err fault bad = subst (λ f. Feeds f piece (Err fault) (Err fault)) (sym (fed_is s b o now is none))
+      (feeds_fault fault bad)
 
   pub feeds_divided : (bytes : List ℕ) → now ≡ Ok bytes → IsDivided (bytes ++ piece)
   feeds_divided bytes e =
       let told = here.made.told in
       let same : Ok (bytes_read s b) ≡ Ok bytes = sym (fed_is s b o now is none) ∙ e in
       let eq : bytes_read s b ≡ bytes = cc in
-      subst (λ x. IsDivided (x ++ piece)) eq (divided_on told.count told.cut told.part (bytes_read s b) piece fits told.reads)
+      subst (λ x. IsDivided (x ++ piece)) eq (divided_on told.count told.cut told.part
+      (bytes_read s b) piece fits told.reads)
 
 -- ---- the end
 
@@ -174,11 +202,22 @@ width_few (Target size) = omega arith
 width_few (End node) = omega arith
 
 -- how many bytes a scanner was given
-pub all_read : (s : Scanner) (at : ℕ) (c : CutTree) (part bytes : List ℕ) (size : ℕ) → SpellsUpTo at c part bytes → HasReached s at c part → size ≡ min (s.at + bytes_taken s.next s.part.items) 18446744073709551615 → size ≡ length bytes
+pub all_read : (s : Scanner) (at : ℕ) (c : CutTree) (part bytes : List ℕ) (size : ℕ) → SpellsUpTo at c part bytes
+    → HasReached s at c part → size ≡ min (s.at + bytes_taken s.next s.part.items) 18446744073709551615
+    → size ≡ length bytes
 all_read s at c part bytes size reads reached is =
     let taken = taken_of s c.hole part reached.next reached.part in
-    let all : s.at + bytes_taken s.next s.part.items ≡ length bytes = omega (arith, taken, reached.at, reads.place, ap length reads.is, length-append (cut_bytes c) part) in
-    let small : length bytes ≤ 1073741832 = omega (arith, width_few c.hole, reads.partial, reads.sound.size, ap length reads.is, length-append (cut_bytes c) part) in
+    let all : s.at + bytes_taken s.next s.part.items ≡ length bytes = omega
+    (arith, taken, reached.at, reads.place, ap length reads.is, length-append (cut_bytes c) part) in
+    let small : length bytes ≤ 1073741832 = omega (
+      arith,
+      width_few c.hole,
+      reads.partial,
+      reads.sound.size,
+      ap length reads.is,
+      length-append
+          (cut_bytes c) part,
+    ) in
     let few : s.at + bytes_taken s.next s.part.items ≤ 18446744073709551615 = omega (arith, all, small) in
     is ∙ min-eq_left few ∙ all
 
@@ -196,12 +235,16 @@ not_ended (Target size) h = refl
 not_ended (End node) h = absurd (h node refl)
 
 -- the tree that is answered is the one that the bytes spell
-pub exactly : (now : Fed) (result : Result Node DecodeFault) → Ends now result → (tree : Node) (bytes : List ℕ) → now ≡ Ok bytes → (result ≡ Ok tree) ↔ Spells tree bytes
+pub exactly : (now : Fed) (result : Result Node DecodeFault) → Ends now result → (tree : Node) (bytes : List ℕ)
+    → now ≡ Ok bytes → (result ≡ Ok tree) ↔ Spells tree bytes
 exactly (Err fault) result h tree bytes e = absurd cc
 exactly (Ok fed) (Ok root) h tree bytes e =
     let same : fed ≡ bytes = cc in
-    let spells : Spells root bytes = subst (Spells root) same h in
-    (λ is. let eq : root ≡ tree = cc in subst (λ x. Spells x bytes) eq spells, λ s. ap Ok (one_tree bytes root tree spells s))
+    let spells : Spells root bytes = subst (Spells root) same h in (
+      λ is. let eq : root ≡ tree = cc in subst (λ x. Spells x bytes) eq spells,
+      λ s. ap Ok
+          (one_tree bytes root tree spells s),
+    )
 exactly (Ok fed) (Err fault) h tree bytes e =
     let same : fed ≡ bytes = cc in
     let short : IsShort bytes = subst IsShort same h.0 in
@@ -220,37 +263,57 @@ root_at (Contents exec size) part root is = absurd cc
 root_at TargetLength part root is = absurd cc
 root_at (Target size) part root is = absurd cc
 
-measured_at : (ls : List OpenFolder) (root : Node) (at : ℕ) (part bytes : List ℕ) → SpellsUpTo at (cut_at ls (End root)) part bytes → IsMeasured root at
+measured_at : (ls : List OpenFolder) (root : Node) (at : ℕ) (part bytes : List ℕ)
+    → SpellsUpTo at (cut_at ls (End root)) part bytes → IsMeasured root at
 measured_at ls root at part bytes h =
     let none = h.sound.hole.1 in
     let is = h.place ∙ ap (λ (x : List OpenFolder). length (cut_bytes (cut_at x (End root)))) none in
     record { fit = h.sound.hole.0; few = omega (arith, h.sound.size, h.place); is = is }
 
-module _ (s : Scanner) (b : Building) (o : Option DecodeFault) (now : Fed) (is : fed_by s b o ≡ now) (none : o ≡ None) (h : IsDecoding s b o) where
+module _ (s : Scanner) (b : Building) (o : Option DecodeFault) (now : Fed) (is : fed_by s b o ≡ now)
+    (none : o ≡ None) (h : IsDecoding s b o) where
   last : IsBetween s b
   last = between s b o none h
 
   current_is : b.current ≡ current_of last.made.told.cut.hole last.made.told.part
   current_is = ap (λ (m : Made). m.current) (made_is s b (bytes_read s b) last.made last.owed)
 
-  reads_whole : (root : Node) → b.current ≡ current.Whole root → SpellsUpTo last.made.told.count (cut_at last.made.told.cut.folders (End root)) last.made.told.part (bytes_read s b)
+  reads_whole : (root : Node) → b.current ≡ current.Whole root
+      → SpellsUpTo last.made.told.count (cut_at last.made.told.cut.folders (End root)) last.made.told.part
+      (bytes_read s b)
   reads_whole root end =
-      subst (λ x. SpellsUpTo last.made.told.count (cut_at last.made.told.cut.folders x) last.made.told.part (bytes_read s b))
+      subst (λ x. SpellsUpTo last.made.told.count (cut_at last.made.told.cut.folders x) last.made.told.part
+      (bytes_read s b))
       (root_at last.made.told.cut.hole last.made.told.part root (sym current_is ∙ end)) last.made.told.reads
 
   pub measured : (root : Node) → b.current ≡ current.Whole root → IsMeasured root s.at
   measured root end =
-      subst (IsMeasured root) (sym last.made.told.reached.at) (measured_at last.made.told.cut.folders root last.made.told.count last.made.told.part (bytes_read s b) (reads_whole root end))
+      subst (IsMeasured root) (sym last.made.told.reached.at)
+      (measured_at last.made.told.cut.folders root last.made.told.count last.made.told.part (bytes_read s b)
+      (reads_whole root end))
 
   pub ends_whole : (root : Node) → b.current ≡ current.Whole root → Ends now (Ok root)
   ends_whole root end =
       subst (λ f. Ends f (Ok root)) (sym (fed_is s b o now is none))
-      (reads_end last.made.told.cut.folders root last.made.told.count last.made.told.part (bytes_read s b) (reads_whole root end))
+      (reads_end last.made.told.cut.folders root last.made.told.count last.made.told.part (bytes_read s b)
+      (reads_whole root end))
 
-  pub ends_short : (size : ℕ) → size ≡ min (s.at + bytes_taken s.next s.part.items) 18446744073709551615 → ((x : Node) → b.current ≡ current.Whole x → ⊥) → Ends now (Err (faults.Bad size reasons.Short))
+  pub ends_short : (size : ℕ) → size ≡ min (s.at + bytes_taken s.next s.part.items) 18446744073709551615
+      → ((x : Node) → b.current ≡ current.Whole x → ⊥) → Ends now (Err (faults.Bad size reasons.Short))
   ends_short size eq open' =
       let told = last.made.told in
-      let all : size ≡ length (bytes_read s b) = all_read s told.count told.cut told.part (bytes_read s b) size told.reads told.reached eq in
-      let goes_on : has_ended told.cut.hole ≡ false = not_ended told.cut.hole (λ x e. open' x (current_is ∙ ap (λ z. current_of z told.part) e)) in
-      let short : IsShort (bytes_read s b) = record { cut = told.cut; part = told.part; sound = told.reads.sound; is = told.reads.is; partial = told.reads.partial; goes_on = goes_on } in
-      subst (λ f. Ends f (Err (faults.Bad size reasons.Short))) (sym (fed_is s b o now is none)) (short, ap (λ x. faults.Bad x reasons.Short) all)
+      let all : size ≡ length (bytes_read s b) = all_read s told.count told.cut told.part
+      (bytes_read s b) size told.reads told.reached eq in
+      let goes_on : has_ended told.cut.hole ≡ false = not_ended told.cut.hole
+      (λ x e. open' x (current_is ∙ ap (λ z. current_of z told.part) e)) in
+      let short : IsShort (bytes_read s b) = record {
+        cut = told.cut;
+        part = told.part;
+        sound = told.reads.sound;
+        is = told.reads.is;
+        partial =
+            told.reads.partial;
+        goes_on = goes_on;
+      } in
+      subst (λ f. Ends f (Err (faults.Bad size reasons.Short))) (sym (fed_is s b o now is none))
+      (short, ap (λ x. faults.Bad x reasons.Short) all)

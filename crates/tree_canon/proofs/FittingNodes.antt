@@ -12,9 +12,11 @@ use Rattle.tree_canon.proofs.Equations.{fits_folder, fits_link, put_entry_is}
 use Rattle.tree_canon.proofs.Texts.{name_sizes, target_sizes}
 use Rattle.tree_canon.proofs.Nodes.{fits_cons}
 
-parts : (all : List Named) → (h : IsFitting (Folder all)) → (nat_lt (length all) (2 ^ 32) ≡ true) × (entries_fit None all (suc h.depth) ≡ true)
+parts : (all : List Named) → (h : IsFitting (Folder all)) → (nat_lt (length all) (2 ^ 32) ≡ true)
+    × (entries_fit None all (suc h.depth) ≡ true)
 parts all h =
-    let whole = and_parts (nat_le h.depth 64) (nat_lt (length all) (2 ^ 32) && entries_fit None all (suc h.depth)) (sym (fits_folder all h.depth) ∙ h.fit) in
+    let whole = and_parts (nat_le h.depth 64) (nat_lt (length all) (2 ^ 32) && entries_fit None all (suc h.depth))
+    (sym (fits_folder all h.depth) ∙ h.fit) in
     let both = and_parts (nat_lt (length all) (2 ^ 32)) (entries_fit None all (suc h.depth)) whole.1 in
     (both.0, both.1)
 
@@ -46,18 +48,24 @@ front : (es : List Named) (i : ℕ) (e : Named) → i < length es → e ≡ get_
 front es i e lt is = rw add-one (drop-cons es i e lt ∙ ap (λ y. y ∷ drop (suc i) es) (sym is))
 
 -- the same at a place of a list
-pub name_at : (es : List Named) (i : ℕ) (e : Named) → i < length es → e ≡ get_or es i e → AreFitting (drop i es) → length e.name < 2 ^ 16
+pub name_at : (es : List Named) (i : ℕ) (e : Named) → i < length es → e ≡ get_or es i e → AreFitting (drop i es)
+    → length e.name < 2 ^ 16
 name_at es i e lt is h = first_name e (drop (i + 1) es) (subst AreFitting (front es i e lt is) h)
 
-pub node_at : (es : List Named) (i : ℕ) (e : Named) → i < length es → e ≡ get_or es i e → AreFitting (drop i es) → IsFitting e.node
+pub node_at : (es : List Named) (i : ℕ) (e : Named) → i < length es → e ≡ get_or es i e → AreFitting (drop i es)
+    → IsFitting e.node
 node_at es i e lt is h = first_node e (drop (i + 1) es) (subst AreFitting (front es i e lt is) h)
 
-pub others_at : (es : List Named) (i : ℕ) (e : Named) → i < length es → e ≡ get_or es i e → AreFitting (drop i es) → AreFitting (drop (i + 1) es)
+pub others_at : (es : List Named) (i : ℕ) (e : Named) → i < length es → e ≡ get_or es i e → AreFitting (drop i es)
+    → AreFitting (drop (i + 1) es)
 others_at es i e lt is h = other_entries e (drop (i + 1) es) (subst AreFitting (front es i e lt is) h)
 
 -- the bytes that are still to write
-pub bytes_at : (es : List Named) (i : ℕ) (e : Named) (out named next whole : List ℕ) → i < length es → e ≡ get_or es i e → named ≡ out ++ name_bytes e.name → next ≡ named ++ node_bytes e.node → out ++ entries_bytes (drop i es) ≡ whole → next ++ entries_bytes (drop (i + 1) es) ≡ whole
+pub bytes_at : (es : List Named) (i : ℕ) (e : Named) (out named next whole : List ℕ) → i < length es
+    → e ≡ get_or es i e → named ≡ out ++ name_bytes e.name → next ≡ named ++ node_bytes e.node
+    → out ++ entries_bytes (drop i es) ≡ whole → next ++ entries_bytes (drop (i + 1) es) ≡ whole
 bytes_at es i e out named next whole lt is a b so_far =
     let rest : List ℕ = entries_bytes (drop (i + 1) es) in
-    ap (λ x. x ++ entries_bytes (drop (i + 1) es)) (b ∙ ap (λ x. x ++ node_bytes e.node) a) ∙ put_entry_is out (entries_bytes (drop (i + 1) es)) e
+    ap (λ x. x ++ entries_bytes (drop (i + 1) es)) (b ∙ ap (λ x. x ++ node_bytes e.node) a)
+    ∙ put_entry_is out (entries_bytes (drop (i + 1) es)) e
     ∙ ap (λ x. out ++ entries_bytes x) (sym (front es i e lt is)) ∙ so_far

@@ -5,11 +5,13 @@ use Rattle.tree_canon.specs.declared.node.Named.{Named}
 use Rattle.tree_canon.specs.CutTree.{last_from, last_name}
 
 -- of entries with one more
-pub last_from-push : (last : Option (List ℕ)) (es : List Named) (e : Named) → last_from last (es ++ e ∷ []) ≡ Some e.name
+pub last_from-push : (last : Option (List ℕ)) (es : List Named) (e : Named)
+    → last_from last (es ++ e ∷ []) ≡ Some e.name
 last_from-push last [] e = refl
 last_from-push last (x ∷ xs) e = last_from-push (Some x.name) xs e
 
-last_from-at : (last : Option (List ℕ)) (es : List Named) (e : Named) → slice_get es (length es - 1) ≡ Some e → last_from last es ≡ Some e.name
+last_from-at : (last : Option (List ℕ)) (es : List Named) (e : Named) → slice_get es (length es - 1) ≡ Some e
+    → last_from last es ≡ Some e.name
 last_from-at last [] e is = absurd cc
 last_from-at last (x ∷ []) e is = let same : x ≡ e = cc in ap (λ (n : Named). Some n.name) same
 last_from-at last (x ∷ y ∷ ys) e is =

@@ -19,7 +19,13 @@ pub link_length : (target : List ℕ) → length (node_bytes (Link target)) ≡ 
 link_length target = ap length (node_bytes_link target) ∙ length-append (link_head (length target)) target
 
 pub entry_length : (e : Named) → length (entry_bytes e) ≡ 2 + length e.name + length (node_bytes e.node)
-entry_length e = omega (arith, ap length (entry_bytes_is e), length-append (name_bytes e.name) (node_bytes e.node), length-append (to_be_bytes w16 (length e.name)) e.name)
+entry_length e = omega (
+  arith,
+  ap length (entry_bytes_is e),
+  length-append (name_bytes e.name)
+      (node_bytes e.node),
+  length-append (to_be_bytes w16 (length e.name)) e.name,
+)
 
 -- what has room is not too much
 pub room_some : (n m : ℕ) → room n ≡ Some m → (n ≤ limit) × (m ≡ n)

@@ -20,10 +20,12 @@ pub target_sizes : (target : List ℕ) → is_target target ≡ true → (0 < le
 target_sizes target h = text_sizes 4096 target (and_parts (is_text 4096 target) (has_no_zero target) h).0
 
 pub name_utf8 : (name : List ℕ) → is_name name ≡ true → is_utf8 name ≡ true
-name_utf8 name h = (and_parts (nat_lt 0 (length name) && nat_le (length name) 255) (is_utf8 name) (and_parts (is_text 255 name) (is_plain name && not (is_dots name)) h).0).1
+name_utf8 name h = (and_parts (nat_lt 0 (length name) && nat_le (length name) 255) (is_utf8 name)
+    (and_parts (is_text 255 name) (is_plain name && not (is_dots name)) h).0).1
 
 pub target_utf8 : (target : List ℕ) → is_target target ≡ true → is_utf8 target ≡ true
-target_utf8 target h = (and_parts (nat_lt 0 (length target) && nat_le (length target) 4096) (is_utf8 target) (and_parts (is_text 4096 target) (has_no_zero target) h).0).1
+target_utf8 target h = (and_parts (nat_lt 0 (length target) && nat_le (length target) 4096) (is_utf8 target)
+    (and_parts (is_text 4096 target) (has_no_zero target) h).0).1
 
 -- bytes that aren't UTF-8 fail the test
 pub not_utf8 : (bytes : List ℕ) → (IsUtf8 bytes → ⊥) → is_utf8 bytes ≡ false

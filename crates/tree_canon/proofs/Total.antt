@@ -16,30 +16,61 @@ use Rattle.tree_canon.specs.declared.fault.Reason.TheVariants as reasons
 use Rattle.tree_canon.proofs.CutMoves.{some_width}
 use Rattle.tree_canon.proofs.Keeps.{Keeps, single, first_parts, ok_true, keeps_tag, keeps_count, keeps_name_len, keeps_name, keeps_exec, keeps_file_len, keeps_contents, keeps_target_len, keeps_target}
 
-keeps_magic : (k : ℕ) (b : ℕ) → k < 5 → b ≡ slice_index magic k → Keeps (after [] (Magic k) (b ∷ [])) (take k magic ++ b ∷ [])
-keeps_magic zero b lt e = record { sound = record { folders = tt; hole = (omega arith, refl); size = omega arith }; is = ap (λ n. n ∷ []) (sym e) }
-keeps_magic (suc zero) b lt e = record { sound = record { folders = tt; hole = (omega arith, refl); size = omega arith }; is = ap (λ n. 67 ∷ n ∷ []) (sym e) }
-keeps_magic (suc (suc zero)) b lt e = record { sound = record { folders = tt; hole = (omega arith, refl); size = omega arith }; is = ap (λ n. 67 ∷ 78 ∷ n ∷ []) (sym e) }
-keeps_magic (suc (suc (suc zero))) b lt e = record { sound = record { folders = tt; hole = (omega arith, refl); size = omega arith }; is = ap (λ n. 67 ∷ 78 ∷ 66 ∷ n ∷ []) (sym e) }
-keeps_magic (suc (suc (suc (suc zero)))) b lt e = record { sound = record { folders = tt; hole = tt; size = omega arith }; is = ap (λ n. 67 ∷ 78 ∷ 66 ∷ 84 ∷ n ∷ []) (sym e) }
+keeps_magic : (k : ℕ) (b : ℕ) → k < 5 → b ≡ slice_index magic k
+    → Keeps (after [] (Magic k) (b ∷ [])) (take k magic ++ b ∷ [])
+keeps_magic zero b lt e = record {
+  sound = record
+      { folders = tt; hole = (omega arith, refl); size = omega arith };
+  is = ap (λ n. n ∷ []) (sym e);
+}
+keeps_magic (suc zero) b lt e = record {
+  sound = record
+      { folders = tt; hole = (omega arith, refl); size = omega arith };
+  is = ap (λ n. 67 ∷ n ∷ []) (sym e);
+}
+keeps_magic (suc (suc zero)) b lt e = record {
+  sound = record
+      { folders = tt; hole = (omega arith, refl); size = omega arith };
+  is = ap (λ n. 67 ∷ 78 ∷ n ∷ []) (sym e);
+}
+keeps_magic (suc (suc (suc zero))) b lt e = record {
+  sound = record { folders = tt; hole = (omega arith, refl); size = omega arith };
+  is = ap
+      (λ n. 67 ∷ 78 ∷ 66 ∷ n ∷ []) (sym e);
+}
+keeps_magic (suc (suc (suc (suc zero)))) b lt e = record {
+  sound = record { folders = tt; hole = tt; size = omega arith };
+  is = ap (λ n. 67 ∷ 78 ∷ 66 ∷ 84 ∷ n ∷ [])
+      (sym e);
+}
 keeps_magic (suc (suc (suc (suc (suc k))))) b lt e = absurd (omega arith)
 
-keeps_field : (ls : List OpenFolder) (hole : Hole) (at : ℕ) (f : List ℕ) → IsSound (cut_at ls hole) → IsBytes f → at ≡ length (bytes_before ls hole) → length f ≡ width hole → reason_of (length ls) at hole f ≡ None → Keeps (after ls hole f) (bytes_before ls hole ++ f)
+keeps_field : (ls : List OpenFolder) (hole : Hole) (at : ℕ) (f : List ℕ) → IsSound (cut_at ls hole) → IsBytes f
+    → at ≡ length (bytes_before ls hole) → length f ≡ width hole → reason_of (length ls) at hole f ≡ None
+    → Keeps (after ls hole f) (bytes_before ls hole ++ f)
 keeps_field ls (Magic k) at f ok bytes place len h =
     let one : f ≡ first_byte f ∷ [] = single f len in
-    let is : first_byte f ≡ slice_index magic k = eqb-true _ _ (ok_true (first_byte f == slice_index magic k) reasons.Magic (first_parts (large_past (at + 1)) _ h).1) in
+    let is : first_byte f ≡ slice_index magic k = eqb-true _ _
+    (ok_true (first_byte f == slice_index magic k) reasons.Magic (first_parts (large_past (at + 1)) _ h).1) in
     subst (λ (x : List OpenFolder). Keeps (after x (Magic k) f) (take k magic ++ f)) (sym ok.hole.1)
-    (subst (λ (x : List ℕ). Keeps (after [] (Magic k) x) (take k magic ++ x)) (sym one) (keeps_magic k (first_byte f) ok.hole.0 is))
+    (subst (λ (x : List ℕ). Keeps (after [] (Magic k) x) (take k magic ++ x)) (sym one)
+    (keeps_magic k (first_byte f) ok.hole.0 is))
 keeps_field ls Tag at f ok bytes place len h = keeps_tag ls ok.folders at f bytes place len h
 keeps_field ls Count at f ok bytes place len h = keeps_count ls ok.folders at f bytes place len ok.hole h
-keeps_field ls (NameLength count before) at f ok bytes place len h = keeps_name_len ls ok.folders at f bytes count before place len ok.hole h
-keeps_field ls (Name count before n) at f ok bytes place len h = keeps_name ls ok.folders at f bytes count before n place len ok.hole.0 ok.hole.1 ok.hole.2 h
+keeps_field ls (NameLength count before) at f ok bytes place len h = keeps_name_len ls ok.folders at f bytes count
+    before place len ok.hole h
+keeps_field ls (Name count before n) at f ok bytes place len h = keeps_name ls ok.folders at f bytes count before
+    n place len ok.hole.0 ok.hole.1 ok.hole.2 h
 keeps_field ls Executable at f ok bytes place len h = keeps_exec ls ok.folders at f bytes place len ok.hole h
-keeps_field ls (FileLength exec) at f ok bytes place len h = keeps_file_len ls ok.folders at f bytes exec place len ok.hole h
-keeps_field ls (Contents exec n) at f ok bytes place len h = keeps_contents ls ok.folders at f bytes exec n place len ok.hole.0 h
+keeps_field ls (FileLength exec) at f ok bytes place len h = keeps_file_len ls ok.folders at f bytes exec place
+    len ok.hole h
+keeps_field ls (Contents exec n) at f ok bytes place len h = keeps_contents ls ok.folders at f bytes exec n place
+    len ok.hole.0 h
 keeps_field ls TargetLength at f ok bytes place len h = keeps_target_len ls ok.folders at f bytes place len ok.hole h
-keeps_field ls (Target n) at f ok bytes place len h = keeps_target ls ok.folders at f bytes n place len ok.hole.0 ok.hole.1 ok.hole.2 h
-keeps_field ls (End node) at f ok bytes place len h = let no = (first_parts (large_past (at + 1)) (Some reasons.Rest) h).1 in absurd cc
+keeps_field ls (Target n) at f ok bytes place len h = keeps_target ls ok.folders at f bytes n place len ok.hole.0
+    ok.hole.1 ok.hole.2 h
+keeps_field ls (End node) at f ok bytes place len h = let no =
+    (first_parts (large_past (at + 1)) (Some reasons.Rest) h).1 in absurd cc
 
 abbrev pub Holds : State → List ℕ → Type 0
 Holds (Stuck at r) bytes = IsBroken bytes at r
@@ -51,11 +82,14 @@ IsBytes-push [] b h lt (suc i) = omega arith
 IsBytes-push (x ∷ xs) b h lt zero = h 0
 IsBytes-push (x ∷ xs) b h lt (suc i) = IsBytes-push xs b (λ j. h (suc j)) lt i
 
-choose_state : (b : Bool) (P : State → Type 0) (x y : State) → (b ≡ true → P x) → (b ≡ false → P y) → P (if b then x else y)
+choose_state : (b : Bool) (P : State → Type 0) (x y : State) → (b ≡ true → P x) → (b ≡ false → P y)
+    → P (if b then x else y)
 choose_state true P x y f g = f refl
 choose_state false P x y f g = g refl
 
-judge_both : (at : ℕ) (c : CutTree) (f bytes : List ℕ) (o : Option Reason) → reason_of (length c.folders) at c.hole f ≡ o → IsSound c → IsBytes f → at ≡ length (cut_bytes c) → length f ≡ width c.hole → bytes ≡ cut_bytes c ++ f → Holds (moved at c f o) bytes
+judge_both : (at : ℕ) (c : CutTree) (f bytes : List ℕ) (o : Option Reason)
+    → reason_of (length c.folders) at c.hole f ≡ o → IsSound c → IsBytes f → at ≡ length (cut_bytes c)
+    → length f ≡ width c.hole → bytes ≡ cut_bytes c ++ f → Holds (moved at c f o) bytes
 judge_both at c f bytes None e ok fits place len is =
     let k = keeps_field c.folders c.hole at f ok fits place len e in
     record {
@@ -66,7 +100,17 @@ judge_both at c f bytes None e ok fits place len is =
       fits = λ i. omega arith;
     }
 judge_both at c f bytes (Some r) e ok fits place len is =
-    record { cut = c; field = f; rest = []; sound = ok; place = place; is = is ∙ ap (λ x. cut_bytes c ++ x) (sym (append-nil f)); whole = len; breaks = e }
+    record {
+      cut = c;
+      field = f;
+      rest = [];
+      sound = ok;
+      place = place;
+      is = is
+          ∙ ap (λ x. cut_bytes c ++ x) (sym (append-nil f));
+      whole = len;
+      breaks = e;
+    }
 
 step_holds : (s : State) (bytes : List ℕ) (b : ℕ) → b < 256 → Holds s bytes → Holds (step s b) (bytes ++ b ∷ [])
 step_holds (Stuck at r) bytes b lt h =
@@ -78,39 +122,69 @@ step_holds (Stuck at r) bytes b lt h =
       place = h.place;
       whole = h.whole;
       breaks = h.breaks;
-      is = ap (λ x. x ++ b ∷ []) h.is ∙ append_assoc (cut_bytes h.cut) (h.field ++ h.rest) (b ∷ []) ∙ ap (λ x. cut_bytes h.cut ++ x) (append_assoc h.field h.rest (b ∷ []));
+      is = ap (λ x. x ++ b ∷ []) h.is ∙ append_assoc (cut_bytes h.cut) (h.field ++ h.rest) (b ∷ [])
+          ∙ ap (λ x. cut_bytes h.cut ++ x) (append_assoc h.field h.rest (b ∷ []));
     }
 step_holds (Going at c part) bytes b lt h =
-    let more : bytes ++ b ∷ [] ≡ cut_bytes c ++ (part ++ b ∷ []) = ap (λ x. x ++ b ∷ []) h.is ∙ append_assoc (cut_bytes c) part (b ∷ []) in
-    choose_state (nat_lt (length (part ++ b ∷ [])) (width c.hole)) (λ s. Holds s (bytes ++ b ∷ [])) (Going at c (part ++ b ∷ [])) (moved at c (part ++ b ∷ []) (reason_of (length c.folders) at c.hole (part ++ b ∷ [])))
-    (λ e. record { sound = h.sound; place = h.place; is = more; partial = ltb-true _ _ e; fits = IsBytes-push part b h.fits lt })
-    (λ e. judge_both at c (part ++ b ∷ []) (bytes ++ b ∷ []) (reason_of (length c.folders) at c.hole (part ++ b ∷ [])) refl h.sound (IsBytes-push part b h.fits lt) h.place
+    let more : bytes ++ b ∷ [] ≡ cut_bytes c ++ (part ++ b ∷ []) = ap (λ x. x ++ b ∷ []) h.is
+    ∙ append_assoc (cut_bytes c) part (b ∷ []) in
+    choose_state (nat_lt (length (part ++ b ∷ [])) (width c.hole)) (λ s. Holds s (bytes ++ b ∷ []))
+    (Going at c (part ++ b ∷ [])) (moved at c (part ++ b ∷ [])
+    (reason_of (length c.folders) at c.hole (part ++ b ∷ [])))
+    (λ e. record {
+      sound = h.sound;
+      place = h.place;
+      is = more;
+      partial = ltb-true _ _ e;
+      fits = IsBytes-push part
+          b h.fits lt;
+    })
+    (λ e. judge_both at c (part ++ b ∷ []) (bytes ++ b ∷ [])
+    (reason_of (length c.folders) at c.hole (part ++ b ∷ [])) refl h.sound
+    (IsBytes-push part b h.fits lt) h.place
     (omega (arith, ltb-false _ _ e, h.partial, length-append part (b ∷ []))) more)
 
 pub run_holds : (s : State) (bytes more : List ℕ) → IsBytes more → Holds s bytes → Holds (run s more) (bytes ++ more)
 run_holds s bytes [] fits h = subst (Holds s) (sym (append-nil bytes)) h
-run_holds s bytes (b ∷ bs) fits h = subst (Holds (run (step s b) bs)) (append_assoc bytes (b ∷ []) bs) (run_holds (step s b) (bytes ++ b ∷ []) bs (λ i. fits (suc i)) (step_holds s bytes b (fits 0) h))
+run_holds s bytes (b ∷ bs) fits h = subst (Holds (run (step s b) bs)) (append_assoc bytes (b ∷ []) bs)
+    (run_holds (step s b) (bytes ++ b ∷ []) bs (λ i. fits (suc i)) (step_holds s bytes b (fits 0) h))
 
 pub start_holds : Holds start []
-start_holds = record { sound = record { folders = tt; hole = (omega arith, refl); size = omega arith }; place = refl; is = refl; partial = omega arith; fits = λ i. omega arith }
+start_holds = record {
+  sound = record { folders = tt; hole = (omega arith, refl); size = omega arith };
+  place =
+      refl;
+  is = refl;
+  partial = omega arith;
+  fits = λ i. omega arith;
+}
 
 no_part : (part : List ℕ) → length part < 1 → part ≡ []
 no_part [] lt = refl
 no_part (b ∷ bs) lt = absurd (omega arith)
 
-pub reads_end : (ls : List OpenFolder) (node : Node) (at : ℕ) (part bytes : List ℕ) → SpellsUpTo at (cut_at ls (End node)) part bytes → Spells node bytes
+pub reads_end : (ls : List OpenFolder) (node : Node) (at : ℕ) (part bytes : List ℕ)
+    → SpellsUpTo at (cut_at ls (End node)) part bytes → Spells node bytes
 reads_end ls node at part bytes h =
     let none : part ≡ [] = no_part part h.partial in
-    let whole : bytes ≡ open_folders_bytes ls ++ node_bytes node = h.is ∙ ap (λ x. (open_folders_bytes ls ++ node_bytes node) ++ x) none ∙ append-nil (open_folders_bytes ls ++ node_bytes node) in
-    let is : bytes ≡ magic ++ node_bytes node = subst (λ x. bytes ≡ open_folders_bytes x ++ node_bytes node) h.sound.hole.1 whole in
+    let whole : bytes ≡ open_folders_bytes ls ++ node_bytes node = h.is
+    ∙ ap (λ x. (open_folders_bytes ls ++ node_bytes node) ++ x) none
+    ∙ append-nil (open_folders_bytes ls ++ node_bytes node) in
+    let is : bytes ≡ magic ++ node_bytes node = subst (λ x. bytes ≡ open_folders_bytes x ++ node_bytes node)
+    h.sound.hole.1 whole in
     record { fit = h.sound.hole.0; size = omega (arith, ap length whole, h.sound.size); is = is }
 
-ended : (ls : List OpenFolder) (hole : Hole) (at : ℕ) (part bytes : List ℕ) → SpellsUpTo at (cut_at ls hole) part bytes → (b : Bool) → has_ended hole ≡ b → Kind bytes
-ended ls hole at part bytes h false e = Short (record { cut = cut_at ls hole; part = part; sound = h.sound; is = h.is; partial = h.partial; goes_on = e })
+ended : (ls : List OpenFolder) (hole : Hole) (at : ℕ) (part bytes : List ℕ)
+    → SpellsUpTo at (cut_at ls hole) part bytes → (b : Bool) → has_ended hole ≡ b → Kind bytes
+ended ls hole at part bytes h false e = Short
+    (record { cut = cut_at ls hole; part = part; sound = h.sound; is = h.is; partial = h.partial; goes_on = e })
 ended ls (End node) at part bytes h true e =
     let none : part ≡ [] = no_part part h.partial in
-    let whole : bytes ≡ open_folders_bytes ls ++ node_bytes node = h.is ∙ ap (λ x. (open_folders_bytes ls ++ node_bytes node) ++ x) none ∙ append-nil (open_folders_bytes ls ++ node_bytes node) in
-    let is : bytes ≡ magic ++ node_bytes node = subst (λ x. bytes ≡ open_folders_bytes x ++ node_bytes node) h.sound.hole.1 whole in
+    let whole : bytes ≡ open_folders_bytes ls ++ node_bytes node = h.is
+    ∙ ap (λ x. (open_folders_bytes ls ++ node_bytes node) ++ x) none
+    ∙ append-nil (open_folders_bytes ls ++ node_bytes node) in
+    let is : bytes ≡ magic ++ node_bytes node = subst (λ x. bytes ≡ open_folders_bytes x ++ node_bytes node)
+    h.sound.hole.1 whole in
     Spelled node (record { fit = h.sound.hole.0; size = omega (arith, ap length whole, h.sound.size); is = is })
 ended ls (Magic k) at part bytes h true e = absurd cc
 ended ls Tag at part bytes h true e = absurd cc

@@ -109,7 +109,9 @@ pub data Kind (bytes : List ℕ) : Type 0 where
 pub record IsDivided (bytes : List ℕ) : Type 0 where
   pub kind : Kind bytes
   pub one_tree : (root other : Node) → Spells root bytes → Spells other bytes → root ≡ other
-  pub one_break : (at place : ℕ) (reason other : Reason) → IsBroken bytes at reason → IsBroken bytes place other → (at ≡ place) × (reason ≡ other)
-  pub not_spelled_and_broken : (root : Node) (at : ℕ) (reason : Reason) → Spells root bytes → IsBroken bytes at reason → ⊥
+  pub one_break : (at place : ℕ) (reason other : Reason) → IsBroken bytes at reason → IsBroken bytes place other
+      → (at ≡ place) × (reason ≡ other)
+  pub not_spelled_and_broken : (root : Node) (at : ℕ) (reason : Reason) → Spells root bytes
+      → IsBroken bytes at reason → ⊥
   pub not_spelled_and_short : (root : Node) → Spells root bytes → IsShort bytes → ⊥
   pub not_broken_and_short : (at : ℕ) (reason : Reason) → IsBroken bytes at reason → IsShort bytes → ⊥

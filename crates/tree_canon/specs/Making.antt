@@ -27,7 +27,8 @@ with_node (f ∷ fs) x = made_at fs (current.Folder f.count (f.before ++ entry f
 
 -- the folder under way is open at an entry of this name
 abbrev pub with_name : List OpenFolder → Current → List ℕ → Made
-with_name fs (current.Folder count before) name = made_at (record { count = count; before = before; name = name } ∷ fs) current.Nothing
+with_name fs (current.Folder count before) name = made_at
+    (record { count = count; before = before; name = name } ∷ fs) current.Nothing
 with_name fs u name = made_at fs current.Nothing
 
 abbrev pub with_end : List OpenFolder → Current → Made
@@ -37,7 +38,8 @@ with_end fs u = made_at fs current.Nothing
 -- a file with these bytes, which is whole once it has so many
 abbrev pub with_contents : List OpenFolder → Bool → ℕ → List ℕ → Made
 with_contents fs exec size bytes =
-    if nat_lt (length bytes) size then made_at fs (current.File exec size bytes) else with_node fs (node.File exec bytes)
+    if nat_lt (length bytes) size then made_at fs (current.File exec size bytes) else with_node fs
+    (node.File exec bytes)
 
 abbrev pub with_byte : List OpenFolder → Current → ℕ → Made
 with_byte fs (current.File exec size bytes) b = with_contents fs exec size (bytes ++ b ∷ [])

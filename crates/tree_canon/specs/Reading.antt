@@ -19,15 +19,18 @@ cut_at fs hole = record { folders = fs; hole = hole }
 abbrev pub filled : List OpenFolder → Node → CutTree
 filled [] node = cut_at [] (End node)
 filled (f ∷ fs) node =
-    if nat_lt (length (f.before ++ entry f.name node ∷ [])) f.count then cut_at fs (NameLength f.count (f.before ++ entry f.name node ∷ []))
+    if nat_lt (length (f.before ++ entry f.name node ∷ [])) f.count then cut_at fs
+    (NameLength f.count (f.before ++ entry f.name node ∷ []))
     else filled fs (Folder (f.before ++ entry f.name node ∷ []))
 
 -- in a folder of this count, behind these entries
 abbrev pub opened : List OpenFolder → ℕ → List Named → CutTree
-opened fs count before = if nat_lt (length before) count then cut_at fs (NameLength count before) else filled fs (Folder before)
+opened fs count before = if nat_lt (length before) count then cut_at fs (NameLength count before) else filled fs
+    (Folder before)
 
 abbrev pub after_tag : List OpenFolder → ℕ → CutTree
-after_tag fs tag = if tag == 68 then cut_at fs Count else if tag == 70 then cut_at fs Executable else cut_at fs TargetLength
+after_tag fs tag = if tag == 68 then cut_at fs Count else if tag == 70 then cut_at fs Executable else cut_at fs
+    TargetLength
 
 -- the cut tree behind a field that meets its rules
 abbrev pub after : List OpenFolder → Hole → List ℕ → CutTree
@@ -37,7 +40,8 @@ after fs Count field = opened fs (from_be_bytes w32 field) []
 after fs (NameLength count before) field = cut_at fs (Name count before (from_be_bytes w16 field))
 after fs (Name count before size) field = cut_at (record { count = count; before = before; name = field } ∷ fs) Tag
 after fs Executable field = cut_at fs (FileLength (first_byte field == 1))
-after fs (FileLength exec) field = if from_be_bytes w64 field == 0 then filled fs (File exec []) else cut_at fs (Contents exec (from_be_bytes w64 field))
+after fs (FileLength exec) field = if from_be_bytes w64 field == 0 then filled fs (File exec []) else cut_at fs
+    (Contents exec (from_be_bytes w64 field))
 after fs (Contents exec size) field = filled fs (File exec field)
 after fs TargetLength field = cut_at fs (Target (from_be_bytes w16 field))
 after fs (Target size) field = filled fs (Link field)

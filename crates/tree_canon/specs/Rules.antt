@@ -31,15 +31,18 @@ is_tag b = b == 68 || b == 70 || b == 76
 
 -- the rules of a length of two bytes, before this place, of a text that has at most so many bytes
 abbrev pub length_reason : ℕ → ℕ → List ℕ → Option Reason
-length_reason end most field = either_reason (large_past (end + from_be_bytes w16 field)) (unless (nat_lt 0 (from_be_bytes w16 field) && nat_le (from_be_bytes w16 field) most) reasons.Name)
+length_reason end most field = either_reason (large_past (end + from_be_bytes w16 field))
+    (unless (nat_lt 0 (from_be_bytes w16 field) && nat_le (from_be_bytes w16 field) most) reasons.Name)
 
 -- what a field breaks beside its own length, in so many open folders and behind so many bytes
 abbrev pub own_reason : ℕ → ℕ → Hole → List ℕ → Option Reason
 own_reason depth at (Magic k) field = unless (first_byte field == slice_index magic k) reasons.Magic
-own_reason depth at Tag field = either_reason (unless (nat_le depth 64) reasons.Deep) (unless (is_tag (first_byte field)) reasons.Tag)
+own_reason depth at Tag field = either_reason (unless (nat_le depth 64) reasons.Deep)
+    (unless (is_tag (first_byte field)) reasons.Tag)
 own_reason depth at Count field = None
 own_reason depth at (NameLength count before) field = length_reason (at + 2) 255 field
-own_reason depth at (Name count before size) field = either_reason (unless (is_name field) reasons.Name) (unless (follows (last_name before) field) reasons.Order)
+own_reason depth at (Name count before size) field = either_reason (unless (is_name field) reasons.Name)
+    (unless (follows (last_name before) field) reasons.Order)
 own_reason depth at Executable field = unless (first_byte field == 0 || first_byte field == 1) reasons.Exec
 own_reason depth at (FileLength exec) field = large_past (at + 8 + from_be_bytes w64 field)
 own_reason depth at (Contents exec size) field = None

@@ -1,4 +1,5 @@
--- What a scan keeps of a cut tree, which private calls alone speak of: no file's contents, and of the entries of an open
+-- What a scan keeps of a cut tree, which private calls alone speak of: no file's contents, and of the entries of an
+-- open
 -- folder the number of those to come and one name.
 use Rattle.std.specs.Prelude.{◌≡◌, ℕ, suc, true, ◌==◌, ◌||◌, ◌+◌, ◌-◌, ◌<◌, ◌≤◌, ◌++◌, List, [], ◌∷◌, length, map, reverse, sum, All, slice_index, unwrap_or, if◌then◌else◌, nat_lt, nat_le, Option, None, Some}
 use Rattle.std.specs.Int.{from_be_bytes, w16, w32, w64}
@@ -83,10 +84,12 @@ IsReadableField f bytes = Unit {0}
 -- what a whole field breaks beside its own length, in so many open folders and behind so many bytes
 abbrev pub own_reason_at : ℕ → ℕ → NextField → List ℕ → Option Reason
 own_reason_at depth at (field.Magic k) part = unless (first_byte part == slice_index magic k) reasons.Magic
-own_reason_at depth at field.Tag part = either_reason (unless (nat_le depth 64) reasons.Deep) (unless (is_tag (first_byte part)) reasons.Tag)
+own_reason_at depth at field.Tag part = either_reason (unless (nat_le depth 64) reasons.Deep)
+    (unless (is_tag (first_byte part)) reasons.Tag)
 own_reason_at depth at field.Count part = None
 own_reason_at depth at (field.NameLength left last) part = length_reason (at + 2) 255 part
-own_reason_at depth at (field.Name left last size) part = either_reason (unless (is_name part) reasons.Name) (unless (follows last part) reasons.Order)
+own_reason_at depth at (field.Name left last size) part = either_reason (unless (is_name part) reasons.Name)
+    (unless (follows last part) reasons.Order)
 own_reason_at depth at field.Executable part = unless (first_byte part == 0 || first_byte part == 1) reasons.Exec
 own_reason_at depth at (field.FileLength exec) part = large_past (at + 8 + from_be_bytes w64 part)
 own_reason_at depth at (field.Contents size taken) part = None
@@ -109,10 +112,12 @@ place fs f = record { folders = fs; next = f }
 -- a node is whole: its folder goes on, or is whole too
 abbrev pub behind_node : List ScannedFolder → Place
 behind_node [] = place [] field.End
-behind_node (f ∷ fs) = if nat_lt 0 f.left then place fs (field.NameLength (f.left - 1) (Some f.name)) else behind_node fs
+behind_node (f ∷ fs) = if nat_lt 0 f.left then place fs
+    (field.NameLength (f.left - 1) (Some f.name)) else behind_node fs
 
 abbrev pub behind_tag : List ScannedFolder → ℕ → Place
-behind_tag fs tag = if tag == 68 then place fs field.Count else if tag == 70 then place fs field.Executable else place fs field.TargetLength
+behind_tag fs tag = if tag == 68 then place fs field.Count else if tag == 70 then place fs field.Executable else
+    place fs field.TargetLength
 
 abbrev pub behind_count : List ScannedFolder → ℕ → Place
 behind_count fs count = if nat_lt 0 count then place fs (field.NameLength (count - 1) None) else behind_node fs

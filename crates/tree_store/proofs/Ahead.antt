@@ -28,19 +28,24 @@ use Rattle.tree_store.proofs.Ways.{when_ok}
 
 -- ---- what lies ahead stays there, where something is laid that isn't at the file or above it
 
-pub ahead_kept : (source : KeptBytes) (path bytes : List ℕ) (o o1 : Option Tree) → is_within path source.path ≡ false → KeptAround path o o1 → Ahead source o bytes → Ahead source o1 bytes
+pub ahead_kept : (source : KeptBytes) (path bytes : List ℕ) (o o1 : Option Tree)
+    → is_within path source.path ≡ false → KeptAround path o o1 → Ahead source o bytes → Ahead source o1 bytes
 unfolding KeptAround Ahead
 ahead_kept source path bytes None o1 apart kept ahead = absurd ahead
 ahead_kept source path bytes (Some a) None apart kept ahead = absurd kept
 ahead_kept source path bytes (Some a) (Some b) apart kept ahead = by (kept source.path apart)
   where
-    by : (item_at b source.path ≡ item_at a source.path) ⊎ IsMadeAbove path source.path a b → IsAhead source (item_at b source.path) bytes
+    by : (item_at b source.path ≡ item_at a source.path) ⊎ IsMadeAbove path source.path a b
+        → IsAhead source (item_at b source.path) bytes
     by (inl same) = subst (λ found. IsAhead source found bytes) (sym same) ahead
-    by (inr made) = absurd (let no : IsTrue (is_file None) = subst (λ found. IsTrue (is_file found)) made.before ahead.file in cc)
+    by (inr made) = absurd (let no : IsTrue (is_file None) = subst
+        (λ found. IsTrue (is_file found)) made.before ahead.file in cc)
 
 -- ---- misuse where nothing is told
 
-pub untold_on : (path : List ℕ) (o o1 : Option Tree) (a b c : ℕ) → KeptAround path o o1 → MayMisuse (option_map (λ files. false) o) a b → MayMisuse (option_map (λ files. false) o1) b c → MayMisuse (option_map (λ files. false) o) a c
+pub untold_on : (path : List ℕ) (o o1 : Option Tree) (a b c : ℕ) → KeptAround path o o1
+    → MayMisuse (option_map (λ files. false) o) a b → MayMisuse (option_map (λ files. false) o1) b c
+    → MayMisuse (option_map (λ files. false) o) a c
 unfolding KeptAround
 untold_on path None None a b c kept h k = k ∙ h
 untold_on path None (Some files) a b c kept h k = absurd kept
@@ -51,16 +56,19 @@ pub untold_same : (o : Option Tree) (a b : ℕ) → b ≡ a → MayMisuse (optio
 untold_same None a b e = e
 untold_same (Some files) a b e = omega (arith, e)
 
-pub untold_where : (o : Option Tree) (folders : List (List ℕ)) (a b : ℕ) → (AreFolders folders o → b ≡ a) → a ≤ b → MayMisuse (option_map (λ files. false) o) a b
+pub untold_where : (o : Option Tree) (folders : List (List ℕ)) (a b : ℕ) → (AreFolders folders o → b ≡ a) → a ≤ b
+    → MayMisuse (option_map (λ files. false) o) a b
 unfolding AreFolders
 untold_where None folders a b same le = same tt
 untold_where (Some files) folders a b same le = le
 
-pub untold_by : {T : Type 0} (o : Option Tree) (allows : Tree → Bool) (result : Result T FileFault) (a b : ℕ) → CountsMisuse (option_map allows o) result a b → MayMisuse (option_map (λ files. false) o) a b
+pub untold_by : {T : Type 0} (o : Option Tree) (allows : Tree → Bool) (result : Result T FileFault) (a b : ℕ)
+    → CountsMisuse (option_map allows o) result a b → MayMisuse (option_map (λ files. false) o) a b
 untold_by None allows result a b h = h
 untold_by (Some files) allows result a b h = around.never_falls (Some (allows files)) result a b h
 
-pub untold_may : (o : Option Tree) (allows : Tree → Bool) (a b : ℕ) → MayMisuse (option_map allows o) a b → MayMisuse (option_map (λ files. false) o) a b
+pub untold_may : (o : Option Tree) (allows : Tree → Bool) (a b : ℕ) → MayMisuse (option_map allows o) a b
+    → MayMisuse (option_map (λ files. false) o) a b
 untold_may None allows a b h = h
 untold_may (Some files) allows a b h = by (allows files) h
   where
@@ -70,13 +78,16 @@ untold_may (Some files) allows a b h = by (allows files) h
 
 -- ---- what calls leave
 
-counts_on : {B : Type 0} (r : Result B StoreFault) (a b c : ℕ) → b ≡ a → CountsFiles cause_of r b c → CountsFiles cause_of r a c
+counts_on : {B : Type 0} (r : Result B StoreFault) (a b c : ℕ) → b ≡ a → CountsFiles cause_of r b c
+    → CountsFiles cause_of r a c
 counts_on r a b c same h = subst (λ n. CountsFiles cause_of r n c) same h
 
-blames_on : {B : Type 0} (r : Result B StoreFault) (path file other : List ℕ) → other ≡ file → IfErr r (BlamesEither path other) → IfErr r (BlamesEither path file)
+blames_on : {B : Type 0} (r : Result B StoreFault) (path file other : List ℕ) → other ≡ file
+    → IfErr r (BlamesEither path other) → IfErr r (BlamesEither path file)
 blames_on r path file other same h = subst (λ f. IfErr r (BlamesEither path f)) same h
 
-pub leaves_on : {A B : Type 0} (path : List ℕ) (s0 s1 s2 : KeptBytes) (a b c : Seen) (v : A) (r : Result B StoreFault) → Leaves path s0 a (Ok v) s1 b → Leaves path s1 b r s2 c → Leaves path s0 a r s2 c
+pub leaves_on : {A B : Type 0} (path : List ℕ) (s0 s1 s2 : KeptBytes) (a b c : Seen) (v : A)
+    (r : Result B StoreFault) → Leaves path s0 a (Ok v) s1 b → Leaves path s1 b r s2 c → Leaves path s0 a r s2 c
 leaves_on path s0 s1 s2 a b c v r first next = record {
   stays = next.stays ∙ first.stays;
   around = around.onward path a b c first.around next.around;
@@ -87,24 +98,67 @@ leaves_on path s0 s1 s2 a b c v r first next = record {
 }
 
 -- the first refusal ends them
-pub leaves_stop : {A B : Type 0} (path : List ℕ) (s0 s1 : KeptBytes) (a b : Seen) (fault : StoreFault) → Leaves {A = A} path s0 a (Err fault) s1 b → Leaves {A = B} path s0 a (Err fault) s1 b
-leaves_stop path s0 s1 a b fault h = record { stays = h.stays; around = h.around; untold = h.untold; children = h.children; counts = h.counts; blames = h.blames }
+pub leaves_stop : {A B : Type 0} (path : List ℕ) (s0 s1 : KeptBytes) (a b : Seen) (fault : StoreFault)
+    → Leaves {A = A} path s0 a (Err fault) s1 b → Leaves {A = B} path s0 a (Err fault) s1 b
+leaves_stop path s0 s1 a b fault h = record {
+  stays = h.stays;
+  around = h.around;
+  untold = h.untold;
+  children =
+      h.children;
+  counts = h.counts;
+  blames = h.blames;
+}
 
 -- another value
-pub leaves_value : {A B : Type 0} (path : List ℕ) (s0 s1 : KeptBytes) (a b : Seen) (v : A) (w : B) → Leaves path s0 a (Ok v) s1 b → Leaves path s0 a (Ok w) s1 b
-leaves_value path s0 s1 a b v w h = record { stays = h.stays; around = h.around; untold = h.untold; children = h.children; counts = h.counts; blames = tt }
+pub leaves_value : {A B : Type 0} (path : List ℕ) (s0 s1 : KeptBytes) (a b : Seen) (v : A) (w : B)
+    → Leaves path s0 a (Ok v) s1 b → Leaves path s0 a (Ok w) s1 b
+leaves_value path s0 s1 a b v w h = record {
+  stays = h.stays;
+  around = h.around;
+  untold = h.untold;
+  children =
+      h.children;
+  counts = h.counts;
+  blames = tt;
+}
 
 -- no call
 pub leaves_ok : {A : Type 0} (path : List ℕ) (s : KeptBytes) (a : Seen) (v : A) → Leaves path s a (Ok v) s a
-leaves_ok path s a v = record { stays = refl; around = around.itself path a; untold = untold_same a.files a.misused a.misused refl; children = refl; counts = refl; blames = tt }
+leaves_ok path s a v = record {
+  stays = refl;
+  around = around.itself path a;
+  untold = untold_same a.files
+      a.misused a.misused refl;
+  children = refl;
+  counts = refl;
+  blames = tt;
+}
 
-pub leaves_damaged : {A : Type 0} (path : List ℕ) (s : KeptBytes) (a : Seen) (asked found : List ℕ) (bad : Option Reason) → Leaves {A = A} path s a (Err (Damaged asked found bad)) s a
-leaves_damaged path s a asked found bad = record { stays = refl; around = around.itself path a; untold = untold_same a.files a.misused a.misused refl; children = refl; counts = refl; blames = tt }
+pub leaves_damaged : {A : Type 0} (path : List ℕ) (s : KeptBytes) (a : Seen) (asked found : List ℕ)
+    (bad : Option Reason) → Leaves {A = A} path s a (Err (Damaged asked found bad)) s a
+leaves_damaged path s a asked found bad = record {
+  stays = refl;
+  around = around.itself path a;
+  untold = untold_same a.files a.misused a.misused refl;
+  children = refl;
+  counts = refl;
+  blames = tt;
+}
 
 pub leaves_memory : {A : Type 0} (path : List ℕ) (s : KeptBytes) (a : Seen) → Leaves {A = A} path s a (Err Memory) s a
-leaves_memory path s a = record { stays = refl; around = around.itself path a; untold = untold_same a.files a.misused a.misused refl; children = refl; counts = omega arith; blames = tt }
+leaves_memory path s a = record {
+  stays = refl;
+  around = around.itself path a;
+  untold = untold_same a.files
+      a.misused a.misused refl;
+  children = refl;
+  counts = omega arith;
+  blames = tt;
+}
 
-pub blames_at : {A : Type 0} (path file : List ℕ) (r : Result A StoreFault) → IfErr r (BlamesAt path) → IfErr r (BlamesEither path file)
+pub blames_at : {A : Type 0} (path file : List ℕ) (r : Result A StoreFault) → IfErr r (BlamesAt path)
+    → IfErr r (BlamesEither path file)
 blames_at path file (Ok v) h = tt
 blames_at path file (Err (File blamed)) h = inl (ap (is_within path) h ∙ within_itself path)
 blames_at path file (Err (OddFile odd)) h = tt
@@ -114,7 +168,8 @@ blames_at path file (Err (Damaged asked found bad)) h = tt
 blames_at path file (Err (Clash digest)) h = tt
 blames_at path file (Err Memory) h = tt
 
-pub blames_file : {A : Type 0} (path file : List ℕ) (r : Result A StoreFault) → IfErr r (BlamesAt file) → IfErr r (BlamesEither path file)
+pub blames_file : {A : Type 0} (path file : List ℕ) (r : Result A StoreFault) → IfErr r (BlamesAt file)
+    → IfErr r (BlamesEither path file)
 blames_file path file (Ok v) h = tt
 blames_file path file (Err (File blamed)) h = inr h
 blames_file path file (Err (OddFile odd)) h = tt
@@ -125,42 +180,85 @@ blames_file path file (Err (Clash digest)) h = tt
 blames_file path file (Err Memory) h = tt
 
 -- bytes that aren't the ones that were judged
-pub leaves_broken : {A B : Type 0} (path : List ℕ) (s0 s1 : KeptBytes) (a b : Seen) (v : A) (asked found : List ℕ) (bad : Option Reason) → Leaves path s0 a (Ok v) s1 b → Leaves {A = B} path s0 a (Err (Damaged asked found bad)) s1 b
-leaves_broken path s0 s1 a b v asked found bad h = record { stays = h.stays; around = h.around; untold = h.untold; children = h.children; counts = h.counts; blames = tt }
+pub leaves_broken : {A B : Type 0} (path : List ℕ) (s0 s1 : KeptBytes) (a b : Seen) (v : A) (asked found : List ℕ)
+    (bad : Option Reason) → Leaves path s0 a (Ok v) s1 b → Leaves {A = B} path s0 a
+    (Err (Damaged asked found bad)) s1 b
+leaves_broken path s0 s1 a b v asked found bad h = record {
+  stays = h.stays;
+  around = h.around;
+  untold = h.untold;
+  children = h.children;
+  counts = h.counts;
+  blames =
+      tt;
+}
 
 -- memory ran out behind calls that went well
-pub leaves_short : {A B : Type 0} (path : List ℕ) (s0 s1 : KeptBytes) (a b : Seen) (v : A) → Leaves path s0 a (Ok v) s1 b → Leaves {A = B} path s0 a (Err Memory) s1 b
-leaves_short path s0 s1 a b v h = record { stays = h.stays; around = h.around; untold = h.untold; children = h.children; counts = by h.counts; blames = tt }
+pub leaves_short : {A B : Type 0} (path : List ℕ) (s0 s1 : KeptBytes) (a b : Seen) (v : A)
+    → Leaves path s0 a (Ok v) s1 b → Leaves {A = B} path s0 a (Err Memory) s1 b
+leaves_short path s0 s1 a b v h = record {
+  stays = h.stays;
+  around = h.around;
+  untold = h.untold;
+  children =
+      h.children;
+  counts = by h.counts;
+  blames = tt;
+}
   where
     by : b.file_faults ≡ a.file_faults → a.file_faults ≤ b.file_faults
     by e = omega (arith, e)
 
 -- no call on files
-pub leaves_local : {A : Type 0} (path : List ℕ) (s s1 : KeptBytes) (a : Seen) (r : Result A StoreFault) → s1.path ≡ s.path → ((n : ℕ) → CountsFiles cause_of r n n) → IfErr r (BlamesEither path s.path) → Leaves path s a r s1 a
-leaves_local path s s1 a r stays counts blames = record { stays = stays; around = around.itself path a; untold = untold_same a.files a.misused a.misused refl; children = refl; counts = counts a.file_faults; blames = blames }
+pub leaves_local : {A : Type 0} (path : List ℕ) (s s1 : KeptBytes) (a : Seen) (r : Result A StoreFault)
+    → s1.path ≡ s.path → ((n : ℕ) → CountsFiles cause_of r n n) → IfErr r (BlamesEither path s.path)
+    → Leaves path s a r s1 a
+leaves_local path s s1 a r stays counts blames = record {
+  stays = stays;
+  around = around.itself path a;
+  untold = untold_same a.files a.misused a.misused refl;
+  children = refl;
+  counts = counts a.file_faults;
+  blames = blames;
+}
 
 -- a piece of the file was read
-pub leaves_read : {W A : Type 0} (ghosts : world.Ghosts W) (path : List ℕ) (s s1 : KeptBytes) (r : Result A StoreFault) (old new : W) → s1.path ≡ s.path
-    → ReadFrame cause_of r (seen ghosts old) (seen ghosts new) → IfErr r (BlamesAt s.path) → MayMisuse (option_map (λ t. is_file (item_at t s.path)) (ghosts.tree old)) (ghosts.misused old) (ghosts.misused new)
+pub leaves_read : {W A : Type 0} (ghosts : world.Ghosts W) (path : List ℕ) (s s1 : KeptBytes)
+    (r : Result A StoreFault) (old new : W) → s1.path ≡ s.path
+    → ReadFrame cause_of r (seen ghosts old) (seen ghosts new) → IfErr r (BlamesAt s.path)
+    → MayMisuse (option_map (λ t. is_file (item_at t s.path)) (ghosts.tree old)) (ghosts.misused old)
+    (ghosts.misused new)
     → Leaves path s (seen ghosts old) r s1 (seen ghosts new)
 leaves_read ghosts path s s1 r old new stays frame blames misused = record {
   stays = stays;
-  around = record { files = around.kept_itself path (ghosts.tree old) (ghosts.tree new) frame.files; runs = frame.runs; misused = never (option_map (λ t. is_file (item_at t s.path)) (ghosts.tree old)) misused };
-  untold = untold_may (ghosts.tree old) (λ t. is_file (item_at t s.path)) (ghosts.misused old) (ghosts.misused new) misused;
+  around = record {
+    files = around.kept_itself path (ghosts.tree old)
+        (ghosts.tree new) frame.files;
+    runs = frame.runs;
+    misused = never
+        (option_map (λ t. is_file (item_at t s.path)) (ghosts.tree old)) misused;
+  };
+  untold = untold_may (ghosts.tree old) (λ t. is_file (item_at t s.path)) (ghosts.misused old)
+      (ghosts.misused new) misused;
   children = frame.children;
   counts = frame.counts;
   blames = blames_file path s.path r blames;
 }
   where
-    never : (o : Option Bool) → MayMisuse o (ghosts.misused old) (ghosts.misused new) → ghosts.misused old ≤ ghosts.misused new
+    never : (o : Option Bool) → MayMisuse o (ghosts.misused old) (ghosts.misused new)
+        → ghosts.misused old ≤ ghosts.misused new
     never None h = omega (arith, h)
     never (Some true) h = omega (arith, h)
     never (Some false) h = h
 
 -- a call on the path
-pub leaves_called : {W : Type 0} (ghosts : world.Ghosts W) (path : List ℕ) (s : KeptBytes) (answer : Result (Unit {0}) FileFault) (result : Result (Unit {0}) StoreFault) (old new : W)
-    → CountsFailed answer (ghosts.file_faults old) (ghosts.file_faults new) → ((before now : ℕ) → CountsFailed answer before now → CountsFiles cause_of result before now) → IfErr result (BlamesAt path)
-    → ghosts.child_faults new ≡ ghosts.child_faults old → LeavesAround path (seen ghosts old) (seen ghosts new) → MayMisuse (option_map (λ files. false) (ghosts.tree old)) (ghosts.misused old) (ghosts.misused new)
+pub leaves_called : {W : Type 0} (ghosts : world.Ghosts W) (path : List ℕ) (s : KeptBytes)
+    (answer : Result (Unit {0}) FileFault) (result : Result (Unit {0}) StoreFault) (old new : W)
+    → CountsFailed answer (ghosts.file_faults old) (ghosts.file_faults new)
+    → ((before now : ℕ) → CountsFailed answer before now → CountsFiles cause_of result before now)
+    → IfErr result (BlamesAt path)
+    → ghosts.child_faults new ≡ ghosts.child_faults old → LeavesAround path (seen ghosts old) (seen ghosts new)
+    → MayMisuse (option_map (λ files. false) (ghosts.tree old)) (ghosts.misused old) (ghosts.misused new)
     → Leaves path s (seen ghosts old) result s (seen ghosts new)
 leaves_called ghosts path s answer result old new counted counts blames children kept untold = record {
   stays = refl;
@@ -171,9 +269,12 @@ leaves_called ghosts path s answer result old new counted counts blames children
   blames = blames_at path s.path result blames;
 }
 
-pub blames_wider : {A : Type 0} (folder name path file : List ℕ) (r : Result A StoreFault) → path ≡ joined folder name → 0 < length name → IfErr r (BlamesEither path file) → IfErr r (BlamesEither folder file)
+pub blames_wider : {A : Type 0} (folder name path file : List ℕ) (r : Result A StoreFault)
+    → path ≡ joined folder name → 0 < length name → IfErr r (BlamesEither path file)
+    → IfErr r (BlamesEither folder file)
 blames_wider folder name path file (Ok v) is some h = tt
-blames_wider folder name path file (Err (File blamed)) is some (inl h) = inl (within_child folder name blamed some (ap (λ p. is_within p blamed) (sym is) ∙ h))
+blames_wider folder name path file (Err (File blamed)) is some (inl h) = inl
+    (within_child folder name blamed some (ap (λ p. is_within p blamed) (sym is) ∙ h))
 blames_wider folder name path file (Err (File blamed)) is some (inr h) = inr h
 blames_wider folder name path file (Err (OddFile odd)) is some h = tt
 blames_wider folder name path file (Err (Limit kind)) is some h = tt
@@ -183,7 +284,9 @@ blames_wider folder name path file (Err (Clash digest)) is some h = tt
 blames_wider folder name path file (Err Memory) is some h = tt
 
 -- what is left around a part of a folder is left around the folder
-pub leaves_wider : {A : Type 0} (folder name path : List ℕ) (s0 s1 : KeptBytes) (a b : Seen) (r : Result A StoreFault) → path ≡ joined folder name → IsTrue (is_part name) → Leaves path s0 a r s1 b → Leaves folder s0 a r s1 b
+pub leaves_wider : {A : Type 0} (folder name path : List ℕ) (s0 s1 : KeptBytes) (a b : Seen)
+    (r : Result A StoreFault) → path ≡ joined folder name → IsTrue (is_part name) → Leaves path s0 a r s1 b
+    → Leaves folder s0 a r s1 b
 leaves_wider folder name path s0 s1 a b r is part h = record {
   stays = h.stays;
   around = around.part_within folder name path a b is part h.around;
@@ -195,120 +298,254 @@ leaves_wider folder name path s0 s1 a b r is part h = record {
 
 -- ---- what they do
 
-map_twice : (o a b : Option Tree) (c1 c2 : Tree → Tree) → a ≡ option_map c1 o → b ≡ option_map c2 a → b ≡ option_map (λ files. c2 (c1 files)) o
+map_twice : (o a b : Option Tree) (c1 c2 : Tree → Tree) → a ≡ option_map c1 o → b ≡ option_map c2 a
+    → b ≡ option_map (λ files. c2 (c1 files)) o
 map_twice None a b c1 c2 e f = f ∙ ap (option_map c2) e
 map_twice (Some files) a b c1 c2 e f = f ∙ ap (option_map c2) e
 
-pub does_on : {A B : Type 0} (P : A → Type 0) (Q : B → Type 0) (whole mid rest : List ℕ) (c1 c2 : Tree → Tree) (w0 w1 w2 : List (List ℕ)) (s0 s1 s2 : KeptBytes) (a b c : Seen) (v : A) (r : Result B StoreFault)
-    → Does P whole mid c1 w0 w1 s0 a (Ok v) s1 b → (P v → Does Q mid rest c2 w1 w2 s1 b r s2 c) → Does Q whole rest (λ files. c2 (c1 files)) w0 w2 s0 a r s2 c
-does_on {B = B} P Q whole mid rest c1 c2 w0 w1 w2 s0 s1 s2 a b c v r first next = record { so = λ ahead folders. by (first.so ahead folders) }
+pub does_on : {A B : Type 0} (P : A → Type 0) (Q : B → Type 0) (whole mid rest : List ℕ) (c1 c2 : Tree → Tree)
+    (w0 w1 w2 : List (List ℕ)) (s0 s1 s2 : KeptBytes) (a b c : Seen) (v : A) (r : Result B StoreFault)
+    → Does P whole mid c1 w0 w1 s0 a (Ok v) s1 b → (P v → Does Q mid rest c2 w1 w2 s1 b r s2 c)
+    → Does Q whole rest (λ files. c2 (c1 files)) w0 w2 s0 a r s2 c
+does_on {B = B} P Q whole mid rest c1 c2 w0 w1 w2 s0 s1 s2 a b c v r first next = record
+    { so = λ ahead folders. by (first.so ahead folders) }
   where
-    files : (r : Result B StoreFault) → b.files ≡ option_map c1 a.files → OnOk r (c.files ≡ option_map c2 b.files) → OnOk r (c.files ≡ option_map (λ files. c2 (c1 files)) a.files)
+    files : (r : Result B StoreFault) → b.files ≡ option_map c1 a.files → OnOk r (c.files ≡ option_map c2 b.files)
+        → OnOk r (c.files ≡ option_map (λ files. c2 (c1 files)) a.files)
     files (Ok w) e f = map_twice a.files b.files c.files c1 c2 e f
     files (Err fault) e f = tt
 
     both : Did P mid c1 w1 a (Ok v) s1 b → Did Q rest c2 w2 b r s2 c → Did Q rest (λ files. c2 (c1 files)) w2 a r s2 c
-    both one two = record { value = two.value; files = files r one.files two.files; ahead = two.ahead; folders = two.folders; free = two.free; right = two.right ∙ one.right }
+    both one two = record {
+      value = two.value;
+      files = files r one.files two.files;
+      ahead = two.ahead;
+      folders =
+          two.folders;
+      free = two.free;
+      right = two.right ∙ one.right;
+    }
 
     by : Did P mid c1 w1 a (Ok v) s1 b → Did Q rest (λ files. c2 (c1 files)) w2 a r s2 c
     by one = both one ((next one.value).so one.ahead one.folders)
 
-pub does_stop : {A B : Type 0} (P : A → Type 0) (Q : B → Type 0) (whole mid rest : List ℕ) (c1 c2 : Tree → Tree) (w0 w1 w2 : List (List ℕ)) (s0 s1 : KeptBytes) (a b : Seen) (fault : StoreFault)
+pub does_stop : {A B : Type 0} (P : A → Type 0) (Q : B → Type 0) (whole mid rest : List ℕ) (c1 c2 : Tree → Tree)
+    (w0 w1 w2 : List (List ℕ)) (s0 s1 : KeptBytes) (a b : Seen) (fault : StoreFault)
     → Does P whole mid c1 w0 w1 s0 a (Err fault) s1 b → Does Q whole rest c2 w0 w2 s0 a (Err fault) s1 b
-does_stop P Q whole mid rest c1 c2 w0 w1 w2 s0 s1 a b fault first = record { so = λ ahead folders. by (first.so ahead folders) }
+does_stop P Q whole mid rest c1 c2 w0 w1 w2 s0 s1 a b fault first = record
+    { so = λ ahead folders. by (first.so ahead folders) }
   where
     by : Did P mid c1 w1 a (Err fault) s1 b → Did Q rest c2 w2 a (Err fault) s1 b
     by one = record { value = tt; files = tt; ahead = tt; folders = tt; free = one.free; right = one.right }
 
 -- the same change told in another way
-pub does_as : {A : Type 0} (Q : A → Type 0) (whole rest : List ℕ) (c1 c2 : Tree → Tree) (w0 w1 : List (List ℕ)) (s0 s1 : KeptBytes) (a b : Seen) (r : Result A StoreFault)
-    → ((files : Tree) → c1 files ≡ c2 files) → Does Q whole rest c1 w0 w1 s0 a r s1 b → Does Q whole rest c2 w0 w1 s0 a r s1 b
+pub does_as : {A : Type 0} (Q : A → Type 0) (whole rest : List ℕ) (c1 c2 : Tree → Tree) (w0 w1 : List (List ℕ))
+    (s0 s1 : KeptBytes) (a b : Seen) (r : Result A StoreFault)
+    → ((files : Tree) → c1 files ≡ c2 files) → Does Q whole rest c1 w0 w1 s0 a r s1 b
+    → Does Q whole rest c2 w0 w1 s0 a r s1 b
 does_as {A = A} Q whole rest c1 c2 w0 w1 s0 s1 a b r same h = record { so = λ ahead folders. by (h.so ahead folders) }
   where
     mapped : (o : Option Tree) → option_map c1 o ≡ option_map c2 o
     mapped None = refl
     mapped (Some files) = ap Some (same files)
 
-    files : (r : Result A StoreFault) → OnOk r (b.files ≡ option_map c1 a.files) → OnOk r (b.files ≡ option_map c2 a.files)
+    files : (r : Result A StoreFault) → OnOk r (b.files ≡ option_map c1 a.files)
+        → OnOk r (b.files ≡ option_map c2 a.files)
     files (Ok v) e = e ∙ mapped a.files
     files (Err fault) e = tt
 
     by : Did Q rest c1 w1 a r s1 b → Did Q rest c2 w1 a r s1 b
-    by one = record { value = one.value; files = files r one.files; ahead = one.ahead; folders = one.folders; free = one.free; right = one.right }
+    by one = record {
+      value = one.value;
+      files = files r one.files;
+      ahead = one.ahead;
+      folders = one.folders;
+      free = one.free;
+      right = one.right;
+    }
 
-pub does_bytes : {A : Type 0} (Q : A → Type 0) (whole other rest : List ℕ) (c : Tree → Tree) (w0 w1 : List (List ℕ)) (s0 s1 : KeptBytes) (a b : Seen) (r : Result A StoreFault)
+pub does_bytes : {A : Type 0} (Q : A → Type 0) (whole other rest : List ℕ) (c : Tree → Tree)
+    (w0 w1 : List (List ℕ)) (s0 s1 : KeptBytes) (a b : Seen) (r : Result A StoreFault)
     → whole ≡ other → Does Q whole rest c w0 w1 s0 a r s1 b → Does Q other rest c w0 w1 s0 a r s1 b
 does_bytes Q whole other rest c w0 w1 s0 s1 a b r same h = subst (λ bytes. Does Q bytes rest c w0 w1 s0 a r s1 b) same h
 
 -- nothing ahead, nothing done
-pub does_nothing : (bytes : List ℕ) (folders : List (List ℕ)) (s : KeptBytes) (a : Seen) → Lays bytes bytes (λ files. files) folders folders s a (Ok tt) s a
-does_nothing bytes folders s a = record { so = λ ahead are. record { value = tt; files = itself a.files; ahead = ahead; folders = are; free = tt; right = refl } }
+pub does_nothing : (bytes : List ℕ) (folders : List (List ℕ)) (s : KeptBytes) (a : Seen)
+    → Lays bytes bytes (λ files. files) folders folders s a (Ok tt) s a
+does_nothing bytes folders s a = record {
+  so = λ ahead are. record
+      { value = tt; files = itself a.files; ahead = ahead; folders = are; free = tt; right = refl };
+}
   where
     itself : (o : Option Tree) → o ≡ option_map (λ files. files) o
     itself None = refl
     itself (Some files) = refl
 
-pub does_memory : {A : Type 0} (Q : A → Type 0) (whole rest : List ℕ) (c : Tree → Tree) (w0 w1 : List (List ℕ)) (s : KeptBytes) (a : Seen) → Does Q whole rest c w0 w1 s a (Err Memory) s a
-does_memory Q whole rest c w0 w1 s a = record { so = λ ahead folders. record { value = tt; files = tt; ahead = tt; folders = tt; free = refl; right = refl } }
+pub does_memory : {A : Type 0} (Q : A → Type 0) (whole rest : List ℕ) (c : Tree → Tree) (w0 w1 : List (List ℕ))
+    (s : KeptBytes) (a : Seen) → Does Q whole rest c w0 w1 s a (Err Memory) s a
+does_memory Q whole rest c w0 w1 s a = record {
+  so = λ ahead folders. record {
+    value = tt;
+    files = tt;
+    ahead = tt;
+    folders = tt;
+    free = refl;
+    right =
+        refl;
+  };
+}
 
 -- a refusal that comes anyway
-pub does_failed : {A : Type 0} (Q : A → Type 0) (whole rest : List ℕ) (c : Tree → Tree) (w0 w1 : List (List ℕ)) (s s1 : KeptBytes) (a b : Seen) (fault : StoreFault) → (Ahead s a.files whole → b.misused ≡ a.misused) → IsTrue (is_free fault) → Does Q whole rest c w0 w1 s a (Err fault) s1 b
-does_failed Q whole rest c w0 w1 s s1 a b fault right free = record { so = λ ahead folders. record { value = tt; files = tt; ahead = tt; folders = tt; free = free; right = right ahead } }
+pub does_failed : {A : Type 0} (Q : A → Type 0) (whole rest : List ℕ) (c : Tree → Tree) (w0 w1 : List (List ℕ))
+    (s s1 : KeptBytes) (a b : Seen) (fault : StoreFault) → (Ahead s a.files whole → b.misused ≡ a.misused)
+    → IsTrue (is_free fault) → Does Q whole rest c w0 w1 s a (Err fault) s1 b
+does_failed Q whole rest c w0 w1 s s1 a b fault right free = record {
+  so = λ ahead folders. record {
+    value = tt;
+    files = tt;
+    ahead = tt;
+    folders = tt;
+    free = free;
+    right = right
+        ahead;
+  };
+}
 
 -- a refusal that can't come
-pub does_never : {A : Type 0} (Q : A → Type 0) (whole rest : List ℕ) (c : Tree → Tree) (w0 w1 : List (List ℕ)) (s s1 : KeptBytes) (a b : Seen) (r : Result A StoreFault) → (Ahead s a.files whole → ⊥) → Does Q whole rest c w0 w1 s a r s1 b
+pub does_never : {A : Type 0} (Q : A → Type 0) (whole rest : List ℕ) (c : Tree → Tree) (w0 w1 : List (List ℕ))
+    (s s1 : KeptBytes) (a b : Seen) (r : Result A StoreFault) → (Ahead s a.files whole → ⊥)
+    → Does Q whole rest c w0 w1 s a r s1 b
 does_never Q whole rest c w0 w1 s s1 a b r never = record { so = λ ahead folders. absurd (never ahead) }
 
 -- no call on files
-pub does_local : {A : Type 0} (Q : A → Type 0) (whole rest : List ℕ) (paths : List (List ℕ)) (s s1 : KeptBytes) (a : Seen) (r : Result A StoreFault) → (Ahead s a.files whole → IfOk r Q) → (Ahead s a.files whole → OnOk r (Ahead s1 a.files rest)) → (Ahead s a.files whole → IfErr r (λ fault. IsTrue (is_free fault))) → Reading Q whole rest paths s a r s1 a
-does_local Q whole rest paths s s1 a (Ok v) value moves free = record { so = λ ahead folders. record { value = value ahead; files = itself a.files; ahead = moves ahead; folders = folders; free = tt; right = refl } }
+pub does_local : {A : Type 0} (Q : A → Type 0) (whole rest : List ℕ) (paths : List (List ℕ)) (s s1 : KeptBytes)
+    (a : Seen) (r : Result A StoreFault) → (Ahead s a.files whole → IfOk r Q)
+    → (Ahead s a.files whole → OnOk r (Ahead s1 a.files rest))
+    → (Ahead s a.files whole → IfErr r (λ fault. IsTrue (is_free fault))) → Reading Q whole rest paths s a r s1 a
+does_local Q whole rest paths s s1 a (Ok v) value moves free = record {
+  so = λ ahead folders. record {
+    value = value ahead;
+    files = itself a.files;
+    ahead = moves ahead;
+    folders =
+        folders;
+    free = tt;
+    right = refl;
+  };
+}
   where
     itself : (o : Option Tree) → o ≡ option_map (λ files. files) o
     itself None = refl
     itself (Some files) = refl
-does_local Q whole rest paths s s1 a (Err fault) value moves free = record { so = λ ahead folders. record { value = tt; files = tt; ahead = tt; folders = tt; free = free ahead; right = refl } }
+does_local Q whole rest paths s s1 a (Err fault) value moves free = record {
+  so = λ ahead folders. record {
+    value = tt;
+    files = tt;
+    ahead = tt;
+    folders = tt;
+    free = free ahead;
+    right =
+        refl;
+  };
+}
 
 -- a value was read
-pub does_read : {A : Type 0} (Q : A → Type 0) (v : A) (whole rest : List ℕ) (paths : List (List ℕ)) (s s1 : KeptBytes) (a b : Seen) → b.files ≡ a.files → (Ahead s a.files whole → Q v) → (Ahead s a.files whole → Ahead s1 b.files rest) → (Ahead s a.files whole → b.misused ≡ a.misused) → Reading Q whole rest paths s a (Ok v) s1 b
-does_read Q v whole rest paths s s1 a b same value moves right = record { so = λ ahead folders. record { value = value ahead; files = itself a.files b.files same; ahead = moves ahead; folders = subst (AreFolders paths) (sym same) folders; free = tt; right = right ahead } }
+pub does_read : {A : Type 0} (Q : A → Type 0) (v : A) (whole rest : List ℕ) (paths : List (List ℕ))
+    (s s1 : KeptBytes) (a b : Seen) → b.files ≡ a.files → (Ahead s a.files whole → Q v)
+    → (Ahead s a.files whole → Ahead s1 b.files rest) → (Ahead s a.files whole → b.misused ≡ a.misused)
+    → Reading Q whole rest paths s a (Ok v) s1 b
+does_read Q v whole rest paths s s1 a b same value moves right = record {
+  so = λ ahead folders. record {
+    value = value ahead;
+    files = itself a.files b.files same;
+    ahead = moves
+        ahead;
+    folders = subst (AreFolders paths) (sym same) folders;
+    free = tt;
+    right = right ahead;
+  };
+}
   where
     itself : (o o1 : Option Tree) → o1 ≡ o → o1 ≡ option_map (λ files. files) o
     itself None o1 e = e
     itself (Some files) o1 e = e
 
 -- another value of the same bytes
-pub does_value : {A B : Type 0} (P : A → Type 0) (Q : B → Type 0) (v : A) (w : B) (whole rest : List ℕ) (c : Tree → Tree) (w0 w1 : List (List ℕ)) (s s1 : KeptBytes) (a b : Seen) → (P v → Q w) → Does P whole rest c w0 w1 s a (Ok v) s1 b → Does Q whole rest c w0 w1 s a (Ok w) s1 b
+pub does_value : {A B : Type 0} (P : A → Type 0) (Q : B → Type 0) (v : A) (w : B) (whole rest : List ℕ)
+    (c : Tree → Tree) (w0 w1 : List (List ℕ)) (s s1 : KeptBytes) (a b : Seen) → (P v → Q w)
+    → Does P whole rest c w0 w1 s a (Ok v) s1 b → Does Q whole rest c w0 w1 s a (Ok w) s1 b
 does_value P Q v w whole rest c w0 w1 s s1 a b of h = record { so = λ ahead folders. by (h.so ahead folders) }
   where
     by : Did P rest c w1 a (Ok v) s1 b → Did Q rest c w1 a (Ok w) s1 b
-    by one = record { value = of one.value; files = one.files; ahead = one.ahead; folders = one.folders; free = tt; right = one.right }
+    by one = record {
+      value = of one.value;
+      files = one.files;
+      ahead = one.ahead;
+      folders = one.folders;
+      free =
+          tt;
+      right = one.right;
+    }
 
 -- a call on a path that isn't at the file or above it
-pub does_called : (path bytes : List ℕ) (s : KeptBytes) (change : Tree → Tree) (w0 w1 : List (List ℕ)) (answer : Result (Unit {0}) FileFault) (result : Result (Unit {0}) StoreFault) (a b : Seen)
-    → is_within path s.path ≡ false → OnOk answer (b.files ≡ option_map change a.files) → OnOk result (IsTrue (is_ok answer)) → IfErr result (λ fault. IsTrue (is_free fault)) → LeavesAround path a b → (AreFolders w0 a.files → b.misused ≡ a.misused)
-    → (b.files ≡ option_map change a.files → AreFolders w0 a.files → AreFolders w1 b.files) → Lays bytes bytes change w0 w1 s a result s b
+pub does_called : (path bytes : List ℕ) (s : KeptBytes) (change : Tree → Tree) (w0 w1 : List (List ℕ))
+    (answer : Result (Unit {0}) FileFault) (result : Result (Unit {0}) StoreFault) (a b : Seen)
+    → is_within path s.path ≡ false → OnOk answer (b.files ≡ option_map change a.files)
+    → OnOk result (IsTrue (is_ok answer)) → IfErr result (λ fault. IsTrue (is_free fault))
+    → LeavesAround path a b → (AreFolders w0 a.files → b.misused ≡ a.misused)
+    → (b.files ≡ option_map change a.files → AreFolders w0 a.files → AreFolders w1 b.files)
+    → Lays bytes bytes change w0 w1 s a result s b
 does_called path bytes s change w0 w1 answer (Ok done) a b apart changed ok free kept right folders =
     let is : b.files ≡ option_map change a.files = when_ok answer ok changed in
-    record { so = λ ahead are. record { value = tt; files = is; ahead = ahead_kept s path bytes a.files b.files apart kept.files ahead; folders = folders is are; free = tt; right = right are } }
+    record {
+      so = λ ahead are. record {
+        value = tt;
+        files = is;
+        ahead = ahead_kept s path bytes a.files b.files
+            apart kept.files ahead;
+        folders = folders is are;
+        free = tt;
+        right = right are;
+      };
+    }
 does_called path bytes s change w0 w1 answer (Err fault) a b apart changed ok free kept right folders =
-    record { so = λ ahead are. record { value = tt; files = tt; ahead = tt; folders = tt; free = free; right = right are } }
+    record {
+      so = λ ahead are. record {
+        value = tt;
+        files = tt;
+        ahead = tt;
+        folders = tt;
+        free = free;
+        right =
+            right are;
+      };
+    }
 
 -- ---- the same with what can be seen from their facts left out
 
-pub reads_on : {A B : Type 0} (P : A → Type 0) (Q : B → Type 0) {whole mid rest : List ℕ} {paths : List (List ℕ)} {s0 s1 s2 : KeptBytes} {a b c : Seen} {v : A} {r : Result B StoreFault}
-    → Reading P whole mid paths s0 a (Ok v) s1 b → (P v → Reading Q mid rest paths s1 b r s2 c) → Reading Q whole rest paths s0 a r s2 c
-reads_on P Q {whole} {mid} {rest} {paths} {s0} {s1} {s2} {a} {b} {c} {v} {r} first next = does_on P Q whole mid rest (λ files. files) (λ files. files) paths paths paths s0 s1 s2 a b c v r first next
+pub reads_on : {A B : Type 0} (P : A → Type 0) (Q : B → Type 0) {whole mid rest : List ℕ} {paths : List (List ℕ)}
+    {s0 s1 s2 : KeptBytes} {a b c : Seen} {v : A} {r : Result B StoreFault}
+    → Reading P whole mid paths s0 a (Ok v) s1 b → (P v → Reading Q mid rest paths s1 b r s2 c)
+    → Reading Q whole rest paths s0 a r s2 c
+reads_on P Q {whole} {mid} {rest} {paths} {s0} {s1} {s2} {a} {b} {c} {v} {r} first next = does_on P Q whole mid
+    rest (λ files. files) (λ files. files) paths paths paths s0 s1 s2 a b c v r first next
 
-pub reads_stop : {A B : Type 0} (P : A → Type 0) (Q : B → Type 0) {whole mid rest : List ℕ} {c1 c2 : Tree → Tree} {w0 w1 w2 : List (List ℕ)} {s0 s1 : KeptBytes} {a b : Seen} {fault : StoreFault}
+pub reads_stop : {A B : Type 0} (P : A → Type 0) (Q : B → Type 0) {whole mid rest : List ℕ} {c1 c2 : Tree → Tree}
+    {w0 w1 w2 : List (List ℕ)} {s0 s1 : KeptBytes} {a b : Seen} {fault : StoreFault}
     → Does P whole mid c1 w0 w1 s0 a (Err fault) s1 b → Does Q whole rest c2 w0 w2 s0 a (Err fault) s1 b
-reads_stop P Q {whole} {mid} {rest} {c1} {c2} {w0} {w1} {w2} {s0} {s1} {a} {b} {fault} first = does_stop P Q whole mid rest c1 c2 w0 w1 w2 s0 s1 a b fault first
+reads_stop P Q {whole} {mid} {rest} {c1} {c2} {w0} {w1} {w2} {s0} {s1} {a} {b} {fault} first = does_stop P Q whole
+    mid rest c1 c2 w0 w1 w2 s0 s1 a b fault first
 
 -- a value was read, and then something is laid
-pub lays_behind : {A : Type 0} (P : A → Type 0) {whole mid rest : List ℕ} {c : Tree → Tree} {w0 w1 : List (List ℕ)} {s0 s1 s2 : KeptBytes} {a b d : Seen} {v : A} {r : Result (Unit {0}) StoreFault}
-    → Reading P whole mid w0 s0 a (Ok v) s1 b → (P v → Lays mid rest c w0 w1 s1 b r s2 d) → Lays whole rest c w0 w1 s0 a r s2 d
-lays_behind P {whole} {mid} {rest} {c} {w0} {w1} {s0} {s1} {s2} {a} {b} {d} {v} {r} first next = does_on P (λ done. Unit {0}) whole mid rest (λ files. files) c w0 w0 w1 s0 s1 s2 a b d v r first next
+pub lays_behind : {A : Type 0} (P : A → Type 0) {whole mid rest : List ℕ} {c : Tree → Tree}
+    {w0 w1 : List (List ℕ)} {s0 s1 s2 : KeptBytes} {a b d : Seen} {v : A} {r : Result (Unit {0}) StoreFault}
+    → Reading P whole mid w0 s0 a (Ok v) s1 b → (P v → Lays mid rest c w0 w1 s1 b r s2 d)
+    → Lays whole rest c w0 w1 s0 a r s2 d
+lays_behind P {whole} {mid} {rest} {c} {w0} {w1} {s0} {s1} {s2} {a} {b} {d} {v} {r} first next = does_on P
+    (λ done. Unit {0}) whole mid rest (λ files. files) c w0 w0 w1 s0 s1 s2 a b d v r first next
 
-pub leaves_then : {A B : Type 0} {path : List ℕ} {s0 s1 s2 : KeptBytes} {a b c : Seen} {v : A} {r : Result B StoreFault} → Leaves path s0 a (Ok v) s1 b → Leaves path s1 b r s2 c → Leaves path s0 a r s2 c
+pub leaves_then : {A B : Type 0} {path : List ℕ} {s0 s1 s2 : KeptBytes} {a b c : Seen} {v : A}
+    {r : Result B StoreFault} → Leaves path s0 a (Ok v) s1 b → Leaves path s1 b r s2 c → Leaves path s0 a r s2 c
 leaves_then {A} {B} {path} {s0} {s1} {s2} {a} {b} {c} {v} {r} first next = leaves_on path s0 s1 s2 a b c v r first next
 
 -- ---- calls on a path that the file isn't within
@@ -325,40 +562,60 @@ unfolding AreFolders
 none_are None = tt
 none_are (Some files) = λ q h. absurd (cc)
 
-pub leaves_laid : {W : Type 0} (ghosts : world.Ghosts W) (path : List ℕ) (s : KeptBytes) (answer : Result (Unit {0}) FileFault) (result : Result (Unit {0}) StoreFault) (old new : W) (ways : List (List ℕ))
-    → CountsFailed answer (ghosts.file_faults old) (ghosts.file_faults new) → ((before now : ℕ) → CountsFailed answer before now → CountsFiles cause_of result before now) → IfErr result (BlamesAt path)
-    → ghosts.child_faults new ≡ ghosts.child_faults old → LeavesAround path (seen ghosts old) (seen ghosts new) → (AreFolders ways (ghosts.tree old) → ghosts.misused new ≡ ghosts.misused old)
+pub leaves_laid : {W : Type 0} (ghosts : world.Ghosts W) (path : List ℕ) (s : KeptBytes)
+    (answer : Result (Unit {0}) FileFault) (result : Result (Unit {0}) StoreFault) (old new : W)
+    (ways : List (List ℕ))
+    → CountsFailed answer (ghosts.file_faults old) (ghosts.file_faults new)
+    → ((before now : ℕ) → CountsFailed answer before now → CountsFiles cause_of result before now)
+    → IfErr result (BlamesAt path)
+    → ghosts.child_faults new ≡ ghosts.child_faults old → LeavesAround path (seen ghosts old) (seen ghosts new)
+    → (AreFolders ways (ghosts.tree old) → ghosts.misused new ≡ ghosts.misused old)
     → Leaves path s (seen ghosts old) result s (seen ghosts new)
 leaves_laid ghosts path s answer result old new ways counted counts blames children kept right =
-    leaves_called ghosts path s answer result old new counted counts blames children kept (untold_where (ghosts.tree old) ways (ghosts.misused old) (ghosts.misused new) right kept.misused)
+    leaves_called ghosts path s answer result old new counted counts blames children kept
+    (untold_where (ghosts.tree old) ways (ghosts.misused old) (ghosts.misused new) right kept.misused)
 
 -- something is laid, and then something else
-pub lays_on : {whole mid rest : List ℕ} {c1 c2 : Tree → Tree} {w0 w1 w2 : List (List ℕ)} {s0 s1 s2 : KeptBytes} {a b d : Seen} {r : Result (Unit {0}) StoreFault}
-    → Lays whole mid c1 w0 w1 s0 a (Ok tt) s1 b → Lays mid rest c2 w1 w2 s1 b r s2 d → Lays whole rest (λ files. c2 (c1 files)) w0 w2 s0 a r s2 d
-lays_on {whole} {mid} {rest} {c1} {c2} {w0} {w1} {w2} {s0} {s1} {s2} {a} {b} {d} {r} first next = does_on (λ done. Unit {0}) (λ done. Unit {0}) whole mid rest c1 c2 w0 w1 w2 s0 s1 s2 a b d tt r first (λ done. next)
+pub lays_on : {whole mid rest : List ℕ} {c1 c2 : Tree → Tree} {w0 w1 w2 : List (List ℕ)} {s0 s1 s2 : KeptBytes}
+    {a b d : Seen} {r : Result (Unit {0}) StoreFault}
+    → Lays whole mid c1 w0 w1 s0 a (Ok tt) s1 b → Lays mid rest c2 w1 w2 s1 b r s2 d
+    → Lays whole rest (λ files. c2 (c1 files)) w0 w2 s0 a r s2 d
+lays_on {whole} {mid} {rest} {c1} {c2} {w0} {w1} {w2} {s0} {s1} {s2} {a} {b} {d} {r} first next = does_on
+    (λ done. Unit {0}) (λ done. Unit {0}) whole mid rest c1 c2 w0 w1 w2 s0 s1 s2 a b d tt r first (λ done. next)
 
-pub lays_stop : {whole mid rest : List ℕ} {c1 c2 : Tree → Tree} {w0 w1 w2 : List (List ℕ)} {s0 s1 : KeptBytes} {a b : Seen} {fault : StoreFault}
+pub lays_stop : {whole mid rest : List ℕ} {c1 c2 : Tree → Tree} {w0 w1 w2 : List (List ℕ)} {s0 s1 : KeptBytes}
+    {a b : Seen} {fault : StoreFault}
     → Lays whole mid c1 w0 w1 s0 a (Err fault) s1 b → Lays whole rest c2 w0 w2 s0 a (Err fault) s1 b
 lays_stop first = reads_stop (λ done. Unit {0}) (λ done. Unit {0}) first
 
-pub lays_as : {whole rest : List ℕ} {c1 c2 : Tree → Tree} {w0 w1 : List (List ℕ)} {s0 s1 : KeptBytes} {a b : Seen} {r : Result (Unit {0}) StoreFault}
-    → ((files : Tree) → c1 files ≡ c2 files) → Lays whole rest c1 w0 w1 s0 a r s1 b → Lays whole rest c2 w0 w1 s0 a r s1 b
-lays_as {whole} {rest} {c1} {c2} {w0} {w1} {s0} {s1} {a} {b} {r} same h = does_as (λ done. Unit {0}) whole rest c1 c2 w0 w1 s0 s1 a b r same h
+pub lays_as : {whole rest : List ℕ} {c1 c2 : Tree → Tree} {w0 w1 : List (List ℕ)} {s0 s1 : KeptBytes} {a b : Seen}
+    {r : Result (Unit {0}) StoreFault}
+    → ((files : Tree) → c1 files ≡ c2 files) → Lays whole rest c1 w0 w1 s0 a r s1 b
+    → Lays whole rest c2 w0 w1 s0 a r s1 b
+lays_as {whole} {rest} {c1} {c2} {w0} {w1} {s0} {s1} {a} {b} {r} same h = does_as
+    (λ done. Unit {0}) whole rest c1 c2 w0 w1 s0 s1 a b r same h
 
-pub lays_bytes : {whole other rest : List ℕ} {c : Tree → Tree} {w0 w1 : List (List ℕ)} {s0 s1 : KeptBytes} {a b : Seen} {r : Result (Unit {0}) StoreFault}
+pub lays_bytes : {whole other rest : List ℕ} {c : Tree → Tree} {w0 w1 : List (List ℕ)} {s0 s1 : KeptBytes}
+    {a b : Seen} {r : Result (Unit {0}) StoreFault}
     → whole ≡ other → Lays whole rest c w0 w1 s0 a r s1 b → Lays other rest c w0 w1 s0 a r s1 b
-lays_bytes {whole} {other} {rest} {c} {w0} {w1} {s0} {s1} {a} {b} {r} same h = does_bytes (λ done. Unit {0}) whole other rest c w0 w1 s0 s1 a b r same h
+lays_bytes {whole} {other} {rest} {c} {w0} {w1} {s0} {s1} {a} {b} {r} same h = does_bytes
+    (λ done. Unit {0}) whole other rest c w0 w1 s0 s1 a b r same h
 
-pub lays_never : {whole rest : List ℕ} {c : Tree → Tree} {w0 w1 : List (List ℕ)} {s s1 : KeptBytes} {a b : Seen} {r : Result (Unit {0}) StoreFault} → ⊥ → Lays whole rest c w0 w1 s a r s1 b
+pub lays_never : {whole rest : List ℕ} {c : Tree → Tree} {w0 w1 : List (List ℕ)} {s s1 : KeptBytes} {a b : Seen}
+    {r : Result (Unit {0}) StoreFault} → ⊥ → Lays whole rest c w0 w1 s a r s1 b
 lays_never h = absurd h
 
 -- what isn't within a folder isn't within a part of it
-pub apart_child : (folder name path file after : List ℕ) → path ≡ joined folder name → IsTrue (is_part name) → after ≡ file → is_within folder file ≡ false → is_within path after ≡ false
+pub apart_child : (folder name path file after : List ℕ) → path ≡ joined folder name → IsTrue (is_part name)
+    → after ≡ file → is_within folder file ≡ false → is_within path after ≡ false
 apart_child folder name path file after is part same apart = false_from_ne_true (is_within path after) (λ e.
-    let no : true ≡ false = sym (within_child folder name file (part_form name part).0 (sym (ap (λ p. is_within p file) is) ∙ sym (ap (is_within path) same) ∙ e)) ∙ apart in cc)
+    let no : true ≡ false = sym (within_child folder name file (part_form name part).0
+    (sym (ap (λ p. is_within p file) is) ∙ sym (ap (is_within path) same) ∙ e)) ∙ apart in cc)
 
 pub part_size : (name : List ℕ) → IsTrue (is_part name) → length name ≤ 255
-part_size name part = leb-true (length name) 255 (second (nat_lt 0 (length name)) (nat_le (length name) 255) (not (bytes_eq name (46 ∷ []))) (not (bytes_eq name (46 ∷ 46 ∷ []))) (list_all is_part_byte name) part)
+part_size name part = leb-true (length name) 255
+    (second (nat_lt 0 (length name)) (nat_le (length name) 255) (not (bytes_eq name (46 ∷ [])))
+    (not (bytes_eq name (46 ∷ 46 ∷ []))) (list_all is_part_byte name) part)
   where
     second : (a b c d e : Bool) → IsTrue ((((a && b) && c) && d) && e) → b ≡ true
     second true true c d e h = refl
@@ -366,6 +623,8 @@ part_size name part = leb-true (length name) 255 (second (nat_lt 0 (length name)
     second false b c d e h = absurd (cc)
 
 -- the same with other folders before
-pub lays_from : {whole rest : List ℕ} {c : Tree → Tree} {w w0 w1 : List (List ℕ)} {s0 s1 : KeptBytes} {a b : Seen} {r : Result (Unit {0}) StoreFault}
-    → (AreFolders w a.files → AreFolders w0 a.files) → Lays whole rest c w0 w1 s0 a r s1 b → Lays whole rest c w w1 s0 a r s1 b
+pub lays_from : {whole rest : List ℕ} {c : Tree → Tree} {w w0 w1 : List (List ℕ)} {s0 s1 : KeptBytes} {a b : Seen}
+    {r : Result (Unit {0}) StoreFault}
+    → (AreFolders w a.files → AreFolders w0 a.files) → Lays whole rest c w0 w1 s0 a r s1 b
+    → Lays whole rest c w w1 s0 a r s1 b
 lays_from given h = record { so = λ ahead are. h.so ahead (given are) }

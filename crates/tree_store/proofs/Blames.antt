@@ -25,22 +25,27 @@ within_itself path = by (is_root path)
     by false = ap (λ v. v || starts_with nat_eq path (path ++ 47 ∷ [])) (bytes_eq-same path)
 
 -- what is within a name in a folder is within the folder
-pub within_child : (folder name q : List ℕ) → 0 < length name → is_within (joined folder name) q ≡ true → is_within folder q ≡ true
+pub within_child : (folder name q : List ℕ) → 0 < length name → is_within (joined folder name) q ≡ true
+    → is_within folder q ≡ true
 within_child folder name q some h = by (is_root folder) refl
   where
     front : List ℕ
     front = folder ++ 47 ∷ []
 
-    begins : joined folder name ≡ front ++ name → (v : Bool) → bytes_eq q (joined folder name) ≡ v → (v || starts_with nat_eq q (joined folder name ++ 47 ∷ [])) ≡ true → starts_with nat_eq q front ≡ true
-    begins is true e h = ap (λ x. starts_with nat_eq x front) ((bytes_eq-Decides q (joined folder name)).0 e ∙ is) ∙ starts_itself front name
-    begins is false e h = longer_front q front (name ++ 47 ∷ []) (ap (starts_with nat_eq q) (sym (ap (λ x. x ++ 47 ∷ []) is ∙ append_assoc front name (47 ∷ []))) ∙ h)
+    begins : joined folder name ≡ front ++ name → (v : Bool) → bytes_eq q (joined folder name) ≡ v
+        → (v || starts_with nat_eq q (joined folder name ++ 47 ∷ [])) ≡ true → starts_with nat_eq q front ≡ true
+    begins is true e h = ap (λ x. starts_with nat_eq x front) ((bytes_eq-Decides q (joined folder name)).0 e ∙ is)
+        ∙ starts_itself front name
+    begins is false e h = longer_front q front (name ++ 47 ∷ [])
+        (ap (starts_with nat_eq q) (sym (ap (λ x. x ++ 47 ∷ []) is ∙ append_assoc front name (47 ∷ []))) ∙ h)
 
     under : is_under (joined folder name) q ≡ true
     under = ap (λ v. v || is_under (joined folder name) q) (sym (child_not_root folder name some)) ∙ h
 
     by : (v : Bool) → is_root folder ≡ v → (v || is_under folder q) ≡ true
     by true e = refl
-    by false e = or_right (bytes_eq q folder) (starts_with nat_eq q front) (begins (ap (λ v. cond v folder front ++ name) e) (bytes_eq q (joined folder name)) refl under)
+    by false e = or_right (bytes_eq q folder) (starts_with nat_eq q front)
+        (begins (ap (λ v. cond v folder front ++ name) e) (bytes_eq q (joined folder name)) refl under)
 
 pub at_within : (path : List ℕ) (fault : StoreFault) → BlamesAt path fault → BlamesWithin path fault
 at_within path (File blamed) is = ap (is_within path) is ∙ within_itself path
@@ -51,8 +56,10 @@ at_within path (Damaged asked found bad) is = tt
 at_within path (Clash digest) is = tt
 at_within path Memory is = tt
 
-child_within : (folder name path : List ℕ) (fault : StoreFault) → path ≡ joined folder name → 0 < length name → BlamesWithin path fault → BlamesWithin folder fault
-child_within folder name path (File blamed) is some h = within_child folder name blamed some (ap (λ p. is_within p blamed) (sym is) ∙ h)
+child_within : (folder name path : List ℕ) (fault : StoreFault) → path ≡ joined folder name → 0 < length name
+    → BlamesWithin path fault → BlamesWithin folder fault
+child_within folder name path (File blamed) is some h = within_child folder name blamed some
+    (ap (λ p. is_within p blamed) (sym is) ∙ h)
 child_within folder name path (OddFile odd) is some h = tt
 child_within folder name path (Limit kind) is some h = tt
 child_within folder name path (NoTree digest) is some h = tt
@@ -60,14 +67,18 @@ child_within folder name path (Damaged asked found bad) is some h = tt
 child_within folder name path (Clash digest) is some h = tt
 child_within folder name path Memory is some h = tt
 
-pub part_within : (folder name path : List ℕ) (fault : StoreFault) → path ≡ joined folder name → IsTrue (is_part name) → BlamesWithin path fault → BlamesWithin folder fault
+pub part_within : (folder name path : List ℕ) (fault : StoreFault) → path ≡ joined folder name
+    → IsTrue (is_part name) → BlamesWithin path fault → BlamesWithin folder fault
 part_within folder name path fault is part h = child_within folder name path fault is (part_form name part).0 h
 
-pub name_within : (folder name path : List ℕ) (fault : StoreFault) → path ≡ joined folder name → is_name name ≡ true → BlamesWithin path fault → BlamesWithin folder fault
+pub name_within : (folder name path : List ℕ) (fault : StoreFault) → path ≡ joined folder name
+    → is_name name ≡ true → BlamesWithin path fault → BlamesWithin folder fault
 name_within folder name path fault is name_is h = child_within folder name path fault is (name_form name name_is).0 h
 
 -- the path of a call that failed is that of the last one
-pub blamed_last : (T : Type 0) (path : List ℕ) (fault : FileFault) (refusal : StoreFault) (before now : Option (List ℕ)) → LastFailed {T = T} path (Err fault) before now → Blames path fault refusal → IsReadCause now (cause_of refusal)
+pub blamed_last : (T : Type 0) (path : List ℕ) (fault : FileFault) (refusal : StoreFault)
+    (before now : Option (List ℕ)) → LastFailed {T = T} path (Err fault) before now → Blames path fault refusal
+    → IsReadCause now (cause_of refusal)
 blamed_last T path file_fault.Failed (File blamed) before now last h = last ∙ ap Some (sym h)
 blamed_last T path file_fault.Memory (File blamed) before now last h = absurd (cc)
 blamed_last T path fault (OddFile odd) before now last h = tt
@@ -78,7 +89,8 @@ blamed_last T path fault (Clash digest) before now last h = tt
 blamed_last T path fault Memory before now last h = tt
 
 -- an answer that no call on files was made for has no path of a call
-pub names_none : (T : Type 0) (result : Result T StoreFault) (last : Option (List ℕ)) → ((n : ℕ) → CountsFiles cause_of result n n) → IfErr result (λ fault. IsReadCause last (cause_of fault))
+pub names_none : (T : Type 0) (result : Result T StoreFault) (last : Option (List ℕ))
+    → ((n : ℕ) → CountsFiles cause_of result n n) → IfErr result (λ fault. IsReadCause last (cause_of fault))
 names_none T (Ok value) last h = tt
 names_none T (Err (File path)) last h = let rose : Rose 0 0 = h 0 in let up = rose.up in absurd (omega arith)
 names_none T (Err (OddFile path)) last h = tt

@@ -21,9 +21,12 @@ never_for_a_child (NoTree digest) = tt
 never_for_a_child (Damaged asked found bad) = tt
 never_for_a_child (Clash digest) = tt
 
-pub counted : {A : Type 0} (result : Result A StoreFault) (old new : Seen) → CountsFiles cause_of result old.file_faults new.file_faults → new.child_faults ≡ old.child_faults → FileCounts (ended_by cause_of result) old new
+pub counted : {A : Type 0} (result : Result A StoreFault) (old new : Seen)
+    → CountsFiles cause_of result old.file_faults new.file_faults → new.child_faults ≡ old.child_faults
+    → FileCounts (ended_by cause_of result) old new
 counted (Ok value) old new files children = record { ends = tt; files = files; children = children }
-counted (Err fault) old new files children = record { ends = never_for_a_child fault; files = files; children = children }
+counted (Err fault) old new files children = record
+    { ends = never_for_a_child fault; files = files; children = children }
 
 pub read_tree_counts : (path : List ℕ) → Obeys FileCounts cause_of (reads_tree path)
 unfolding reads_tree
@@ -39,7 +42,9 @@ get_tree_counts store digest old new result h = h.counts
 
 pub check_tree_counts : (store digest : List ℕ) → Obeys FileCounts cause_of (checks_tree store digest)
 unfolding checks_tree
-check_tree_counts store digest = obeys_bind FileCounts cause_of (gets_tree store digest) (λ tree. yields tt) files_link (get_tree_counts store digest) (λ tree. obeys_yields FileCounts cause_of tt files_rest)
+check_tree_counts store digest = obeys_bind FileCounts cause_of (gets_tree store digest)
+    (λ tree. yields tt) files_link (get_tree_counts store digest)
+    (λ tree. obeys_yields FileCounts cause_of tt files_rest)
 
 pub put_tree_counts : (store : List ℕ) (tree : Node) → Obeys FileCounts cause_of (puts_tree store tree)
 unfolding puts_tree
@@ -54,12 +59,15 @@ unfolding lays_tree
 lay_tree_counts root place tree old new (Ok done) h = h.3
 lay_tree_counts root place tree old new (Err fault) h = h.3
 
-pub lay_kept_counts : (store digest root place : List ℕ) (tree : Node) → Obeys FileCounts cause_of (lays_kept store digest root place tree)
+pub lay_kept_counts : (store digest root place : List ℕ) (tree : Node)
+    → Obeys FileCounts cause_of (lays_kept store digest root place tree)
 unfolding lays_kept
 lay_kept_counts store digest root place tree old new (Ok done) h = h.3
 lay_kept_counts store digest root place tree old new (Err fault) h = h.3
 
-pub lay_stored_counts : (store digest root place : List ℕ) → Obeys FileCounts cause_of (lays_stored store digest root place)
+pub lay_stored_counts : (store digest root place : List ℕ)
+    → Obeys FileCounts cause_of (lays_stored store digest root place)
 unfolding lays_stored
 lay_stored_counts store digest root place =
-    obeys_bind FileCounts cause_of (gets_tree store digest) (lays_kept store digest root place) files_link (get_tree_counts store digest) (lay_kept_counts store digest root place)
+    obeys_bind FileCounts cause_of (gets_tree store digest) (lays_kept store digest root place) files_link
+    (get_tree_counts store digest) (lay_kept_counts store digest root place)

@@ -24,7 +24,8 @@ use Rattle.tree_store.specs.declared.kept_bytes.KeptBytes.{KeptBytes}
 drop_more : (n m : ℕ) (xs : List ℕ) → drop (n + m) xs ≡ drop m (drop n xs)
 drop_more zero m xs = ap (λ n. drop n xs) (let e : 0 + m ≡ m = omega arith in e)
 drop_more (suc n) m [] = ap (λ n. drop n []) (let e : suc n + m ≡ suc (n + m) = omega arith in e) ∙ sym (drop-nil m)
-drop_more (suc n) m (x ∷ xs) = ap (λ n. drop n (x ∷ xs)) (let e : suc n + m ≡ suc (n + m) = omega arith in e) ∙ drop_more n m xs
+drop_more (suc n) m (x ∷ xs) = ap (λ n. drop n (x ∷ xs)) (let e : suc n + m ≡ suc (n + m) = omega arith in e)
+    ∙ drop_more n m xs
 
 take_own : (n : ℕ) (xs : List ℕ) → take (length (take n xs)) xs ≡ take n xs
 take_own zero xs = refl
@@ -43,7 +44,9 @@ take_within (suc n) (suc m) (x ∷ xs) le = ap (λ l. x ∷ l) (take_within n m 
 
 -- ---- a piece that is read
 
-filled : (source after : KeptBytes) (found : Option Item) (bytes : List ℕ) → IsAhead source found bytes → after.digest ≡ source.digest → after.hasher ≡ source.hasher → after.at ≡ source.at → after.used ≡ 0 → after.piece ≡ take 65536 (drop source.at (bytes_of found)) → IsAhead after found bytes
+filled : (source after : KeptBytes) (found : Option Item) (bytes : List ℕ) → IsAhead source found bytes
+    → after.digest ≡ source.digest → after.hasher ≡ source.hasher → after.at ≡ source.at → after.used ≡ 0
+    → after.piece ≡ take 65536 (drop source.at (bytes_of found)) → IsAhead after found bytes
 filled source after found bytes h digest hasher at used piece = record {
   file = h.file;
   few = subst (λ n. n + length bytes ≤ limit) (sym at) h.few;
@@ -58,16 +61,24 @@ filled source after found bytes h digest hasher at used piece = record {
     first = piece ∙ ap (take 65536) (sym h.is)
 
     whole : after.piece ≡ take (length after.piece - 0) bytes
-    whole = first ∙ sym (take_own 65536 bytes) ∙ ap (λ l. take (length l) bytes) (sym first) ∙ ap (λ n. take n bytes) (let e : length after.piece ≡ length after.piece - 0 = omega arith in e)
+    whole = first ∙ sym (take_own 65536 bytes) ∙ ap (λ l. take (length l) bytes) (sym first)
+        ∙ ap (λ n. take n bytes) (let e : length after.piece ≡ length after.piece - 0 = omega arith in e)
 
-pub ahead_filled : (source after : KeptBytes) (o o1 : Option Tree) (bytes : List ℕ) → o1 ≡ o → IfSome o (λ files. after.piece ≡ take 65536 (drop source.at (bytes_of (item_at files source.path)))) → after.path ≡ source.path → after.digest ≡ source.digest → after.hasher ≡ source.hasher → after.at ≡ source.at → after.used ≡ 0 → Ahead source o bytes → Ahead after o1 bytes
+pub ahead_filled : (source after : KeptBytes) (o o1 : Option Tree) (bytes : List ℕ) → o1 ≡ o
+    → IfSome o (λ files. after.piece ≡ take 65536 (drop source.at (bytes_of (item_at files source.path))))
+    → after.path ≡ source.path → after.digest ≡ source.digest → after.hasher ≡ source.hasher
+    → after.at ≡ source.at → after.used ≡ 0 → Ahead source o bytes → Ahead after o1 bytes
 unfolding Ahead
 ahead_filled source after None o1 bytes same read path digest hasher at used h = absurd h
-ahead_filled source after (Some files) o1 bytes same read path digest hasher at used h = subst (λ x. Ahead after x bytes) (sym same)
-    (subst (λ p. IsAhead after (item_at files p) bytes) (sym path) (filled source after (item_at files source.path) bytes h digest hasher at used read))
+ahead_filled source after (Some files) o1 bytes same read path digest hasher at used h = subst
+    (λ x. Ahead after x bytes) (sym same)
+    (subst (λ p. IsAhead after (item_at files p) bytes) (sym path)
+    (filled source after (item_at files source.path) bytes h digest hasher at used read))
 
 -- a piece has all the bytes that are wanted, where so many lie ahead
-pub piece_long : (source : KeptBytes) (o : Option Tree) (piece bytes : List ℕ) (len : ℕ) → len ≤ 65536 → len ≤ length bytes → IfSome o (λ files. piece ≡ take 65536 (drop source.at (bytes_of (item_at files source.path)))) → Ahead source o bytes → len ≤ length piece
+pub piece_long : (source : KeptBytes) (o : Option Tree) (piece bytes : List ℕ) (len : ℕ) → len ≤ 65536
+    → len ≤ length bytes → IfSome o (λ files. piece ≡ take 65536
+    (drop source.at (bytes_of (item_at files source.path)))) → Ahead source o bytes → len ≤ length piece
 unfolding Ahead
 piece_long source None piece bytes len few long read h = absurd h
 piece_long source (Some files) piece bytes len few long read h =
@@ -76,51 +87,74 @@ piece_long source (Some files) piece bytes len few long read h =
 
 -- ---- a field that is cut off
 
-taken : (source : KeptBytes) (found : Option Item) (field rest : List ℕ) → source.used + length field ≤ length source.piece → IsAhead source found (field ++ rest) → take (length field) (drop source.used source.piece) ≡ field
+taken : (source : KeptBytes) (found : Option Item) (field rest : List ℕ)
+    → source.used + length field ≤ length source.piece → IsAhead source found (field ++ rest)
+    → take (length field) (drop source.used source.piece) ≡ field
 taken source found field rest held h =
     ap (take (length field)) h.held
     ∙ take_within (length field) (length source.piece - source.used) (field ++ rest) (omega arith)
     ∙ take_first field rest
 
-pub ahead_taken : (source : KeptBytes) (o : Option Tree) (field rest : List ℕ) (len : ℕ) → length field ≡ len → source.used + len ≤ length source.piece → Ahead source o (field ++ rest) → take len (drop source.used source.piece) ≡ field
+pub ahead_taken : (source : KeptBytes) (o : Option Tree) (field rest : List ℕ) (len : ℕ) → length field ≡ len
+    → source.used + len ≤ length source.piece → Ahead source o (field ++ rest)
+    → take len (drop source.used source.piece) ≡ field
 unfolding Ahead
 ahead_taken source None field rest len is held h = absurd h
-ahead_taken source (Some files) field rest len is held h = ap (λ n. take n (drop source.used source.piece)) (sym is) ∙ taken source (item_at files source.path) field rest (omega arith) h
+ahead_taken source (Some files) field rest len is held h = ap (λ n. take n (drop source.used source.piece))
+    (sym is) ∙ taken source (item_at files source.path) field rest (omega arith) h
 
-moved : (source after : KeptBytes) (found : Option Item) (field rest : List ℕ) → source.used + length field ≤ length source.piece → IsAhead source found (field ++ rest) → after.digest ≡ source.digest → ((bytes : List ℕ) → Holds256 source.hasher bytes → Holds256 after.hasher (bytes ++ field)) → after.piece ≡ source.piece → after.at ≡ source.at + length field → after.used ≡ source.used + length field → IsAhead after found rest
+moved : (source after : KeptBytes) (found : Option Item) (field rest : List ℕ)
+    → source.used + length field ≤ length source.piece → IsAhead source found (field ++ rest)
+    → after.digest ≡ source.digest → ((bytes : List ℕ) → Holds256 source.hasher bytes
+    → Holds256 after.hasher (bytes ++ field)) → after.piece ≡ source.piece → after.at ≡ source.at + length field
+    → after.used ≡ source.used + length field → IsAhead after found rest
 moved source after found field rest held h digest hashes piece at used = record {
   file = h.file;
   few = omega (arith, h.few, at, length-append field rest);
-  is = sym (drop-append_seam field rest) ∙ ap (drop (length field)) h.is ∙ sym (drop_more source.at (length field) (bytes_of found)) ∙ ap (λ n. drop n (bytes_of found)) (sym at);
-  held = ap (λ p. drop after.used p) piece ∙ ap (λ n. drop n source.piece) used ∙ drop_more source.used (length field) source.piece ∙ ap (drop (length field)) h.held
-      ∙ ap (λ n. drop (length field) (take n (field ++ rest))) (let e : length source.piece - source.used ≡ length field + (length source.piece - (source.used + length field)) = omega arith in e)
+  is = sym (drop-append_seam field rest) ∙ ap (drop (length field)) h.is
+      ∙ sym (drop_more source.at (length field) (bytes_of found)) ∙ ap (λ n. drop n (bytes_of found)) (sym at);
+  held = ap (λ p. drop after.used p) piece ∙ ap (λ n. drop n source.piece) used
+      ∙ drop_more source.used (length field) source.piece ∙ ap (drop (length field)) h.held
+      ∙ ap (λ n. drop (length field) (take n (field ++ rest)))
+      (let e : length source.piece - source.used ≡ length field +
+      (length source.piece - (source.used + length field)) = omega arith in e)
       ∙ drop-take (length field) (length source.piece - (source.used + length field)) (field ++ rest)
       ∙ ap (take (length source.piece - (source.used + length field))) (drop-append_seam field rest)
-      ∙ ap (λ p. take (length p - (source.used + length field)) rest) (sym piece) ∙ ap (λ n. take (length after.piece - n) rest) (sym used);
+      ∙ ap (λ p. take (length p - (source.used + length field)) rest) (sym piece)
+      ∙ ap (λ n. take (length after.piece - n) rest) (sym used);
   taken = h.taken ++ field;
   hashed = hashes h.taken h.hashed;
   whole = ap sha256 (append_assoc h.taken field rest) ∙ h.whole ∙ sym digest;
 }
 
-pub ahead_moved : (source after : KeptBytes) (o : Option Tree) (field rest : List ℕ) (len : ℕ) → length field ≡ len → source.used + len ≤ length source.piece → after.path ≡ source.path → after.digest ≡ source.digest → ((bytes : List ℕ) → Holds256 source.hasher bytes → Holds256 after.hasher (bytes ++ field)) → after.piece ≡ source.piece → after.at ≡ source.at + len → after.used ≡ source.used + len → Ahead source o (field ++ rest) → Ahead after o rest
+pub ahead_moved : (source after : KeptBytes) (o : Option Tree) (field rest : List ℕ) (len : ℕ)
+    → length field ≡ len → source.used + len ≤ length source.piece → after.path ≡ source.path
+    → after.digest ≡ source.digest → ((bytes : List ℕ) → Holds256 source.hasher bytes
+    → Holds256 after.hasher (bytes ++ field)) → after.piece ≡ source.piece → after.at ≡ source.at + len
+    → after.used ≡ source.used + len → Ahead source o (field ++ rest) → Ahead after o rest
 unfolding Ahead
 ahead_moved source after None field rest len is held path digest hashes piece at used h = absurd h
 ahead_moved source after (Some files) field rest len is held path digest hashes piece at used h =
-    subst (λ p. IsAhead after (item_at files p) rest) (sym path) (moved source after (item_at files source.path) field rest (omega arith) h digest hashes piece (at ∙ ap (λ n. source.at + n) (sym is)) (used ∙ ap (λ n. source.used + n) (sym is)))
+    subst (λ p. IsAhead after (item_at files p) rest) (sym path)
+    (moved source after (item_at files source.path) field rest (omega arith) h digest hashes piece
+    (at ∙ ap (λ n. source.at + n) (sym is)) (used ∙ ap (λ n. source.used + n) (sym is)))
 
 -- no file is longer than the most that a spelling has
-pub ahead_few : (source : KeptBytes) (o : Option Tree) (bytes : List ℕ) → Ahead source o bytes → source.at + length bytes ≤ limit
+pub ahead_few : (source : KeptBytes) (o : Option Tree) (bytes : List ℕ) → Ahead source o bytes
+    → source.at + length bytes ≤ limit
 unfolding Ahead
 ahead_few source None bytes h = absurd h
 ahead_few source (Some files) bytes h = h.few
 
 -- a file stands at the path
-pub ahead_file : (source : KeptBytes) (o : Option Tree) (bytes : List ℕ) → Ahead source o bytes → IfSome o (λ files. IsTrue (is_file (item_at files source.path)))
+pub ahead_file : (source : KeptBytes) (o : Option Tree) (bytes : List ℕ) → Ahead source o bytes
+    → IfSome o (λ files. IsTrue (is_file (item_at files source.path)))
 unfolding Ahead
 ahead_file source None bytes h = absurd h
 ahead_file source (Some files) bytes h = h.file
 
-pub read_right : (source : KeptBytes) (o : Option Tree) (bytes : List ℕ) (a b : ℕ) → Ahead source o bytes → MayMisuse (option_map (λ t. is_file (item_at t source.path)) o) a b → b ≡ a
+pub read_right : (source : KeptBytes) (o : Option Tree) (bytes : List ℕ) (a b : ℕ) → Ahead source o bytes
+    → MayMisuse (option_map (λ t. is_file (item_at t source.path)) o) a b → b ≡ a
 unfolding Ahead
 read_right source None bytes a b h m = absurd h
 read_right source (Some files) bytes a b h m = subst (λ v. MayMisuse (Some v) a b) h.file m
@@ -129,7 +163,10 @@ read_right source (Some files) bytes a b h m = subst (λ v. MayMisuse (Some v) a
 
 pub name_part : (name : List ℕ) → is_name name ≡ true → is_part name ≡ true
 name_part name h =
-    and_from _ _ (and_from _ _ (and_from _ _ sizes (one name (and_parts (is_plain name) (not (is_dots name)) p.1).1)) (two name (and_parts (is_plain name) (not (is_dots name)) p.1).1)) (plain name (and_parts (is_plain name) (not (is_dots name)) p.1).0)
+    and_from _ _ (and_from _ _ (and_from _ _ sizes
+    (one name (and_parts (is_plain name) (not (is_dots name)) p.1).1))
+    (two name (and_parts (is_plain name) (not (is_dots name)) p.1).1))
+    (plain name (and_parts (is_plain name) (not (is_dots name)) p.1).0)
   where
     p : (is_text 255 name ≡ true) × ((is_plain name && not (is_dots name)) ≡ true)
     p = and_parts (is_text 255 name) (is_plain name && not (is_dots name)) h
@@ -141,7 +178,9 @@ name_part name h =
     plain [] h = refl
     plain (c ∷ cs) h = by (c == 0) (c == 47) (is_plain cs) (plain cs) h
       where
-        by : (zero slash rest : Bool) → (rest ≡ true → list_all is_part_byte cs ≡ true) → ((not zero && not slash) && rest) ≡ true → ((not slash && not zero) && list_all is_part_byte cs) ≡ true
+        by : (zero slash rest : Bool) → (rest ≡ true → list_all is_part_byte cs ≡ true)
+            → ((not zero && not slash) && rest) ≡ true → ((not slash && not zero) && list_all is_part_byte cs)
+            ≡ true
         by true slash rest later e = absurd (cc)
         by false true rest later e = absurd (cc)
         by false false rest later e = later e

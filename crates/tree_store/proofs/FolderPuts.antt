@@ -33,7 +33,8 @@ use Rattle.tree_store.proofs.Settled.{decided_is, new_within, where_so, put_fram
 
 -- ---- refusals
 
-blames_trees : (store path : List ℕ) (fault : StoreFault) → BlamesWithin (trees_of store) fault → BlamesFolder store path fault
+blames_trees : (store path : List ℕ) (fault : StoreFault) → BlamesWithin (trees_of store) fault
+    → BlamesFolder store path fault
 blames_trees store path (File blamed) h = inr h
 blames_trees store path (OddFile odd) h = tt
 blames_trees store path (Limit kind) h = tt
@@ -51,7 +52,8 @@ blames_path store path (Damaged asked found bad) h = tt
 blames_path store path (Clash digest) h = tt
 blames_path store path Memory h = tt
 
-blames_one : (store path file : List ℕ) (fault : StoreFault) → file ≡ new_path store → BlamesEither path file fault → BlamesFolder store path fault
+blames_one : (store path file : List ℕ) (fault : StoreFault) → file ≡ new_path store
+    → BlamesEither path file fault → BlamesFolder store path fault
 blames_one store path file (File blamed) at (inl h) = inl h
 blames_one store path file (File blamed) at (inr h) = inr (ap (is_within (trees_of store)) (h ∙ at) ∙ new_within store)
 blames_one store path file (OddFile odd) at h = tt
@@ -61,11 +63,14 @@ blames_one store path file (Damaged asked found bad) at h = tt
 blames_one store path file (Clash digest) at h = tt
 blames_one store path file Memory at h = tt
 
-free_read : (store : List ℕ) (read : Result Node StoreFault) (files : Tree) (fault : StoreFault) → IsTrue (is_free fault) → PutsRead store read files (Err fault)
-free_read store (Ok tree) files fault free = free_keeps (Some files) (tree_path store (sha256 (spelling_of tree))) (sha256 (spelling_of tree)) (spelling_of tree) fault free
+free_read : (store : List ℕ) (read : Result Node StoreFault) (files : Tree) (fault : StoreFault)
+    → IsTrue (is_free fault) → PutsRead store read files (Err fault)
+free_read store (Ok tree) files fault free = free_keeps (Some files) (tree_path store (sha256 (spelling_of tree)))
+    (sha256 (spelling_of tree)) (spelling_of tree) fault free
 free_read store (Err refusal) files fault free = unless_free fault (Err refusal ≡ Err fault) free
 
-free_puts : (o : Option Tree) (store path : List ℕ) (fault : StoreFault) → IsTrue (is_free fault) → IfSome o (λ files. PutsRead store (tree_in path files) files (Err fault))
+free_puts : (o : Option Tree) (store path : List ℕ) (fault : StoreFault) → IsTrue (is_free fault)
+    → IfSome o (λ files. PutsRead store (tree_in path files) files (Err fault))
 free_puts None store path fault free = tt
 free_puts (Some files) store path fault free = free_read store (tree_in path files) files fault free
 
@@ -79,22 +84,33 @@ answer_itself (Damaged asked found bad) = refl
 answer_itself (Clash digest) = refl
 
 -- what reading refuses
-refused_puts : (o : Option Tree) (store path : List ℕ) (fault : StoreFault) → Refuses o (tree_in path) fault → IfSome o (λ files. PutsRead store (tree_in path files) files (Err fault))
+refused_puts : (o : Option Tree) (store path : List ℕ) (fault : StoreFault) → Refuses o (tree_in path) fault
+    → IfSome o (λ files. PutsRead store (tree_in path files) files (Err fault))
 refused_puts None store path fault h = tt
 refused_puts (Some files) store path fault h = by (is_free fault) refl
   where
     by : (v : Bool) → is_free fault ≡ v → PutsRead store (tree_in path files) files (Err fault)
     by true e = free_read store (tree_in path files) files fault e
-    by false e = let is : tree_in path files ≡ Err fault = subst (λ cause. WhereDecided cause (tree_in path files ≡ Err fault)) (decided_is fault e) h in subst (λ read. PutsRead store read files (Err fault)) (sym is) (answer_itself fault)
+    by false e = let is : tree_in path files ≡ Err fault = subst
+        (λ cause. WhereDecided cause (tree_in path files ≡ Err fault)) (decided_is fault e) h
+        in subst (λ read. PutsRead store read files (Err fault)) (sym is) (answer_itself fault)
 
-rest_allowed : (store path : List ℕ) (before : Option Tree) (x y z : ℕ) → MayMisuse (option_map (can_begin store) before) x y → z ≡ y → MayMisuse (option_map (can_put_folder store path) before) x z
-rest_allowed store path before x y z begun same = both (can_begin store) (λ files. can_name store (tree_in path files) files) before before x y z refl begun (same_right before (λ files. can_name store (tree_in path files) files) y z same)
+rest_allowed : (store path : List ℕ) (before : Option Tree) (x y z : ℕ)
+    → MayMisuse (option_map (can_begin store) before) x y → z ≡ y
+    → MayMisuse (option_map (can_put_folder store path) before) x z
+rest_allowed store path before x y z begun same = both (can_begin store)
+    (λ files. can_name store (tree_in path files) files) before before x y z refl begun
+    (same_right before (λ files. can_name store (tree_in path files) files) y z same)
 
-none_begun : (store path : List ℕ) (before : Option Tree) (x y : ℕ) → y ≡ x → MayMisuse (option_map (can_put_folder store path) before) x y
+none_begun : (store path : List ℕ) (before : Option Tree) (x y : ℕ) → y ≡ x
+    → MayMisuse (option_map (can_put_folder store path) before) x y
 none_begun store path before x y same = same_right before (can_put_folder store path) x y same
 
 -- the file could not be begun
-pub not_begun : {A : Type 0} (store path : List ℕ) {a b : Seen} {fault : StoreFault} → NewFrame {A = A} (new_path store) a (Err fault) b → IsTrue (is_free fault) → BlamesWithin (trees_of store) fault → MayMisuse (option_map (can_begin store) a.files) a.misused b.misused → puts_folder store path a (Err fault) b
+pub not_begun : {A : Type 0} (store path : List ℕ) {a b : Seen} {fault : StoreFault}
+    → NewFrame {A = A} (new_path store) a (Err fault) b → IsTrue (is_free fault)
+    → BlamesWithin (trees_of store) fault → MayMisuse (option_map (can_begin store) a.files) a.misused b.misused
+    → puts_folder store path a (Err fault) b
 unfolding puts_folder
 not_begun {A} store path {a} {b} {fault} frame free blames may = record {
   answer = free_puts a.files store path fault free;
@@ -108,18 +124,26 @@ not_begun {A} store path {a} {b} {fault} frame free blames may = record {
 }
 
 -- what was written is removed
-free_answered : (fault answered : StoreFault) → IsTrue (is_free fault) → IsTrue (is_free answered) ⊎ (answered ≡ fault) → IsTrue (is_free answered)
+free_answered : (fault answered : StoreFault) → IsTrue (is_free fault) → IsTrue (is_free answered)
+    ⊎ (answered ≡ fault) → IsTrue (is_free answered)
 free_answered fault answered free (inl h) = h
 free_answered fault answered free (inr same) = ap is_free same ∙ free
 
-blames_answered : (trees : List ℕ) (fault answered : StoreFault) → BlamesWithin trees fault → BlamesWithin trees answered ⊎ (answered ≡ fault) → BlamesWithin trees answered
+blames_answered : (trees : List ℕ) (fault answered : StoreFault) → BlamesWithin trees fault
+    → BlamesWithin trees answered ⊎ (answered ≡ fault) → BlamesWithin trees answered
 blames_answered trees fault answered before (inl h) = h
 blames_answered trees fault answered before (inr same) = subst (BlamesWithin trees) (sym same) before
 
-pub not_added : {A : Type 0} (store path : List ℕ) {a b c : Seen} {fault answered : StoreFault} → NewFrame {A = A} (new_path store) a (Err fault) b → IsTrue (is_free fault) → BlamesWithin (trees_of store) fault → MayMisuse (option_map (can_begin store) a.files) a.misused b.misused
-    → IsClearedOf fault store b answered c → BlamesWithin (trees_of store) answered ⊎ (answered ≡ fault) → puts_folder store path a (Err answered) c
+pub not_added : {A : Type 0} (store path : List ℕ) {a b c : Seen} {fault answered : StoreFault}
+    → NewFrame {A = A} (new_path store) a (Err fault) b → IsTrue (is_free fault)
+    → BlamesWithin (trees_of store) fault → MayMisuse (option_map (can_begin store) a.files) a.misused b.misused
+    → IsClearedOf fault store b answered c → BlamesWithin (trees_of store) answered ⊎ (answered ≡ fault)
+    → puts_folder store path a (Err answered) c
 not_added store path {a} {b} {c} {fault} {answered} frame free blames may clear blamed =
-    not_begun {A = Unit {0}} store path (clear.frame a (frame_stop frame)) (free_answered fault answered free clear.same) (blames_answered (trees_of store) fault answered blames blamed) (subst (λ n. MayMisuse (option_map (can_begin store) a.files) a.misused n) (sym clear.right) may)
+    not_begun {A = Unit {0}} store path (clear.frame a (frame_stop frame))
+    (free_answered fault answered free clear.same)
+    (blames_answered (trees_of store) fault answered blames blamed)
+    (subst (λ n. MayMisuse (option_map (can_begin store) a.files) a.misused n) (sym clear.right) may)
 
 -- nothing was done
 pub no_memory : (store path : List ℕ) (a : Seen) → puts_folder store path a (Err Memory) a
@@ -136,19 +160,29 @@ no_memory store path a = record {
 }
 
 -- what was read refuses it
-pub walk_refused : {store path : List ℕ} {writer after : Writer} {a b c d : Seen} {fault answered : StoreFault} → writer.path ≡ new_path store → NewFrame {A = Unit {0}} (new_path store) a (Ok tt) b → MayMisuse (option_map (can_begin store) a.files) a.misused b.misused
-    → LeavesNew {A = ℕ} path writer b (Err fault) after c → Refuses a.files (tree_in path) fault → c.misused ≡ b.misused → IsClearedOf fault store c answered d → (BlamesWithin (trees_of store) answered ⊎ (answered ≡ fault)) → puts_folder store path a (Err answered) d
+pub walk_refused : {store path : List ℕ} {writer after : Writer} {a b c d : Seen} {fault answered : StoreFault}
+    → writer.path ≡ new_path store → NewFrame {A = Unit {0}} (new_path store) a (Ok tt) b
+    → MayMisuse (option_map (can_begin store) a.files) a.misused b.misused
+    → LeavesNew {A = ℕ} path writer b (Err fault) after c → Refuses a.files (tree_in path) fault
+    → c.misused ≡ b.misused → IsClearedOf fault store c answered d
+    → (BlamesWithin (trees_of store) answered ⊎ (answered ≡ fault))
+    → puts_folder store path a (Err answered) d
 unfolding puts_folder
-walk_refused {store} {path} {writer} {after} {a} {b} {c} {d} {fault} {answered} at begun may leaves refused right clear blames = record {
-  answer = answer clear.same;
-  leaves = (all.around.files, where_map (cause_of answered) (IsCleared store d.files) (IsCleared store d.files ⊎ (d.files ≡ a.files)) (λ h. inl h) clear.cleared);
-  place = all.place;
-  blames = blamed blames;
-  cause = all.cause;
-  runs = all.around.runs;
-  allows = rest_allowed store path a.files a.misused b.misused d.misused may (clear.right ∙ right);
-  counts = counted {A = Unit {0}} (Err answered) a d all.counts all.children;
-}
+walk_refused {store} {path} {writer} {after} {a} {b} {c} {d} {fault} {answered} at begun may leaves refused right
+    clear blames = record {
+      answer = answer clear.same;
+      leaves = (
+        all.around.files,
+        where_map (cause_of answered) (IsCleared store d.files)
+            (IsCleared store d.files ⊎ (d.files ≡ a.files)) (λ h. inl h) clear.cleared,
+      );
+      place = all.place;
+      blames = blamed blames;
+      cause = all.cause;
+      runs = all.around.runs;
+      allows = rest_allowed store path a.files a.misused b.misused d.misused may (clear.right ∙ right);
+      counts = counted {A = Unit {0}} (Err answered) a d all.counts all.children;
+    }
   where
     walked : NewFrame {A = Unit {0}} (new_path store) b (Err fault) c
     walked = frame_stop (subst (λ f. NewFrame {A = ℕ} f b (Err fault) c) at leaves.frame)
@@ -156,25 +190,42 @@ walk_refused {store} {path} {writer} {after} {a} {b} {c} {d} {fault} {answered} 
     all : NewFrame {A = Unit {0}} (new_path store) a (Err answered) d
     all = clear.frame a (frame_then begun walked)
 
-    answer : IsTrue (is_free answered) ⊎ (answered ≡ fault) → IfSome a.files (λ files. PutsRead store (tree_in path files) files (Err answered))
+    answer : IsTrue (is_free answered) ⊎ (answered ≡ fault)
+        → IfSome a.files (λ files. PutsRead store (tree_in path files) files (Err answered))
     answer (inl free) = free_puts a.files store path answered free
-    answer (inr same) = subst (λ f. IfSome a.files (λ files. PutsRead store (tree_in path files) files (Err f))) (sym same) (refused_puts a.files store path fault refused)
+    answer (inr same) = subst (λ f. IfSome a.files (λ files. PutsRead store (tree_in path files) files (Err f)))
+        (sym same) (refused_puts a.files store path fault refused)
 
     blamed : BlamesWithin (trees_of store) answered ⊎ (answered ≡ fault) → BlamesFolder store path answered
     blamed (inl h) = blames_trees store path answered h
-    blamed (inr same) = subst (BlamesFolder store path) (sym same) (blames_one store path writer.path fault at leaves.blames)
+    blamed (inr same) = subst (BlamesFolder store path) (sym same)
+        (blames_one store path writer.path fault at leaves.blames)
 
 -- ---- the tree is put
 
-named_right : (store path bytes : List ℕ) (tree : Node) (before : Option Tree) (x y : ℕ) → bytes ≡ spelling_of tree → IfSome before (λ files. tree_in path files ≡ Ok tree) → MayMisuse (option_map (λ t. is_file_or_absent (item_at t (tree_path store (sha256 bytes)))) before) x y → MayMisuse (option_map (λ files. can_name store (tree_in path files) files) before) x y
+named_right : (store path bytes : List ℕ) (tree : Node) (before : Option Tree) (x y : ℕ)
+    → bytes ≡ spelling_of tree → IfSome before (λ files. tree_in path files ≡ Ok tree)
+    → MayMisuse (option_map (λ t. is_file_or_absent (item_at t (tree_path store (sha256 bytes)))) before) x y
+    → MayMisuse (option_map (λ files. can_name store (tree_in path files) files) before) x y
 named_right store path bytes tree None x y is read m = m
-named_right store path bytes tree (Some files) x y is read m = subst (λ v. MayMisuse (Some v) x y) (ap (λ b. is_file_or_absent (item_at files (tree_path store (sha256 b)))) is ∙ sym (ap (λ r. can_name store r files) read)) m
+named_right store path bytes tree (Some files) x y is read m = subst (λ v. MayMisuse (Some v) x y)
+    (ap (λ b. is_file_or_absent (item_at files (tree_path store (sha256 b)))) is
+    ∙ sym (ap (λ r. can_name store r files) read)) m
 
-named_answer : (store path bytes : List ℕ) (tree : Node) (before : Option Tree) (result : Result (List ℕ) StoreFault) → bytes ≡ spelling_of tree → IfSome before (λ files. tree_in path files ≡ Ok tree) → IfSome before (λ files. Keeps (sha256 bytes) bytes (item_at files (tree_path store (sha256 bytes))) (done_of result)) → IfSome before (λ files. PutsRead store (tree_in path files) files result)
+named_answer : (store path bytes : List ℕ) (tree : Node) (before : Option Tree)
+    (result : Result (List ℕ) StoreFault) → bytes ≡ spelling_of tree
+    → IfSome before (λ files. tree_in path files ≡ Ok tree)
+    → IfSome before (λ files. Keeps (sha256 bytes) bytes (item_at files (tree_path store (sha256 bytes)))
+    (done_of result)) → IfSome before (λ files. PutsRead store (tree_in path files) files result)
 named_answer store path bytes tree None result is read keeps = tt
-named_answer store path bytes tree (Some files) result is read keeps = subst (λ r. PutsRead store r files result) (sym read) (subst (λ b. Keeps (sha256 b) b (item_at files (tree_path store (sha256 b))) (done_of result)) is keeps)
+named_answer store path bytes tree (Some files) result is read keeps = subst (λ r. PutsRead store r files result)
+    (sym read) (subst (λ b. Keeps (sha256 b) b (item_at files (tree_path store (sha256 b))) (done_of result)) is
+    keeps)
 
-pub tree_named : (path : List ℕ) {store bytes : List ℕ} {a b c : Seen} {result : Result (List ℕ) StoreFault} (tree : Node) → bytes ≡ spelling_of tree → IfSome a.files (λ files. tree_in path files ≡ Ok tree) → MayMisuse (option_map (can_begin store) a.files) a.misused b.misused → PutFrame store a result c → PutsBytes store bytes a.files b result c
+pub tree_named : (path : List ℕ) {store bytes : List ℕ} {a b c : Seen} {result : Result (List ℕ) StoreFault}
+    (tree : Node) → bytes ≡ spelling_of tree → IfSome a.files (λ files. tree_in path files ≡ Ok tree)
+    → MayMisuse (option_map (can_begin store) a.files) a.misused b.misused → PutFrame store a result c
+    → PutsBytes store bytes a.files b result c
     → IfErr result (BlamesWithin (trees_of store)) → puts_folder store path a result c
 unfolding puts_folder
 tree_named path {store} {bytes} {a} {b} {c} {result} tree is read may frame puts blames = record {
@@ -184,15 +235,31 @@ tree_named path {store} {bytes} {a} {b} {c} {result} tree is read may frame puts
   blames = blamed result blames;
   cause = frame.cause;
   runs = frame.runs;
-  allows = both (can_begin store) (λ files. can_name store (tree_in path files) files) a.files a.files a.misused b.misused c.misused refl may (named_right store path bytes tree a.files b.misused c.misused is read puts.named.right);
+  allows = both (can_begin store) (λ files. can_name store (tree_in path files) files) a.files a.files a.misused
+      b.misused c.misused refl may (named_right store path bytes tree a.files b.misused c.misused is read
+      puts.named.right);
   counts = counted result a c frame.counts frame.children;
 }
   where
-    leaves : (r : Result (List ℕ) StoreFault) → OnErr r (KeptAround (new_path store) a.files c.files) → IfOk r (λ digest. digest ≡ sha256 bytes) → OnOk (done_of r) (c.files ≡ option_map (bytes_put store bytes) a.files) → IfErr (done_of r) (λ fault. WhereDecided (cause_of fault) (IsCleared store c.files)) → LeavesFolder store path a r c
-    leaves (Ok digest) kept d files cleared = (tree, d ∙ ap sha256 is, read, files ∙ ap (λ b. option_map (bytes_put store b) a.files) is)
-    leaves (Err fault) kept d files cleared = (kept, where_map (cause_of fault) (IsCleared store c.files) (IsCleared store c.files ⊎ (c.files ≡ a.files)) (λ h. inl h) cleared)
+    leaves : (r : Result (List ℕ) StoreFault) → OnErr r (KeptAround (new_path store) a.files c.files)
+        → IfOk r (λ digest. digest ≡ sha256 bytes) → OnOk (done_of r)
+        (c.files ≡ option_map (bytes_put store bytes) a.files) → IfErr (done_of r)
+        (λ fault. WhereDecided (cause_of fault) (IsCleared store c.files)) → LeavesFolder store path a r c
+    leaves (Ok digest) kept d files cleared = (
+      tree,
+      d ∙ ap sha256 is,
+      read,
+      files
+          ∙ ap (λ b. option_map (bytes_put store b) a.files) is,
+    )
+    leaves (Err fault) kept d files cleared = (
+      kept,
+      where_map (cause_of fault) (IsCleared store c.files)
+          (IsCleared store c.files ⊎ (c.files ≡ a.files)) (λ h. inl h) cleared,
+    )
 
-    blamed : (r : Result (List ℕ) StoreFault) → IfErr r (BlamesWithin (trees_of store)) → IfErr r (BlamesFolder store path)
+    blamed : (r : Result (List ℕ) StoreFault) → IfErr r (BlamesWithin (trees_of store))
+        → IfErr r (BlamesFolder store path)
     blamed (Ok digest) h = tt
     blamed (Err fault) h = blames_trees store path fault h
 
@@ -202,11 +269,16 @@ same_count : (o : Option Tree) (x y : ℕ) → MayMisuse (option_map (λ files. 
 same_count None x y h = h
 same_count (Some files) x y h = h
 
-pub read_refused : (store path : List ℕ) (a b : Seen) (fault : StoreFault) → reads_tree path a (Err fault) b → BlamesWithin path fault → puts_folder store path a (Err fault) b
+pub read_refused : (store path : List ℕ) (a b : Seen) (fault : StoreFault) → reads_tree path a (Err fault) b
+    → BlamesWithin path fault → puts_folder store path a (Err fault) b
 unfolding puts_folder reads_tree reads
 read_refused store path a b fault read blames = record {
   answer = refused_puts a.files store path fault read.answer;
-  leaves = (kept_itself (new_path store) a.files b.files read.same.files, where_so (cause_of fault) (IsCleared store b.files ⊎ (b.files ≡ a.files)) (inr read.same.files));
+  leaves = (
+    kept_itself (new_path store) a.files b.files read.same.files,
+    where_so (cause_of fault)
+        (IsCleared store b.files ⊎ (b.files ≡ a.files)) (inr read.same.files),
+  );
   place = place_itself (new_path store) a.files b.files read.same.files;
   blames = blames_path store path fault blames;
   cause = read.cause;
@@ -217,12 +289,18 @@ read_refused store path a b fault read blames = record {
 
 -- ---- what the whole walk leaves
 
-pub put_frames : {A : Type 0} {store path : List ℕ} {w : Writer} {writer after : Writer} {v : A} {a b c d : Seen} {r : Result (List ℕ) StoreFault} → writer.path ≡ new_path store → NewFrame {A = Writer} (new_path store) a (Ok w) b → LeavesNew {A = A} path writer b (Ok v) after c → PutFrame store c r d → PutFrame store a r d
-put_frames {A} {store} {w = w} {writer} {v = v} {a = a} {b} {c} {d} at begun leaves put = put_frame_then (frame_then begun (subst (λ f. NewFrame {A = A} f b (Ok v) c) at leaves.frame)) put
+pub put_frames : {A : Type 0} {store path : List ℕ} {w : Writer} {writer after : Writer} {v : A} {a b c d : Seen}
+    {r : Result (List ℕ) StoreFault} → writer.path ≡ new_path store
+    → NewFrame {A = Writer} (new_path store) a (Ok w) b → LeavesNew {A = A} path writer b (Ok v) after c
+    → PutFrame store c r d → PutFrame store a r d
+put_frames {A} {store} {w = w} {writer} {v = v} {a = a} {b} {c} {d} at begun leaves put = put_frame_then
+    (frame_then begun (subst (λ f. NewFrame {A = A} f b (Ok v) c) at leaves.frame)) put
 
 -- ---- behind a step that changed nothing
 
-folder_from : (store path : List ℕ) (a b c : Seen) (r : Result (List ℕ) StoreFault) → b.files ≡ a.files → b.runs ≡ a.runs → b.misused ≡ a.misused → FileCounts None a b → puts_folder store path b r c → puts_folder store path a r c
+folder_from : (store path : List ℕ) (a b c : Seen) (r : Result (List ℕ) StoreFault) → b.files ≡ a.files
+    → b.runs ≡ a.runs → b.misused ≡ a.misused → FileCounts None a b → puts_folder store path b r c
+    → puts_folder store path a r c
 unfolding puts_folder
 folder_from store path a b c r files runs misused counts h = record {
   answer = subst (λ o. IfSome o (λ files. PutsRead store (tree_in path files) files r)) files h.answer;
@@ -231,7 +309,8 @@ folder_from store path a b c r files runs misused counts h = record {
   blames = h.blames;
   cause = h.cause;
   runs = h.runs ∙ runs;
-  allows = subst (λ n. MayMisuse (option_map (can_put_folder store path) a.files) n c.misused) misused (subst (λ o. MayMisuse (option_map (can_put_folder store path) o) b.misused c.misused) files h.allows);
+  allows = subst (λ n. MayMisuse (option_map (can_put_folder store path) a.files) n c.misused) misused
+      (subst (λ o. MayMisuse (option_map (can_put_folder store path) o) b.misused c.misused) files h.allows);
   counts = files_link (ended_by cause_of r) a b c counts h.counts;
 }
   where
@@ -240,13 +319,29 @@ folder_from store path a b c r files runs misused counts h = record {
     stays (inr h) = inr (h ∙ files)
 
     leaves : (r : Result (List ℕ) StoreFault) → LeavesFolder store path b r c → LeavesFolder store path a r c
-    leaves (Ok digest) (tree, is, read, put) = (tree, is, subst (λ o. IfSome o (λ files. tree_in path files ≡ Ok tree)) files read, put ∙ ap (option_map (folder_put store tree)) files)
-    leaves (Err fault) (kept, gone) = (subst (λ o. KeptAround (new_path store) o c.files) files kept, where_map (cause_of fault) (IsCleared store c.files ⊎ (c.files ≡ b.files)) (IsCleared store c.files ⊎ (c.files ≡ a.files)) stays gone)
+    leaves (Ok digest) (tree, is, read, put) = (
+      tree,
+      is,
+      subst
+          (λ o. IfSome o (λ files. tree_in path files ≡ Ok tree)) files read,
+      put
+          ∙ ap (option_map (folder_put store tree)) files,
+    )
+    leaves (Err fault) (kept, gone) = (
+      subst (λ o. KeptAround (new_path store) o c.files) files kept,
+      where_map
+          (cause_of fault) (IsCleared store c.files ⊎ (c.files ≡ b.files))
+          (IsCleared store c.files ⊎ (c.files ≡ a.files)) stays gone,
+    )
 
-pub read_then : (store path : List ℕ) (a b c : Seen) (tree : Node) (r : Result (List ℕ) StoreFault) → reads_tree path a (Ok tree) b → puts_folder store path b r c → puts_folder store path a r c
+pub read_then : (store path : List ℕ) (a b c : Seen) (tree : Node) (r : Result (List ℕ) StoreFault)
+    → reads_tree path a (Ok tree) b → puts_folder store path b r c → puts_folder store path a r c
 unfolding reads_tree reads
-read_then store path a b c tree r read h = folder_from store path a b c r read.same.files read.same.runs (same_count a.files a.misused b.misused read.allows) read.counts h
+read_then store path a b c tree r read h = folder_from store path a b c r read.same.files read.same.runs
+    (same_count a.files a.misused b.misused read.allows) read.counts h
 
-pub read_still : (path : List ℕ) (a b : Seen) (tree : Node) → reads_tree path a (Ok tree) b → IfSome b.files (λ files. tree_in path files ≡ Ok tree)
+pub read_still : (path : List ℕ) (a b : Seen) (tree : Node) → reads_tree path a (Ok tree) b
+    → IfSome b.files (λ files. tree_in path files ≡ Ok tree)
 unfolding reads_tree reads
-read_still path a b tree read = subst (λ o. IfSome o (λ files. tree_in path files ≡ Ok tree)) (sym read.same.files) read.answer
+read_still path a b tree read = subst (λ o. IfSome o (λ files. tree_in path files ≡ Ok tree))
+    (sym read.same.files) read.answer

@@ -12,12 +12,15 @@ use Rattle.cnb_world.specs.Tree.{Tree, item_at, is_file, bytes_of}
 -- ---- lists read in pieces
 
 -- one piece more
-pub piece_more : (xs ys : List ℕ) (at size : ℕ) → take at xs ≡ take at ys → take size (drop at xs) ≡ take size (drop at ys) → take (at + size) xs ≡ take (at + size) ys
-piece_more xs ys at size before here = take-add at size xs ∙ ap (λ l. l ++ take size (drop at xs)) before ∙ ap (λ l. take at ys ++ l) here ∙ sym (take-add at size ys)
+pub piece_more : (xs ys : List ℕ) (at size : ℕ) → take at xs ≡ take at ys
+    → take size (drop at xs) ≡ take size (drop at ys) → take (at + size) xs ≡ take (at + size) ys
+piece_more xs ys at size before here = take-add at size xs ∙ ap (λ l. l ++ take size (drop at xs)) before
+    ∙ ap (λ l. take at ys ++ l) here ∙ sym (take-add at size ys)
 
 -- lists that are alike to behind the end of one are the same
 pub same_to_end : (xs ys : List ℕ) (n : ℕ) → length ys < n → take n xs ≡ take n ys → xs ≡ ys
-same_to_end xs ys n long same = sym (take_all n xs (omega (arith, length-take n xs, length-take n ys, ap length same))) ∙ same ∙ take_all n ys (omega arith)
+same_to_end xs ys n long same = sym (take_all n xs
+    (omega (arith, length-take n xs, length-take n ys, ap length same))) ∙ same ∙ take_all n ys (omega arith)
 
 pub behind_end : (size : ℕ) → size < (size / 65536 + 1) * 65536
 behind_end size = omega arith
@@ -42,40 +45,65 @@ contents files path = bytes_of (item_at files path)
 
 -- so many pieces of a file are these
 abbrev pub Alike : Option Tree → List ℕ → List ℕ → ℕ → Type 0
-Alike o path bytes number = IfSome o (λ files. take (number * 65536) (contents files path) ≡ take (number * 65536) bytes)
+Alike o path bytes number = IfSome o (λ files. take (number * 65536) (contents files path)
+    ≡ take (number * 65536) bytes)
 
 pub none_alike : (o : Option Tree) (path bytes : List ℕ) → Alike o path bytes 0
 none_alike None path bytes = tt
 none_alike (Some files) path bytes = refl
 
-pub one_alike : (o o1 : Option Tree) (path bytes piece expected : List ℕ) (number : ℕ) → o1 ≡ o → Alike o path bytes number → IfSome o1 (λ files. piece ≡ take 65536 (drop (number * 65536) (contents files path))) → expected ≡ take 65536 (drop (number * 65536) bytes) → piece ≡ expected → Alike o path bytes (number + 1)
+pub one_alike : (o o1 : Option Tree) (path bytes piece expected : List ℕ) (number : ℕ) → o1 ≡ o
+    → Alike o path bytes number → IfSome o1 (λ files. piece
+    ≡ take 65536 (drop (number * 65536) (contents files path)))
+    → expected ≡ take 65536 (drop (number * 65536) bytes) → piece ≡ expected → Alike o path bytes (number + 1)
 one_alike None o1 path bytes piece expected number same before read is e = tt
 one_alike (Some files) o1 path bytes piece expected number same before read is e =
     ap (λ n. take n (contents files path)) (sym (next_number number))
-    ∙ piece_more (contents files path) bytes (number * 65536) 65536 before (sym (subst (λ x. IfSome x (λ files. piece ≡ take 65536 (drop (number * 65536) (contents files path)))) same read) ∙ e ∙ is)
+    ∙ piece_more (contents files path) bytes (number * 65536) 65536 before
+    (sym (subst (λ x. IfSome x (λ files. piece ≡ take 65536 (drop (number * 65536) (contents files path))))
+    same read) ∙ e ∙ is)
     ∙ ap (λ n. take n bytes) (next_number number)
 
-pub all_alike : (o : Option Tree) (path bytes : List ℕ) → Alike o path bytes (length bytes / 65536 + 1) → IfSome o (λ files. contents files path ≡ bytes)
+pub all_alike : (o : Option Tree) (path bytes : List ℕ) → Alike o path bytes (length bytes / 65536 + 1)
+    → IfSome o (λ files. contents files path ≡ bytes)
 all_alike None path bytes h = tt
-all_alike (Some files) path bytes h = same_to_end (contents files path) bytes ((length bytes / 65536 + 1) * 65536) (behind_end (length bytes)) h
+all_alike (Some files) path bytes h = same_to_end (contents files path) bytes ((length bytes / 65536 + 1) * 65536)
+    (behind_end (length bytes)) h
 
-pub other_piece : (o o1 : Option Tree) (path bytes piece expected : List ℕ) (number : ℕ) → o1 ≡ o → IfSome o1 (λ files. piece ≡ take 65536 (drop (number * 65536) (contents files path))) → expected ≡ take 65536 (drop (number * 65536) bytes) → piece ≢ expected → IfSome o (λ files. contents files path ≢ bytes)
+pub other_piece : (o o1 : Option Tree) (path bytes piece expected : List ℕ) (number : ℕ) → o1 ≡ o
+    → IfSome o1 (λ files. piece ≡ take 65536 (drop (number * 65536) (contents files path)))
+    → expected ≡ take 65536 (drop (number * 65536) bytes) → piece ≢ expected
+    → IfSome o (λ files. contents files path ≢ bytes)
 other_piece None o1 path bytes piece expected number same read is ne = tt
-other_piece (Some files) o1 path bytes piece expected number same read is ne = λ e. ne (subst (λ x. IfSome x (λ files. piece ≡ take 65536 (drop (number * 65536) (contents files path)))) same read ∙ ap (λ b. take 65536 (drop (number * 65536) b)) e ∙ sym is)
+other_piece (Some files) o1 path bytes piece expected number same read is ne = λ e. ne
+    (subst (λ x. IfSome x (λ files. piece ≡ take 65536 (drop (number * 65536) (contents files path)))) same read
+    ∙ ap (λ b. take 65536 (drop (number * 65536) b)) e ∙ sym is)
 
 -- so many pieces are all of a file
-pub within_pieces : (o : Option Tree) (path : List ℕ) (len number : ℕ) → len < number * 65536 → IfSome o (λ files. length (contents files path) ≤ len) → IfSome o (λ files. length (contents files path) ≤ number * 65536)
+pub within_pieces : (o : Option Tree) (path : List ℕ) (len number : ℕ) → len < number * 65536
+    → IfSome o (λ files. length (contents files path) ≤ len)
+    → IfSome o (λ files. length (contents files path) ≤ number * 65536)
 within_pieces None path len number less few = tt
 within_pieces (Some files) path len number less few = omega (arith, less, few)
 
 -- the last of them is a short one
-pub last_piece : (o o1 : Option Tree) (path piece : List ℕ) (number : ℕ) → o1 ≡ o → length piece < 65536 → IfSome o1 (λ files. piece ≡ take 65536 (drop (number * 65536) (contents files path))) → IfSome o (λ files. length (contents files path) ≤ (number + 1) * 65536)
+pub last_piece : (o o1 : Option Tree) (path piece : List ℕ) (number : ℕ) → o1 ≡ o → length piece < 65536
+    → IfSome o1 (λ files. piece ≡ take 65536 (drop (number * 65536) (contents files path)))
+    → IfSome o (λ files. length (contents files path) ≤ (number + 1) * 65536)
 last_piece None o1 path piece number same short read = tt
 last_piece (Some files) o1 path piece number same short read =
-    ends (contents files path) (subst (λ x. IfSome x (λ files. piece ≡ take 65536 (drop (number * 65536) (contents files path)))) same read)
+    ends (contents files path) (subst (λ x. IfSome x
+    (λ files. piece ≡ take 65536 (drop (number * 65536) (contents files path)))) same read)
   where
     ends : (bytes : List ℕ) → piece ≡ take 65536 (drop (number * 65536) bytes) → length bytes ≤ (number + 1) * 65536
-    ends bytes is = omega (arith, short, ap length is, length-take 65536 (drop (number * 65536) bytes), length-drop (number * 65536) bytes)
+    ends bytes is = omega (
+      arith,
+      short,
+      ap length is,
+      length-take 65536
+          (drop (number * 65536) bytes),
+      length-drop (number * 65536) bytes,
+    )
 
 -- ---- misuse
 
@@ -90,8 +118,11 @@ may_more (Some true) a b c x y = y ∙ x
 may_more (Some false) a b c x y = omega (arith, x, y)
 
 -- what is told of a piece is told of its slice
-pub told_slice : (o : Option Tree) (path slice piece : List ℕ) (number : ℕ) → slice ≡ piece → IfSome o (λ files. piece ≡ take 65536 (drop (number * 65536) (contents files path))) → IfSome o (λ files. slice ≡ take 65536 (drop (number * 65536) (contents files path)))
-told_slice o path slice piece number e h = subst (λ p. IfSome o (λ files. p ≡ take 65536 (drop (number * 65536) (contents files path)))) (sym e) h
+pub told_slice : (o : Option Tree) (path slice piece : List ℕ) (number : ℕ) → slice ≡ piece
+    → IfSome o (λ files. piece ≡ take 65536 (drop (number * 65536) (contents files path)))
+    → IfSome o (λ files. slice ≡ take 65536 (drop (number * 65536) (contents files path)))
+told_slice o path slice piece number e h = subst
+    (λ p. IfSome o (λ files. p ≡ take 65536 (drop (number * 65536) (contents files path)))) (sym e) h
 
 -- some bytes were taken; where the file is told they are so many pieces of it
 pub record Taken (o : Option Tree) (path : List ℕ) (number : ℕ) (Takes : List ℕ → Type 0) : Type 0 where
@@ -107,15 +138,23 @@ none_taken o path Takes h = record { bytes = []; taken = h; told = by o }
     by (Some files) = refl
 
 -- more of a file's bytes were taken
-pub taken_on : (o o1 : Option Tree) (path piece : List ℕ) (number : ℕ) (Before After : List ℕ → Type 0) → o1 ≡ o → Taken o path number Before → IfSome o1 (λ files. piece ≡ take 65536 (drop (number * 65536) (contents files path))) → ((bytes : List ℕ) → Before bytes → After (bytes ++ piece)) → Taken o path (number + 1) After
-taken_on o o1 path piece number Before After same t read more = record { bytes = t.bytes ++ piece; taken = more t.bytes t.taken; told = by o same t.told }
+pub taken_on : (o o1 : Option Tree) (path piece : List ℕ) (number : ℕ) (Before After : List ℕ → Type 0) → o1 ≡ o
+    → Taken o path number Before → IfSome o1 (λ files. piece
+    ≡ take 65536 (drop (number * 65536) (contents files path)))
+    → ((bytes : List ℕ) → Before bytes → After (bytes ++ piece)) → Taken o path (number + 1) After
+taken_on o o1 path piece number Before After same t read more = record
+    { bytes = t.bytes ++ piece; taken = more t.bytes t.taken; told = by o same t.told }
   where
-    by : (o : Option Tree) → o1 ≡ o → IfSome o (λ files. t.bytes ≡ take (number * 65536) (contents files path)) → IfSome o (λ files. t.bytes ++ piece ≡ take ((number + 1) * 65536) (contents files path))
+    by : (o : Option Tree) → o1 ≡ o → IfSome o (λ files. t.bytes ≡ take (number * 65536) (contents files path))
+        → IfSome o (λ files. t.bytes ++ piece ≡ take ((number + 1) * 65536) (contents files path))
     by None same told = tt
     by (Some files) same told =
         ap (λ b. b ++ piece) told
-        ∙ ap (λ p. take (number * 65536) (contents files path) ++ p) (subst (λ x. IfSome x (λ files. piece ≡ take 65536 (drop (number * 65536) (contents files path)))) same read)
-        ∙ sym (take-add (number * 65536) 65536 (contents files path)) ∙ ap (λ n. take n (contents files path)) (next_number number)
+        ∙ ap (λ p. take (number * 65536) (contents files path) ++ p)
+        (subst (λ x. IfSome x (λ files. piece ≡ take 65536 (drop (number * 65536) (contents files path))))
+        same read)
+        ∙ sym (take-add (number * 65536) 65536 (contents files path))
+        ∙ ap (λ n. take n (contents files path)) (next_number number)
 
 -- a file stands at a path from which a piece was read
 abbrev pub IsFileAfter : Option Tree → List ℕ → ℕ → Type 0
@@ -125,11 +164,14 @@ pub no_file_yet : (o : Option Tree) (path : List ℕ) → IsFileAfter o path 0
 no_file_yet None path = tt
 no_file_yet (Some files) path = λ h. absurd (omega (arith, h))
 
-pub file_read : (o o1 : Option Tree) (path : List ℕ) (number : ℕ) → o1 ≡ o → IfSome o1 (λ files. IsTrue (is_file (item_at files path))) → IsFileAfter o path number
+pub file_read : (o o1 : Option Tree) (path : List ℕ) (number : ℕ) → o1 ≡ o
+    → IfSome o1 (λ files. IsTrue (is_file (item_at files path))) → IsFileAfter o path number
 file_read None o1 path number same h = tt
-file_read (Some files) o1 path number same h = λ _. subst (λ x. IfSome x (λ files. IsTrue (is_file (item_at files path)))) same h
+file_read (Some files) o1 path number same h = λ _. subst
+    (λ x. IfSome x (λ files. IsTrue (is_file (item_at files path)))) same h
 
-pub is_file_after : (o : Option Tree) (path : List ℕ) (number : ℕ) → 0 < number → IsFileAfter o path number → IfSome o (λ files. IsTrue (is_file (item_at files path)))
+pub is_file_after : (o : Option Tree) (path : List ℕ) (number : ℕ) → 0 < number → IsFileAfter o path number
+    → IfSome o (λ files. IsTrue (is_file (item_at files path)))
 is_file_after None path number more h = tt
 is_file_after (Some files) path number more h = h more
 
@@ -141,14 +183,20 @@ pub record TookAll (o : Option Tree) (path : List ℕ) (Takes : List ℕ → Typ
   pub file : IfSome o (λ files. IsTrue (is_file (item_at files path)))
 
 -- the same, asked of files that are as before
-pub may_go_on : (o o1 : Option Tree) (path : List ℕ) (a b c : ℕ) → o1 ≡ o → MayMisuse (option_map (λ t. is_file (item_at t path)) o) a b → MayMisuse (option_map (λ t. is_file (item_at t path)) o1) b c → MayMisuse (option_map (λ t. is_file (item_at t path)) o) a c
-may_go_on o o1 path a b c same before m = may_more (option_map (λ t. is_file (item_at t path)) o) a b c before (subst (λ x. MayMisuse (option_map (λ t. is_file (item_at t path)) x) b c) same m)
+pub may_go_on : (o o1 : Option Tree) (path : List ℕ) (a b c : ℕ) → o1 ≡ o
+    → MayMisuse (option_map (λ t. is_file (item_at t path)) o) a b
+    → MayMisuse (option_map (λ t. is_file (item_at t path)) o1) b c
+    → MayMisuse (option_map (λ t. is_file (item_at t path)) o) a c
+may_go_on o o1 path a b c same before m = may_more (option_map (λ t. is_file (item_at t path)) o) a b c before
+    (subst (λ x. MayMisuse (option_map (λ t. is_file (item_at t path)) x) b c) same m)
 
 -- what comparing answers
-pub says_other : (o : Option Tree) (path bytes : List ℕ) → IfSome o (λ files. contents files path ≢ bytes) → IfSome o (λ files. IsTrue false ↔ (contents files path ≡ bytes))
+pub says_other : (o : Option Tree) (path bytes : List ℕ) → IfSome o (λ files. contents files path ≢ bytes)
+    → IfSome o (λ files. IsTrue false ↔ (contents files path ≡ bytes))
 says_other None path bytes ne = tt
 says_other (Some files) path bytes ne = (λ h. absurd (cc), λ e. absurd (ne e))
 
-pub says_same : (o : Option Tree) (path bytes : List ℕ) → IfSome o (λ files. contents files path ≡ bytes) → IfSome o (λ files. IsTrue true ↔ (contents files path ≡ bytes))
+pub says_same : (o : Option Tree) (path bytes : List ℕ) → IfSome o (λ files. contents files path ≡ bytes)
+    → IfSome o (λ files. IsTrue true ↔ (contents files path ≡ bytes))
 says_same None path bytes e = tt
 says_same (Some files) path bytes e = (λ h. e, λ same. refl)

@@ -34,7 +34,8 @@ unfolding KeptFile
 place_itself path None o1 e = subst (KeptFile path None) (sym e) tt
 place_itself path (Some files) o1 e = subst (KeptFile path (Some files)) (sym e) (inl refl)
 
-place_so : (path : List ℕ) (o o1 : Option Tree) (change : Tree → Tree) → o1 ≡ option_map change o → ((files : Tree) → KeepsFile path files (change files)) → KeptFile path o o1
+place_so : (path : List ℕ) (o o1 : Option Tree) (change : Tree → Tree) → o1 ≡ option_map change o
+    → ((files : Tree) → KeepsFile path files (change files)) → KeptFile path o o1
 unfolding KeptFile
 place_so path None o1 change e h = subst (KeptFile path None) (sym e) tt
 place_so path (Some files) o1 change e h = subst (KeptFile path (Some files)) (sym e) (h files)
@@ -45,7 +46,8 @@ same_get : (path : List ℕ) (old new : Tree) → get new path ≡ get old path 
 same_get path old new e = inl (ap (cond (is_root path) (Some item.Folder)) e)
 
 -- a file or nothing is put there; at `/` a folder stands anyway
-set_get : (path : List ℕ) (old new : Tree) (found : Option Item) → get new path ≡ found → IsTrue (is_file_or_absent found) → KeepsFile path old new
+set_get : (path : List ℕ) (old new : Tree) (found : Option Item) → get new path ≡ found
+    → IsTrue (is_file_or_absent found) → KeepsFile path old new
 set_get path old new found is plain = by (is_root path) refl
   where
     at : (v : Bool) (tree : Tree) → is_root path ≡ v → item_at tree path ≡ cond v (Some item.Folder) (get tree path)
@@ -59,7 +61,8 @@ retained : (path : List ℕ) (stays : List ℕ → Bool) (files : Tree) → Keep
 retained path stays files = by (stays path) refl
   where
     at : get (retain_keys files stays) path ≡ cond (stays path) (get files path) None
-    at = get-retain_keys files stays path (λ x tied. ap stays (sym (slice_cmp-IsAntisymmetric nat_cmp-IsAntisymmetric path x tied)))
+    at = get-retain_keys files stays path (λ x tied. ap stays
+        (sym (slice_cmp-IsAntisymmetric nat_cmp-IsAntisymmetric path x tied)))
 
     by : (v : Bool) → stays path ≡ v → KeepsFile path files (retain_keys files stays)
     by true e = same_get path files (retain_keys files stays) (at ∙ ap (λ w. cond w (get files path) None) e)
@@ -67,26 +70,43 @@ retained path stays files = by (stays path) refl
 
 -- ---- calls
 
-pub place_created : (store path : List ℕ) (exec : Bool) (answer : Result (Unit {0}) FileFault) (o o1 : Option Tree) → path ≡ new_path store → OnOk answer (o1 ≡ option_map (created path exec) o) → OnErr answer (o1 ≡ o) → KeptFile (new_path store) o o1
-place_created store path exec (Ok done) o o1 at ok err = subst (λ p. KeptFile p o o1) at (place_so path o o1 (created path exec) ok (λ files. set_get path files (created path exec files) (Some (item.File exec [])) (get-insert_same files path (item.File exec [])) refl))
+pub place_created : (store path : List ℕ) (exec : Bool) (answer : Result (Unit {0}) FileFault)
+    (o o1 : Option Tree) → path ≡ new_path store → OnOk answer (o1 ≡ option_map (created path exec) o)
+    → OnErr answer (o1 ≡ o) → KeptFile (new_path store) o o1
+place_created store path exec (Ok done) o o1 at ok err = subst (λ p. KeptFile p o o1) at
+    (place_so path o o1 (created path exec) ok (λ files. set_get path files (created path exec files)
+    (Some (item.File exec [])) (get-insert_same files path (item.File exec [])) refl))
 place_created store path exec (Err fault) o o1 at ok err = place_itself (new_path store) o o1 err
 
-pub place_made : (store trees : List ℕ) (answer : Result (Unit {0}) FileFault) (o o1 : Option Tree) → trees ≡ trees_of store → OnOk answer (o1 ≡ option_map (folder_made trees) o) → OnErr answer (o1 ≡ o) → KeptFile (new_path store) o o1
-place_made store trees (Ok done) o o1 at ok err = place_so (new_path store) o o1 (folder_made trees) ok (λ files. same_get (new_path store) files (folder_made trees files) (get-folder_made_longer trees (new_path store) files longer))
+pub place_made : (store trees : List ℕ) (answer : Result (Unit {0}) FileFault) (o o1 : Option Tree)
+    → trees ≡ trees_of store → OnOk answer (o1 ≡ option_map (folder_made trees) o) → OnErr answer (o1 ≡ o)
+    → KeptFile (new_path store) o o1
+place_made store trees (Ok done) o o1 at ok err = place_so (new_path store) o o1 (folder_made trees) ok
+    (λ files. same_get (new_path store) files (folder_made trees files)
+    (get-folder_made_longer trees (new_path store) files longer))
   where
     longer : length trees < length (new_path store)
-    longer = subst (λ t. length t < length (new_path store)) (sym at) (longer_child (trees_of store) (codes "new") (omega arith))
+    longer = subst (λ t. length t < length (new_path store)) (sym at)
+        (longer_child (trees_of store) (codes "new") (omega arith))
 place_made store trees (Err fault) o o1 at ok err = place_itself (new_path store) o o1 err
 
-pub place_appended : (path bytes : List ℕ) (answer : Result (Unit {0}) FileFault) (o o1 : Option Tree) → OnOk answer (o1 ≡ option_map (appended path bytes) o) → OnErr answer (AppendsSome o o1 path bytes) → KeptFile path o o1
+pub place_appended : (path bytes : List ℕ) (answer : Result (Unit {0}) FileFault) (o o1 : Option Tree)
+    → OnOk answer (o1 ≡ option_map (appended path bytes) o) → OnErr answer (AppendsSome o o1 path bytes)
+    → KeptFile path o o1
 place_appended path bytes (Ok done) o o1 ok err = place_so path o o1 (appended path bytes) ok (more bytes)
   where
     more : (bytes : List ℕ) (files : Tree) → KeepsFile path files (appended path bytes files)
     more bytes files = set_get path files (appended path bytes files) _ (get-insert_same files path _) refl
 place_appended path bytes (Err fault) o o1 ok (inl same) = place_itself path o o1 same
-place_appended path bytes (Err fault) o o1 ok (inr (can, n, le, is)) = place_so path o o1 (appended path (take n bytes)) is (λ files. set_get path files (appended path (take n bytes) files) _ (get-insert_same files path _) refl)
+place_appended path bytes (Err fault) o o1 ok (inr (can, n, le, is)) = place_so path o o1
+    (appended path (take n bytes)) is (λ files. set_get path files (appended path (take n bytes) files) _
+    (get-insert_same files path _) refl)
 
-pub place_removed : (path : List ℕ) (answer : Result (Unit {0}) FileFault) (o o1 : Option Tree) → OnOk answer (o1 ≡ option_map (without path) o) → OnErr answer (RemovesSome o o1 path) → KeptFile path o o1
-place_removed path (Ok done) o o1 ok err = place_so path o o1 (without path) ok (λ files. retained path (λ q. not (is_within path q)) files)
+pub place_removed : (path : List ℕ) (answer : Result (Unit {0}) FileFault) (o o1 : Option Tree)
+    → OnOk answer (o1 ≡ option_map (without path) o) → OnErr answer (RemovesSome o o1 path) → KeptFile path o o1
+place_removed path (Ok done) o o1 ok err = place_so path o o1 (without path) ok
+    (λ files. retained path (λ q. not (is_within path q)) files)
 place_removed path (Err fault) o o1 ok (inl same) = place_itself path o o1 same
-place_removed path (Err fault) o o1 ok (inr (stays, is)) = place_so path o o1 (λ files. retain_keys files (λ q. not (is_within path q) || stays q)) is (λ files. retained path (λ q. not (is_within path q) || stays q) files)
+place_removed path (Err fault) o o1 ok (inr (stays, is)) = place_so path o o1
+    (λ files. retain_keys files (λ q. not (is_within path q) || stays q)) is
+    (λ files. retained path (λ q. not (is_within path q) || stays q) files)

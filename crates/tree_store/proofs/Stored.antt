@@ -45,11 +45,19 @@ use Rattle.tree_store.proofs.Right.{laid_right, made_right, way_made}
 
 -- ---- along the way to a place
 
-pub same_part : (node : Node) (way part rest folder path : List ℕ) (files : Tree) → way_parts way ≡ part ∷ way_parts rest → path ≡ joined folder part → laid_under node (way_parts rest) path (folder_laid folder files) ≡ laid_under node (way_parts way) folder files
-same_part node way part rest folder path files cut is = ap (λ p. laid_under node (way_parts rest) p (folder_laid folder files)) is ∙ sym (ap (λ parts. laid_under node parts folder files) cut)
+pub same_part : (node : Node) (way part rest folder path : List ℕ) (files : Tree)
+    → way_parts way ≡ part ∷ way_parts rest → path ≡ joined folder part
+    → laid_under node (way_parts rest) path (folder_laid folder files)
+    ≡ laid_under node (way_parts way) folder files
+same_part node way part rest folder path files cut is = ap
+    (λ p. laid_under node (way_parts rest) p (folder_laid folder files)) is
+    ∙ sym (ap (λ parts. laid_under node parts folder files) cut)
 
-pub same_last : (node : Node) (way folder path : List ℕ) (files : Tree) → way_parts way ≡ way ∷ [] → path ≡ joined folder way → node_laid node path (folder_laid folder files) ≡ laid_under node (way_parts way) folder files
-same_last node way folder path files cut is = ap (λ p. node_laid node p (folder_laid folder files)) is ∙ sym (ap (λ parts. laid_under node parts folder files) cut)
+pub same_last : (node : Node) (way folder path : List ℕ) (files : Tree) → way_parts way ≡ way ∷ []
+    → path ≡ joined folder way → node_laid node path (folder_laid folder files)
+    ≡ laid_under node (way_parts way) folder files
+same_last node way folder path files cut is = ap (λ p. node_laid node p (folder_laid folder files)) is
+    ∙ sym (ap (λ parts. laid_under node parts folder files) cut)
 
 -- ---- a tree at a place under a folder
 
@@ -57,17 +65,23 @@ placed_any : (node : Node) (parts : List (List ℕ)) (root : List ℕ) → is_ro
 placed_any node [] root plain = plain_placed node root plain
 placed_any node (part ∷ parts) root plain = tt
 
-told_placed : (o : Option Tree) (result : Result (Unit {0}) StoreFault) (node : Node) (parts : List (List ℕ)) (root : List ℕ) → is_root root ≡ false → IfSome o (λ _. OnOk result (IsPlaced node parts root))
+told_placed : (o : Option Tree) (result : Result (Unit {0}) StoreFault) (node : Node) (parts : List (List ℕ))
+    (root : List ℕ) → is_root root ≡ false → IfSome o (λ _. OnOk result (IsPlaced node parts root))
 told_placed None result node parts root plain = tt
 told_placed (Some files) (Ok done) node parts root plain = placed_any node parts root plain
 told_placed (Some files) (Err fault) node parts root plain = tt
 
-steps_made : (o o1 o2 : Option Tree) (root place : List ℕ) (node : Node) → o1 ≡ option_map (folder_made root) o → o2 ≡ option_map (laid_under node (parts_of place) root) o1 → o2 ≡ option_map (tree_steps root place node) o
+steps_made : (o o1 o2 : Option Tree) (root place : List ℕ) (node : Node) → o1 ≡ option_map (folder_made root) o
+    → o2 ≡ option_map (laid_under node (parts_of place) root) o1 → o2 ≡ option_map (tree_steps root place node) o
 unfolding tree_steps
 steps_made None o1 o2 root place node made laid = laid ∙ ap (option_map (laid_under node (parts_of place) root)) made
-steps_made (Some files) o1 o2 root place node made laid = laid ∙ ap (option_map (laid_under node (parts_of place) root)) made
+steps_made (Some files) o1 o2 root place node made laid = laid
+    ∙ ap (option_map (laid_under node (parts_of place) root)) made
 
-made_where : (result : Result (Unit {0}) StoreFault) (o o1 o2 : Option Tree) (root place : List ℕ) (node : Node) → o1 ≡ option_map (folder_made root) o → OnOk result (o2 ≡ option_map (laid_under node (parts_of place) root) o1) → OnOk result (o2 ≡ option_map (tree_steps root place node) o)
+made_where : (result : Result (Unit {0}) StoreFault) (o o1 o2 : Option Tree) (root place : List ℕ) (node : Node)
+    → o1 ≡ option_map (folder_made root) o → OnOk result (o2
+    ≡ option_map (laid_under node (parts_of place) root) o1)
+    → OnOk result (o2 ≡ option_map (tree_steps root place node) o)
 made_where (Ok done) o o1 o2 root place node made laid = steps_made o o1 o2 root place node made laid
 made_where (Err fault) o o1 o2 root place node made laid = tt
 
@@ -76,22 +90,41 @@ on_ok (Ok done) P h = h
 on_ok (Err fault) P h = tt
 
 -- the folder was made, and the node is laid at its place
-pub tree_kept : (root place : List ℕ) (node : Node) (source after : KeptBytes) (old mid new : Seen) (answer : Result (Unit {0}) FileFault) (result : Result (Unit {0}) StoreFault)
-    → is_root root ≡ false → fits node 0 ≡ true → mid.files ≡ option_map (folder_made root) old.files → CountsMisuse (option_map (λ files. can_make_folder files root) old.files) answer old.misused mid.misused → IfSome old.files IsTree → IfSome mid.files IsTree
+pub tree_kept : (root place : List ℕ) (node : Node) (source after : KeptBytes) (old mid new : Seen)
+    (answer : Result (Unit {0}) FileFault) (result : Result (Unit {0}) StoreFault)
+    → is_root root ≡ false → fits node 0 ≡ true → mid.files ≡ option_map (folder_made root) old.files
+    → CountsMisuse (option_map (λ files. can_make_folder files root) old.files) answer old.misused mid.misused
+    → IfSome old.files IsTree → IfSome mid.files IsTree
     → IsTrue (list_all is_part (parts_of place)) → LeavesAround root mid new → Ahead source mid.files (node_bytes node)
-    → Lays (node_bytes node ++ []) [] (laid_under node (parts_of place) root) (way_to root) [] source mid result after new → LaysTree root place node old result after new
-tree_kept root place node source after old mid new answer result plain fit made counts tree tree1 names around ahead lays = by (lays.so (subst (Ahead source mid.files) (sym (append-nil (node_bytes node))) ahead) (way_made root old.files mid.files made tree1))
+    → Lays (node_bytes node ++ []) [] (laid_under node (parts_of place) root)
+    (way_to root) [] source mid result after new → LaysTree root place node old result after new
+tree_kept root place node source after old mid new answer result plain fit made counts tree tree1 names around
+    ahead lays = by (lays.so (subst (Ahead source mid.files) (sym (append-nil (node_bytes node))) ahead)
+    (way_made root old.files mid.files made tree1))
   where
-    by : Did {A = Unit {0}} (λ done. Unit {0}) [] (laid_under node (parts_of place) root) [] mid result after new → LaysTree root place node old result after new
+    by : Did {A = Unit {0}} (λ done. Unit {0}) [] (laid_under node (parts_of place) root) [] mid result after new
+        → LaysTree root place node old result after new
     by did = record {
       ended = did.ahead;
-      files = laid_where result old.files new.files root place node node refl fit (made_where result old.files mid.files new.files root place node made did.files) (on_ok result _ names) (told_placed old.files result node (parts_of place) root plain) tree;
+      files = laid_where result old.files new.files root place node node refl fit
+          (made_where result old.files mid.files new.files root place node made did.files) (on_ok result _ names)
+          (told_placed old.files result node (parts_of place) root plain) tree;
       free = did.free;
-      allows = laid_right old.files root place node answer old.misused mid.misused new.misused counts around.misused (λ can. did.right);
+      allows = laid_right old.files root place node answer old.misused mid.misused new.misused counts
+          around.misused (λ can. did.right);
     }
 
-pub tree_stopped : (root place : List ℕ) (node : Node) (after : KeptBytes) (old new : Seen) (answer : Result (Unit {0}) FileFault) (fault : StoreFault) → IsTrue (is_free fault) → CountsMisuse (option_map (λ files. can_make_folder files root) old.files) answer old.misused new.misused → LaysTree root place node old (Err fault) after new
-tree_stopped root place node after old new answer fault free counts = record { ended = tt; files = tt; free = free; allows = made_right old.files root place node answer old.misused new.misused counts }
+pub tree_stopped : (root place : List ℕ) (node : Node) (after : KeptBytes) (old new : Seen)
+    (answer : Result (Unit {0}) FileFault) (fault : StoreFault) → IsTrue (is_free fault)
+    → CountsMisuse (option_map (λ files. can_make_folder files root) old.files) answer old.misused new.misused
+    → LaysTree root place node old (Err fault) after new
+tree_stopped root place node after old new answer fault free counts = record {
+  ended = tt;
+  files = tt;
+  free = free;
+  allows = made_right old.files root place node answer old.misused
+      new.misused counts;
+}
 
 -- ---- the file that was judged
 
@@ -102,16 +135,20 @@ pub record IsBegun (source : KeptBytes) (digest : List ℕ) : Type 0 where
   pub at : source.at ≡ 5
   pub piece : source.piece ≡ []
 
-file_ahead : (source : KeptBytes) (digest : List ℕ) (found : Option Item) (tree : Node) → IsBegun source digest → Gets digest found (Ok tree) → IsAhead source found (node_bytes tree)
+file_ahead : (source : KeptBytes) (digest : List ℕ) (found : Option Item) (tree : Node) → IsBegun source digest
+    → Gets digest found (Ok tree) → IsAhead source found (node_bytes tree)
 file_ahead source digest None tree begun gets = absurd gets
 file_ahead source digest (Some item.Folder) tree begun gets = absurd gets
 file_ahead source digest (Some (item.Link target)) tree begun gets = absurd gets
 file_ahead source digest (Some item.Odd) tree begun gets = absurd gets
 file_ahead source digest (Some (item.File exec bytes)) tree begun gets = record {
   file = refl;
-  few = let size : length bytes ≤ limit = gets.1.size in omega (arith, size, ap length gets.1.is, length-append magic (node_bytes tree), begun.at);
+  few = let size : length bytes ≤ limit = gets.1.size in omega
+      (arith, size, ap length gets.1.is, length-append magic (node_bytes tree), begun.at);
   is = sym (ap (λ n. drop n bytes) begun.at ∙ ap (drop 5) gets.1.is);
-  held = ap (drop source.used) begun.piece ∙ drop-nil source.used ∙ ap (λ n. take n (node_bytes tree)) (let none : length source.piece ≡ 0 = ap length begun.piece in let e : 0 ≡ length source.piece - source.used = omega arith in e);
+  held = ap (drop source.used) begun.piece ∙ drop-nil source.used
+      ∙ ap (λ n. take n (node_bytes tree)) (let none : length source.piece ≡ 0 = ap length begun.piece
+      in let e : 0 ≡ length source.piece - source.used = omega arith in e);
   taken = magic;
   hashed = begun.hashed;
   whole = ap sha256 (sym gets.1.is) ∙ gets.0 ∙ sym begun.named;
@@ -125,22 +162,32 @@ file_fits digest (Some item.Odd) tree gets = absurd gets
 file_fits digest (Some (item.File exec bytes)) tree gets = gets.1.fit
 
 -- nothing is told, or the bytes of a tree lie ahead
-told : (source : KeptBytes) (path digest : List ℕ) (o : Option Tree) (tree : Node) → source.path ≡ path → IsBegun source digest → IfSome o (λ files. Gets digest (item_at files path) (Ok tree)) → (o ≡ None) ⊎ (Ahead source o (node_bytes tree) × (fits tree 0 ≡ true))
+told : (source : KeptBytes) (path digest : List ℕ) (o : Option Tree) (tree : Node) → source.path ≡ path
+    → IsBegun source digest → IfSome o (λ files. Gets digest (item_at files path) (Ok tree)) → (o ≡ None)
+    ⊎ (Ahead source o (node_bytes tree) × (fits tree 0 ≡ true))
 unfolding Ahead
 told source path digest None tree is begun gets = inl refl
-told source path digest (Some files) tree is begun gets = inr (subst (λ p. IsAhead source (item_at files p) (node_bytes tree)) (sym is) (file_ahead source digest (item_at files path) tree begun gets), file_fits digest (item_at files path) tree gets)
+told source path digest (Some files) tree is begun gets = inr (
+  subst (λ p. IsAhead source (item_at files p) (node_bytes tree)) (sym is)
+      (file_ahead source digest (item_at files path) tree begun gets),
+  file_fits digest
+      (item_at files path) tree gets,
+)
 
-none_files : (path : List ℕ) (o o1 : Option Tree) (change : Tree → Tree) → o ≡ None → KeptAround path o o1 → o1 ≡ option_map change o
+none_files : (path : List ℕ) (o o1 : Option Tree) (change : Tree → Tree) → o ≡ None → KeptAround path o o1
+    → o1 ≡ option_map change o
 unfolding KeptAround
 none_files path None None change none kept = refl
 none_files path None (Some files) change none kept = absurd kept
 none_files path (Some files) o1 change none kept = absurd (cc)
 
-none_allowed : (o : Option Tree) (allows : Tree → Bool) (a b : ℕ) → o ≡ None → MayMisuse (option_map (λ files. false) o) a b → MayMisuse (option_map allows o) a b
+none_allowed : (o : Option Tree) (allows : Tree → Bool) (a b : ℕ) → o ≡ None
+    → MayMisuse (option_map (λ files. false) o) a b → MayMisuse (option_map allows o) a b
 none_allowed None allows a b none h = h
 none_allowed (Some files) allows a b none h = absurd (cc)
 
-free_cause : (root file : List ℕ) (o : Option Tree) (fault : StoreFault) → IsTrue (is_free fault) → BlamesEither root file fault → IsKeptCause root file o (cause_of fault)
+free_cause : (root file : List ℕ) (o : Option Tree) (fault : StoreFault) → IsTrue (is_free fault)
+    → BlamesEither root file fault → IsKeptCause root file o (cause_of fault)
 free_cause root file o (File path) free blames = blames
 free_cause root file o Memory free blames = tt
 free_cause root file o (OddFile path) free blames = absurd (cc)
@@ -149,7 +196,8 @@ free_cause root file o (NoTree digest) free blames = absurd (cc)
 free_cause root file o (Damaged asked found bad) free blames = absurd (cc)
 free_cause root file o (Clash digest) free blames = absurd (cc)
 
-untold_cause : (root file : List ℕ) (o : Option Tree) (fault : StoreFault) → o ≡ None → BlamesEither root file fault → IsKeptCause root file o (cause_of fault)
+untold_cause : (root file : List ℕ) (o : Option Tree) (fault : StoreFault) → o ≡ None
+    → BlamesEither root file fault → IsKeptCause root file o (cause_of fault)
 untold_cause root file o (File path) none blames = blames
 untold_cause root file o Memory none blames = tt
 untold_cause root file o (OddFile path) none blames = none
@@ -158,36 +206,79 @@ untold_cause root file o (NoTree digest) none blames = none
 untold_cause root file o (Damaged asked found bad) none blames = none
 untold_cause root file o (Clash digest) none blames = none
 
-kept_step : (store digest root place : List ℕ) (tree : Node) (source after : KeptBytes) (old new : Seen) (result : Result (Unit {0}) StoreFault)
-    → source.path ≡ tree_path store digest → IsBegun source digest → IfSome old.files (λ files. Gets digest (item_at files (tree_path store digest)) (Ok tree))
-    → Leaves root source old result after new → ((node : Node) → fits node 0 ≡ true → Ahead source old.files (node_bytes node) → LaysTree root place node old result after new)
-    → ((node : Node) → fits node 0 ≡ true → Ahead source old.files (node_bytes node) → LaidPartly root (items_placed root place node) old.files new.files) → lays_kept store digest root place tree old result new
+kept_step : (store digest root place : List ℕ) (tree : Node) (source after : KeptBytes) (old new : Seen)
+    (result : Result (Unit {0}) StoreFault)
+    → source.path ≡ tree_path store digest → IsBegun source digest
+    → IfSome old.files (λ files. Gets digest (item_at files (tree_path store digest)) (Ok tree))
+    → Leaves root source old result after new → ((node : Node) → fits node 0 ≡ true
+    → Ahead source old.files (node_bytes node) → LaysTree root place node old result after new)
+    → ((node : Node) → fits node 0 ≡ true → Ahead source old.files (node_bytes node)
+    → LaidPartly root (items_placed root place node) old.files new.files)
+    → lays_kept store digest root place tree old result new
 unfolding lays_kept
-kept_step store digest root place tree source after old new result is begun gets leaves lays parts = by result leaves (told source (tree_path store digest) digest old.files tree is begun gets) (lays tree)
+kept_step store digest root place tree source after old new result is begun gets leaves lays parts = by result
+    leaves (told source (tree_path store digest) digest old.files tree is begun gets) (lays tree)
   where
-    counts : (result : Result (Unit {0}) StoreFault) → Leaves root source old result after new → FileCounts (ended_by cause_of result) old new
+    counts : (result : Result (Unit {0}) StoreFault) → Leaves root source old result after new
+        → FileCounts (ended_by cause_of result) old new
     counts result leaves = counted result old new leaves.counts leaves.children
 
-    by : (result : Result (Unit {0}) StoreFault) → Leaves root source old result after new → (old.files ≡ None) ⊎ (Ahead source old.files (node_bytes tree) × (fits tree 0 ≡ true)) → (fits tree 0 ≡ true → Ahead source old.files (node_bytes tree) → LaysTree root place tree old result after new)
+    by : (result : Result (Unit {0}) StoreFault) → Leaves root source old result after new → (old.files ≡ None)
+        ⊎ (Ahead source old.files (node_bytes tree) × (fits tree 0 ≡ true))
+        → (fits tree 0 ≡ true → Ahead source old.files (node_bytes tree)
+        → LaysTree root place tree old result after new)
         → lays_kept store digest root place tree old result new
-    by (Ok done) leaves (inl none) lays = (none_files root old.files new.files (tree_laid root place tree) none leaves.around.files, leaves.around, none_allowed old.files (can_lay root place tree) old.misused new.misused none leaves.untold, counts (Ok done) leaves)
-    by (Ok done) leaves (inr (ahead, fit)) lays = let laid = lays fit ahead in (laid.files, leaves.around, laid.allows, counts (Ok done) leaves)
-    by (Err fault) leaves (inl none) lays = (untold_cause root (tree_path store digest) old.files fault none (subst (λ f. BlamesEither root f fault) is leaves.blames), leaves.around, none_allowed old.files (can_lay root place tree) old.misused new.misused none leaves.untold, counts (Err fault) leaves, partly_untold root root (items_placed root place tree) old.files new.files none leaves.around.files)
-    by (Err fault) leaves (inr (ahead, fit)) lays = let laid = lays fit ahead in (free_cause root (tree_path store digest) old.files fault laid.free (subst (λ f. BlamesEither root f fault) is leaves.blames), leaves.around, laid.allows, counts (Err fault) leaves, parts tree fit ahead)
+    by (Ok done) leaves (inl none) lays = (
+      none_files root old.files new.files
+          (tree_laid root place tree) none leaves.around.files,
+      leaves.around,
+      none_allowed old.files
+          (can_lay root place tree) old.misused new.misused none leaves.untold,
+      counts (Ok done) leaves,
+    )
+    by (Ok done) leaves (inr (ahead, fit)) lays = let laid = lays fit ahead
+        in (laid.files, leaves.around, laid.allows, counts (Ok done) leaves)
+    by (Err fault) leaves (inl none) lays = (
+      untold_cause root (tree_path store digest) old.files fault none
+          (subst (λ f. BlamesEither root f fault) is leaves.blames),
+      leaves.around,
+      none_allowed old.files
+          (can_lay root place tree) old.misused new.misused none leaves.untold,
+      counts
+          (Err fault) leaves,
+      partly_untold root root (items_placed root place tree) old.files new.files none
+          leaves.around.files,
+    )
+    by (Err fault) leaves (inr (ahead, fit)) lays = let laid = lays fit ahead
+        in (
+          free_cause root (tree_path store digest) old.files fault laid.free
+              (subst (λ f. BlamesEither root f fault) is leaves.blames),
+          leaves.around,
+          laid.allows,
+          counts
+              (Err fault) leaves,
+          parts tree fit ahead,
+        )
 
 -- ---- the digest of what was laid
 
-ends_never : (after : KeptBytes) (o : Option Tree) (fault : StoreFault) → Ahead after o [] → ((bytes : List ℕ) → Holds256 after.hasher bytes → HasDigest after.digest bytes (Err fault)) → ⊥
+ends_never : (after : KeptBytes) (o : Option Tree) (fault : StoreFault) → Ahead after o []
+    → ((bytes : List ℕ) → Holds256 after.hasher bytes → HasDigest after.digest bytes (Err fault)) → ⊥
 unfolding Ahead
 ends_never after None fault ahead has = ahead
-ends_never after (Some files) fault ahead has = let other = has ahead.taken ahead.hashed in other.0 (ap sha256 (sym (append-nil ahead.taken)) ∙ ahead.whole)
+ends_never after (Some files) fault ahead has = let other = has ahead.taken ahead.hashed
+    in other.0 (ap sha256 (sym (append-nil ahead.taken)) ∙ ahead.whole)
 
-pub lays_ended : (root place : List ℕ) (node : Node) (after : KeptBytes) (old new : Seen) (result : Result (Unit {0}) StoreFault)
-    → ((bytes : List ℕ) → Holds256 after.hasher bytes → HasDigest after.digest bytes result) → LaysTree root place node old (Ok tt) after new → LaysTree root place node old result after new
+pub lays_ended : (root place : List ℕ) (node : Node) (after : KeptBytes) (old new : Seen)
+    (result : Result (Unit {0}) StoreFault)
+    → ((bytes : List ℕ) → Holds256 after.hasher bytes → HasDigest after.digest bytes result)
+    → LaysTree root place node old (Ok tt) after new → LaysTree root place node old result after new
 lays_ended root place node after old new (Ok done) has laid = laid
 lays_ended root place node after old new (Err fault) has laid = absurd (ends_never after new.files fault laid.ended has)
 
-pub leaves_ended : (path : List ℕ) (source after : KeptBytes) (old new : Seen) (result : Result (Unit {0}) StoreFault) → IfErr result (λ fault. cause_of fault ≡ Decided) → Leaves {A = Unit {0}} path source old (Ok tt) after new → Leaves path source old result after new
+pub leaves_ended : (path : List ℕ) (source after : KeptBytes) (old new : Seen)
+    (result : Result (Unit {0}) StoreFault) → IfErr result (λ fault. cause_of fault ≡ Decided)
+    → Leaves {A = Unit {0}} path source old (Ok tt) after new → Leaves path source old result after new
 leaves_ended path source after old new (Ok done) decided leaves = leaves
 leaves_ended path source after old new (Err fault) decided leaves = record {
   stays = leaves.stays;
@@ -209,42 +300,64 @@ leaves_ended path source after old new (Err fault) decided leaves = record {
 
 -- ---- the whole step
 
-pub not_judged : {W : Type 0} (ghosts : world.Ghosts W) (store digest root place : List ℕ) (fault : StoreFault) (old new : W)
-    → IfSome (ghosts.tree old) (λ files. Checks digest (item_at files (tree_path store digest)) (Err fault)) → BlamesAt (tree_path store digest) fault → ReadFrame {A = Unit {0}} cause_of (Err fault) (seen ghosts old) (seen ghosts new)
-    → MayMisuse (option_map (λ files. is_file_or_absent (item_at files (tree_path store digest))) (ghosts.tree old)) (ghosts.misused old) (ghosts.misused new)
+pub not_judged : {W : Type 0} (ghosts : world.Ghosts W) (store digest root place : List ℕ) (fault : StoreFault)
+    (old new : W)
+    → IfSome (ghosts.tree old) (λ files. Checks digest (item_at files (tree_path store digest)) (Err fault))
+    → BlamesAt (tree_path store digest) fault → ReadFrame {A = Unit {0}} cause_of (Err fault)
+    (seen ghosts old) (seen ghosts new)
+    → MayMisuse (option_map (λ files. is_file_or_absent (item_at files (tree_path store digest)))
+    (ghosts.tree old)) (ghosts.misused old) (ghosts.misused new)
     → lays_stored store digest root place (seen ghosts old) (Err fault) (seen ghosts new)
 unfolding lays_stored
 not_judged ghosts store digest root place fault old new answer blames frame allows =
-    ended (gets_tree store digest) (lays_kept store digest root place) (seen ghosts old) (seen ghosts new) fault (got ghosts store digest (Err fault) old new answer frame.cause blames frame.files frame.runs allows (counted {A = Node} (Err fault) (seen ghosts old) (seen ghosts new) frame.counts frame.children))
+    ended (gets_tree store digest) (lays_kept store digest root place) (seen ghosts old) (seen ghosts new) fault
+    (got ghosts store digest (Err fault) old new answer frame.cause blames frame.files frame.runs allows
+    (counted {A = Node} (Err fault) (seen ghosts old) (seen ghosts new) frame.counts frame.children))
 
-pub judged_and_laid : {W : Type 0} (ghosts : world.Ghosts W) (store digest root place : List ℕ) (done : Unit {0}) (source after : KeptBytes) (old mid new : W) (result : Result (Unit {0}) StoreFault)
-    → IfSome (ghosts.tree old) (λ files. Checks digest (item_at files (tree_path store digest)) (Ok done)) → ReadFrame cause_of (Ok done) (seen ghosts old) (seen ghosts mid)
-    → MayMisuse (option_map (λ files. is_file_or_absent (item_at files (tree_path store digest))) (ghosts.tree old)) (ghosts.misused old) (ghosts.misused mid)
+pub judged_and_laid : {W : Type 0} (ghosts : world.Ghosts W) (store digest root place : List ℕ) (done : Unit {0})
+    (source after : KeptBytes) (old mid new : W) (result : Result (Unit {0}) StoreFault)
+    → IfSome (ghosts.tree old) (λ files. Checks digest (item_at files (tree_path store digest)) (Ok done))
+    → ReadFrame cause_of (Ok done) (seen ghosts old) (seen ghosts mid)
+    → MayMisuse (option_map (λ files. is_file_or_absent (item_at files (tree_path store digest)))
+    (ghosts.tree old)) (ghosts.misused old) (ghosts.misused mid)
     → source.path ≡ tree_path store digest → IsBegun source digest
-    → Leaves root source (seen ghosts mid) result after (seen ghosts new) → ((node : Node) → fits node 0 ≡ true → Ahead source (ghosts.tree mid) (node_bytes node) → LaysTree root place node (seen ghosts mid) result after (seen ghosts new))
-    → ((node : Node) → fits node 0 ≡ true → Ahead source (ghosts.tree mid) (node_bytes node) → LaidPartly root (items_placed root place node) (ghosts.tree mid) (ghosts.tree new))
+    → Leaves root source (seen ghosts mid) result after (seen ghosts new)
+    → ((node : Node) → fits node 0 ≡ true → Ahead source (ghosts.tree mid) (node_bytes node)
+    → LaysTree root place node (seen ghosts mid) result after (seen ghosts new))
+    → ((node : Node) → fits node 0 ≡ true → Ahead source (ghosts.tree mid) (node_bytes node)
+    → LaidPartly root (items_placed root place node) (ghosts.tree mid) (ghosts.tree new))
     → lays_stored store digest root place (seen ghosts old) result (seen ghosts new)
 unfolding lays_stored
-judged_and_laid ghosts store digest root place done source after old mid new result answer frame allows is begun leaves lays parts =
+judged_and_laid ghosts store digest root place done source after old mid new result answer frame allows is begun
+    leaves lays parts =
     let tree = got_some (ghosts.tree old) (tree_path store digest) digest answer in
-    went (gets_tree store digest) (lays_kept store digest root place) (seen ghosts old) (seen ghosts mid) (seen ghosts new) tree.0 result
-    (got ghosts store digest (Ok tree.0) old mid tree.1 tt tt frame.files frame.runs allows (counted (Ok tree.0) (seen ghosts old) (seen ghosts mid) frame.counts frame.children))
-    (kept_step store digest root place tree.0 source after (seen ghosts mid) (seen ghosts new) result is begun (subst (λ o. IfSome o (λ files. Gets digest (item_at files (tree_path store digest)) (Ok tree.0))) (sym frame.files) tree.1) leaves lays parts)
+    went (gets_tree store digest) (lays_kept store digest root place) (seen ghosts old) (seen ghosts mid)
+    (seen ghosts new) tree.0 result
+    (got ghosts store digest (Ok tree.0) old mid tree.1 tt tt frame.files frame.runs allows
+    (counted (Ok tree.0) (seen ghosts old) (seen ghosts mid) frame.counts frame.children))
+    (kept_step store digest root place tree.0 source after (seen ghosts mid) (seen ghosts new) result is begun
+    (subst (λ o. IfSome o (λ files. Gets digest (item_at files (tree_path store digest)) (Ok tree.0)))
+    (sym frame.files) tree.1) leaves lays parts)
 
 -- a tree that was got whole, and written
-wider_cause : (root file : List ℕ) (o : Option Tree) (cause : Cause) → IsCauseWithin root cause → IsKeptCause root file o cause
+wider_cause : (root file : List ℕ) (o : Option Tree) (cause : Cause) → IsCauseWithin root cause
+    → IsKeptCause root file o cause
 wider_cause root file o (FileFailed path) h = inl h
 wider_cause root file o ChildFailed h = h
 wider_cause root file o OutOfMemory h = tt
 wider_cause root file o Decided h = absurd h
 
-pub whole_laid : (store digest root place : List ℕ) (tree : Node) (old new : Seen) (result : Result (Unit {0}) StoreFault) → lays_tree root place tree old result new → lays_kept store digest root place tree old result new
+pub whole_laid : (store digest root place : List ℕ) (tree : Node) (old new : Seen)
+    (result : Result (Unit {0}) StoreFault) → lays_tree root place tree old result new
+    → lays_kept store digest root place tree old result new
 unfolding lays_tree lays_kept
 whole_laid store digest root place tree old new (Ok done) h = h
-whole_laid store digest root place tree old new (Err fault) (cause, around, allows, counts, partly) = (wider_cause root (tree_path store digest) old.files (cause_of fault) cause, around, allows, counts, partly)
+whole_laid store digest root place tree old new (Err fault) (cause, around, allows, counts, partly) =
+    (wider_cause root (tree_path store digest) old.files (cause_of fault) cause, around, allows, counts, partly)
 
 -- no path could be made of the digest
-no_tree : (digest : List ℕ) (o : Option Tree) (path : List ℕ) → IfSome o (λ files. Gets digest (item_at files path) (Err Memory))
+no_tree : (digest : List ℕ) (o : Option Tree) (path : List ℕ)
+    → IfSome o (λ files. Gets digest (item_at files path) (Err Memory))
 no_tree digest None path = tt
 no_tree digest (Some files) path = by (item_at files path)
   where
@@ -263,8 +376,11 @@ may_stay (Some files) allows a = by (allows files)
     by true = refl
     by false = omega arith
 
-pub no_path : {W : Type 0} (ghosts : world.Ghosts W) (store digest root place : List ℕ) (old : W) → lays_stored store digest root place (seen ghosts old) (Err Memory) (seen ghosts old)
+pub no_path : {W : Type 0} (ghosts : world.Ghosts W) (store digest root place : List ℕ) (old : W)
+    → lays_stored store digest root place (seen ghosts old) (Err Memory) (seen ghosts old)
 unfolding lays_stored
 no_path ghosts store digest root place old =
     ended (gets_tree store digest) (lays_kept store digest root place) (seen ghosts old) (seen ghosts old) Memory
-    (got ghosts store digest (Err Memory) old old (no_tree digest (ghosts.tree old) (tree_path store digest)) tt tt refl refl (may_stay (ghosts.tree old) (λ files. is_file_or_absent (item_at files (tree_path store digest))) (ghosts.misused old)) (files_rest.memory (seen ghosts old)))
+    (got ghosts store digest (Err Memory) old old (no_tree digest (ghosts.tree old) (tree_path store digest)) tt
+    tt refl refl (may_stay (ghosts.tree old) (λ files. is_file_or_absent
+    (item_at files (tree_path store digest))) (ghosts.misused old)) (files_rest.memory (seen ghosts old)))

@@ -22,7 +22,8 @@ use Rattle.tree_store.specs.declared.fault.StoreFault.{StoreFault}
 use Rattle.tree_store.specs.declared.fault.StoreFault.TheVariants.{Damaged}
 use Rattle.tree_store.specs.declared.kept_bytes.KeptBytes.{KeptBytes}
 
--- Of what stands at the reader's path, these bytes lie behind its place, and it holds the first of them. Together with those
+-- Of what stands at the reader's path, these bytes lie behind its place, and it holds the first of them. Together with
+-- those
 -- that it hashed they have its digest.
 pub record IsAhead (source : KeptBytes) (found : Option Item) (bytes : List ℕ) : Type 0 where
   pub file : IsTrue (is_file found)
@@ -38,9 +39,11 @@ unfoldable pub Ahead : KeptBytes → Option Tree → List ℕ → Type 0
 Ahead source None bytes = ⊥
 Ahead source (Some files) bytes = IsAhead source (item_at files source.path) bytes
 
--- What a call leaves, whatever bytes it reads: all that isn't at a path or below it. Where files aren't told it makes no call
+-- What a call leaves, whatever bytes it reads: all that isn't at a path or below it. Where files aren't told it makes
+-- no call
 -- on a path of the wrong kind.
-pub record Leaves {A : Type 0} (path : List ℕ) (source : KeptBytes) (old : Seen) (result : Result A StoreFault) (after : KeptBytes) (new : Seen)
+pub record Leaves {A : Type 0} (path : List ℕ) (source : KeptBytes) (old : Seen) (result : Result A StoreFault)
+    (after : KeptBytes) (new : Seen)
     : Type 0 where
   pub stays : after.path ≡ source.path
   pub around : LeavesAround path old new
@@ -50,7 +53,8 @@ pub record Leaves {A : Type 0} (path : List ℕ) (source : KeptBytes) (old : See
   pub blames : IfErr result (BlamesEither path source.path)
 
 -- what it does where the files are told and the bytes ahead are known
-pub record Did {A : Type 0} (Is : A → Type 0) (rest : List ℕ) (change : Tree → Tree) (paths : List (List ℕ)) (old : Seen) (result : Result A StoreFault) (after : KeptBytes) (new : Seen)
+pub record Did {A : Type 0} (Is : A → Type 0) (rest : List ℕ) (change : Tree → Tree) (paths : List (List ℕ))
+    (old : Seen) (result : Result A StoreFault) (after : KeptBytes) (new : Seen)
     : Type 0 where
   pub value : IfOk result Is
   pub files : OnOk result (new.files ≡ option_map change old.files)
@@ -59,23 +63,32 @@ pub record Did {A : Type 0} (Is : A → Type 0) (rest : List ℕ) (change : Tree
   pub free : IfErr result (λ fault. IsTrue (is_free fault))
   pub right : new.misused ≡ old.misused
 
--- With these bytes ahead and folders at these paths, it answers a value of which this holds, comes to the rest of the bytes,
+-- With these bytes ahead and folders at these paths, it answers a value of which this holds, comes to the rest of the
+-- bytes,
 -- changes the files so, and leaves folders at those paths. It is refused for a failed call or want of memory alone.
-pub record Does {A : Type 0} (Is : A → Type 0) (bytes rest : List ℕ) (change : Tree → Tree) (before paths : List (List ℕ)) (source : KeptBytes) (old : Seen) (result : Result A StoreFault) (after : KeptBytes) (new : Seen)
+pub record Does {A : Type 0} (Is : A → Type 0) (bytes rest : List ℕ) (change : Tree → Tree)
+    (before paths : List (List ℕ)) (source : KeptBytes) (old : Seen) (result : Result A StoreFault)
+    (after : KeptBytes) (new : Seen)
     : Type 0 where
   pub so : Ahead source old.files bytes → AreFolders before old.files → Did Is rest change paths old result after new
 
 -- and answers nothing
-abbrev pub Lays : List ℕ → List ℕ → (Tree → Tree) → List (List ℕ) → List (List ℕ) → KeptBytes → Seen → Result (Unit {0}) StoreFault → KeptBytes → Seen → Type 0
-Lays bytes rest change before paths source old result after new = Does (λ done. Unit {0}) bytes rest change before paths source old result after new
+abbrev pub Lays : List ℕ → List ℕ → (Tree → Tree) → List (List ℕ) → List (List ℕ) → KeptBytes → Seen
+    → Result (Unit {0}) StoreFault → KeptBytes → Seen → Type 0
+Lays bytes rest change before paths source old result after new = Does
+    (λ done. Unit {0}) bytes rest change before paths source old result after new
 
 -- reading a value changes nothing
-abbrev pub Reading : {A : Type 0} → (A → Type 0) → List ℕ → List ℕ → List (List ℕ) → KeptBytes → Seen → Result A StoreFault → KeptBytes → Seen → Type 0
-Reading Is bytes rest paths source old result after new = Does Is bytes rest (λ files. files) paths paths source old result after new
+abbrev pub Reading : {A : Type 0} → (A → Type 0) → List ℕ → List ℕ → List (List ℕ) → KeptBytes → Seen
+    → Result A StoreFault → KeptBytes → Seen → Type 0
+Reading Is bytes rest paths source old result after new = Does Is bytes rest
+    (λ files. files) paths paths source old result after new
 
--- A tree is laid at a place under a folder, where the files are told and its bytes lie ahead. Then the reader is at the end of
+-- A tree is laid at a place under a folder, where the files are told and its bytes lie ahead. Then the reader is at the
+-- end of
 -- the file.
-pub record LaysTree (root place : List ℕ) (tree : Node) (old : Seen) (result : Result (Unit {0}) StoreFault) (after : KeptBytes) (new : Seen) : Type 0 where
+pub record LaysTree (root place : List ℕ) (tree : Node) (old : Seen) (result : Result (Unit {0}) StoreFault)
+    (after : KeptBytes) (new : Seen) : Type 0 where
   pub ended : OnOk result (Ahead after new.files [])
   pub files : OnOk result (new.files ≡ option_map (tree_laid root place tree) old.files)
   pub free : IfErr result (λ fault. IsTrue (is_free fault))
@@ -87,5 +100,6 @@ HasDigest digest bytes (Ok done) = sha256 bytes ≡ digest
 HasDigest digest bytes (Err fault) = (sha256 bytes ≢ digest) × (fault ≡ Damaged digest (sha256 bytes) None)
 
 -- With these bytes ahead and folders at these paths, a call leaves a part of these items, whether it is refused or not.
-pub record LaysPartly (folder : List ℕ) (given : List Given) (bytes : List ℕ) (before : List (List ℕ)) (source : KeptBytes) (old new : Seen) : Type 0 where
+pub record LaysPartly (folder : List ℕ) (given : List Given) (bytes : List ℕ) (before : List (List ℕ))
+    (source : KeptBytes) (old new : Seen) : Type 0 where
   pub so : Ahead source old.files bytes → AreFolders before old.files → LaidPartly folder given old.files new.files

@@ -11,10 +11,12 @@ use Rattle.tree_store.specs.Reading.{tree_in}
 abbrev pub item_in : Node → List ℕ → List ℕ → Option Item
 item_in tree root path = if is_root path then Some item.Folder else given_at (items_of tree root) path
 
--- At each path that is a tree's root or below it the files have what the tree has there, and nothing where it has nothing.
+-- At each path that is a tree's root or below it the files have what the tree has there, and nothing where it has
+-- nothing.
 abbrev pub Matches : List ℕ → Node → Tree → Type 0
 Matches root tree files = (path : List ℕ) → is_within root path ≡ true → item_at files path ≡ item_in tree root path
 
 -- whatever tree is read of a folder
 abbrev pub ReadTreesMatch : Type 0
-ReadTreesMatch = (root : List ℕ) (tree : Node) (files : Tree) → IsTree files → tree_in root files ≡ Ok tree → Matches root tree files
+ReadTreesMatch = (root : List ℕ) (tree : Node) (files : Tree) → IsTree files → tree_in root files ≡ Ok tree
+    → Matches root tree files

@@ -56,7 +56,8 @@ given_at (g ∷ gs) q = if bytes_eq q g.0 then Some g.1 else given_at gs q
 abbrev pub is_replaced : List Given → List ℕ → Bool
 is_replaced given q = list_any (λ g. not (is_folder (Some g.1)) && starts_with nat_eq q (g.0 ++ 47 ∷ [])) given
 
--- what stands at a path afterwards: what is given there; else what stood there, unless a path above is given a file or a link
+-- what stands at a path afterwards: what is given there; else what stood there, unless a path above is given a file or
+-- a link
 abbrev pub stands : Option Item → Bool → Option Item → Option Item
 stands (Some given) replaced old = Some given
 stands None true old = None
@@ -81,7 +82,8 @@ parts_of [] = []
 parts_of (c ∷ []) = []
 parts_of (c ∷ d ∷ rest) = way_parts (d ∷ rest)
 
--- The files with a tree laid at a place under a folder, which is made with those above it. The place is a path as seen from
+-- The files with a tree laid at a place under a folder, which is made with those above it. The place is a path as seen
+-- from
 -- the folder.
 unfoldable pub tree_laid : List ℕ → List ℕ → Node → Tree → Tree
 tree_laid root place node files = lay (items_under node (parts_of place) root) (folder_made root files)
@@ -103,7 +105,9 @@ abbrev pub IsPlaced : Node → List (List ℕ) → List ℕ → Type 0
 IsPlaced node [] root = can_stand node root ≡ true
 IsPlaced node (part ∷ parts) root = Unit {0}
 
--- What laying items leaves, path by path: the item that is given there; else what stood there, unless a file or a link now
+-- What laying items leaves, path by path: the item that is given there; else what stood there, unless a file or a link
+-- now
 -- stands on its way.
 abbrev pub IsOverlay : List Given → Tree → Tree → Type 0
-IsOverlay given old new = (path : List ℕ) → get new path ≡ stands (given_at given path) (is_replaced given path) (get old path)
+IsOverlay given old new = (path : List ℕ) → get new path
+    ≡ stands (given_at given path) (is_replaced given path) (get old path)

@@ -14,14 +14,17 @@ IsBegun (item.File exec bytes) found = (count : ℕ) × (found ≡ Some (item.Fi
 IsBegun (item.Link target) found = found ≡ Some (item.Link target)
 IsBegun item.Odd found = ⊥
 
--- An item takes the place of what stood at a path: a file or a link of all at its own path and below it, a folder of anything
+-- An item takes the place of what stood at a path: a file or a link of all at its own path and below it, a folder of
+-- anything
 -- but a folder at its own path.
 abbrev pub takes_place : Given → Option Item → List ℕ → Bool
-takes_place given old path = if is_folder (Some given.1) then bytes_eq path given.0 && not (is_folder old) else is_within given.0 path
+takes_place given old path = if is_folder (Some given.1) then bytes_eq path given.0
+    && not (is_folder old) else is_within given.0 path
 
 -- one item that is given is begun at its path, or nothing stands there yet or any more
 abbrev pub IsPartOf : Given → List ℕ → Option Item → Option Item → Type 0
-IsPartOf given path old new = ((path ≡ given.0) × IsBegun given.1 new) ⊎ (IsTrue (takes_place given old path) × (new ≡ None))
+IsPartOf given path old new = ((path ≡ given.0) × IsBegun given.1 new)
+    ⊎ (IsTrue (takes_place given old path) × (new ≡ None))
 
 -- at a path is what stood there, or a part of one of these items
 abbrev pub IsOldOrPart : List Given → List ℕ → Option Item → Option Item → Type 0
@@ -29,7 +32,8 @@ IsOldOrPart given path old new = (new ≡ old) ⊎ ((one : Given) × Contains gi
 
 -- the same of each path at one or below it
 abbrev pub StandsPartly : List ℕ → List Given → Tree → Tree → Type 0
-StandsPartly folder given old new = (path : List ℕ) → is_within folder path ≡ true → IsOldOrPart given path (item_at old path) (item_at new path)
+StandsPartly folder given old new = (path : List ℕ) → is_within folder path ≡ true
+    → IsOldOrPart given path (item_at old path) (item_at new path)
 
 -- the same of files that may not be told
 unfoldable pub LaidPartly : List ℕ → List Given → Option Tree → Option Tree → Type 0

@@ -36,12 +36,14 @@ entry_in_front name root rest = Ok (record { name = name; node = root } ∷ rest
 -- the entries of these names, where the spelling has so many bytes before them
 abbrev pub in_order : (List ℕ → ℕ → Result Sized StoreFault) → List (List ℕ) → ℕ → Result (List Named × ℕ) StoreFault
 in_order below [] size = Ok ([], size)
-in_order below (name ∷ names) size = below name (size + (2 + length name)) >>= (λ one. in_order below names one.1 >>= entry_in_front name one.0)
+in_order below (name ∷ names) size = below name (size + (2 + length name))
+    >>= (λ one. in_order below names one.1 >>= entry_in_front name one.0)
 
 -- a link, where so many levels may stand
 abbrev pub link_of : List ℕ → ℕ → ℕ → List ℕ → Result Sized StoreFault
 link_of path zero size target = if is_target target then Err (Limit Depth) else Err (OddFile path)
-link_of path (suc levels) size target = if is_target target then room (size + (3 + length target)) >>= sized (node.Link target) else Err (OddFile path)
+link_of path (suc levels) size target = if is_target target then room (size + (3 + length target))
+    >>= sized (node.Link target) else Err (OddFile path)
 
 -- what lies too deep, but an odd path is refused as odd
 abbrev pub too_deep : List ℕ → Option Item → Result Sized StoreFault
@@ -55,14 +57,18 @@ too_deep path (Some (item.Link target)) = if is_target target then Err (Limit De
 abbrev pub node_of : Tree → List ℕ → (List ℕ → ℕ → Result Sized StoreFault) → ℕ → Option Item → Result Sized StoreFault
 node_of files path below size None = Err (OddFile path)
 node_of files path below size (Some item.Odd) = Err (OddFile path)
-node_of files path below size (Some item.Folder) = room (size + 5) >>= (λ s. in_order below (names_in files path) s >>= folder_of)
-node_of files path below size (Some (item.File exec bytes)) = room (size + (10 + length bytes)) >>= sized (node.File exec bytes)
-node_of files path below size (Some (item.Link target)) = if is_target target then room (size + (3 + length target)) >>= sized (node.Link target) else Err (OddFile path)
+node_of files path below size (Some item.Folder) = room (size + 5)
+    >>= (λ s. in_order below (names_in files path) s >>= folder_of)
+node_of files path below size (Some (item.File exec bytes)) = room (size + (10 + length bytes))
+    >>= sized (node.File exec bytes)
+node_of files path below size (Some (item.Link target)) = if is_target target then room
+    (size + (3 + length target)) >>= sized (node.Link target) else Err (OddFile path)
 
 -- the node at a path of which so many levels may stand
 abbrev pub node_at : ℕ → Tree → List ℕ → ℕ → Result Sized StoreFault
 node_at zero files path size = too_deep path (item_at files path)
-node_at (suc levels) files path size = node_of files path (λ name. node_at levels files (joined path name)) size (item_at files path)
+node_at (suc levels) files path size = node_of files path (λ name. node_at levels files (joined path name)) size
+    (item_at files path)
 
 abbrev pub root_of : List ℕ → Sized → Result Node StoreFault
 root_of path read = Ok read.0

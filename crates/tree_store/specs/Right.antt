@@ -8,7 +8,8 @@ use Rattle.cnb_world.specs.Tree.{Tree, folders_above, is_folder, item_at}
 -- folders stand at these paths
 unfoldable pub AreFolders : List (List ℕ) → Option Tree → Type 0
 AreFolders paths None = Unit {0}
-AreFolders paths (Some files) = (path : List ℕ) → list_any (bytes_eq path) paths ≡ true → is_folder (item_at files path) ≡ true
+AreFolders paths (Some files) = (path : List ℕ) → list_any (bytes_eq path) paths ≡ true
+    → is_folder (item_at files path) ≡ true
 
 -- the folder that a path stands in, and those above it
 abbrev pub way_to : List ℕ → List (List ℕ)

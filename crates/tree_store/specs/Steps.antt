@@ -29,7 +29,8 @@ unfoldable pub looks_for_tree : List ℕ → List ℕ → Seen → Result Bool S
 looks_for_tree store digest old result new =
     reads cause_of (λ files. true) (λ files. Ok (is_file (item_at files (tree_path store digest)))) old result new
 
--- The file of a tree is read, by calls of the right kind where it is a file or absent. A refusal for a failed call names that
+-- The file of a tree is read, by calls of the right kind where it is a file or absent. A refusal for a failed call
+-- names that
 -- file.
 pub record GetsTree (store digest : List ℕ) (old : Seen) (result : Result Node StoreFault) (new : Seen) : Type 0 where
   pub same : Same old new
@@ -90,14 +91,18 @@ abbrev pub PutsRead : List ℕ → Result Node StoreFault → Tree → Result (L
 PutsRead store (Ok tree) files result = Puts store tree files result
 PutsRead store (Err refusal) files result = IsAnswer cause_of result (Err refusal)
 
--- What is left of the files where a folder's tree was put: its file, and nothing where that is written. Where it was refused,
--- all stands but what stood there, and folders above it may have been made; and where what was read or stood decided that,
+-- What is left of the files where a folder's tree was put: its file, and nothing where that is written. Where it was
+-- refused,
+-- all stands but what stood there, and folders above it may have been made; and where what was read or stood decided
+-- that,
 -- nothing stands there, or nothing was changed.
 abbrev pub LeavesFolder : List ℕ → List ℕ → Seen → Result (List ℕ) StoreFault → Seen → Type 0
 LeavesFolder store path old (Ok digest) new =
-    (tree : Node) × (digest ≡ sha256 (spelling_of tree)) × IfSome old.files (λ files. tree_in path files ≡ Ok tree) × (new.files ≡ option_map (folder_put store tree) old.files)
+    (tree : Node) × (digest ≡ sha256 (spelling_of tree)) × IfSome old.files
+    (λ files. tree_in path files ≡ Ok tree) × (new.files ≡ option_map (folder_put store tree) old.files)
 LeavesFolder store path old (Err fault) new =
-    KeptAround (new_path store) old.files new.files × WhereDecided (cause_of fault) (IsCleared store new.files ⊎ (new.files ≡ old.files))
+    KeptAround (new_path store) old.files new.files × WhereDecided (cause_of fault)
+    (IsCleared store new.files ⊎ (new.files ≡ old.files))
 
 -- `File` carries a path at or below the folder, or at or below the folder of the trees' files
 abbrev pub BlamesFolder : List ℕ → List ℕ → StoreFault → Type 0
@@ -109,10 +114,13 @@ BlamesFolder store path (Damaged asked found bad) = Unit {0}
 BlamesFolder store path (Clash digest) = Unit {0}
 BlamesFolder store path Memory = Unit {0}
 
--- The tree of a folder is read and written, and its file is named by its digest, or one of that name has its bytes. A refusal
--- for a failed call comes with the path whose call failed last. Where it is refused, at the path where that file is written is
+-- The tree of a folder is read and written, and its file is named by its digest, or one of that name has its bytes. A
+-- refusal
+-- for a failed call comes with the path whose call failed last. Where it is refused, at the path where that file is
+-- written is
 -- what was there, or a file or nothing, so that a later call can begin there.
-pub record PutsFolder (store path : List ℕ) (old : Seen) (result : Result (List ℕ) StoreFault) (new : Seen) : Type 0 where
+pub record PutsFolder (store path : List ℕ) (old : Seen) (result : Result (List ℕ) StoreFault)
+    (new : Seen) : Type 0 where
   pub answer : IfSome old.files (λ files. PutsRead store (tree_in path files) files result)
   pub leaves : LeavesFolder store path old result new
   pub place : OnErr result (KeptFile (new_path store) old.files new.files)
@@ -142,15 +150,20 @@ can_place node (part ∷ parts) root = true
 abbrev pub can_lay : List ℕ → List ℕ → Node → Tree → Bool
 can_lay root place tree files = can_make_folder files root && can_place tree (parts_of place) root
 
--- A tree is laid at a place under a folder. Where that is refused, each path at the folder or below it has what stood there, or
+-- A tree is laid at a place under a folder. Where that is refused, each path at the folder or below it has what stood
+-- there, or
 -- a part of what the tree gives.
 unfoldable pub lays_tree : List ℕ → List ℕ → Node → Seen → Result (Unit {0}) StoreFault → Seen → Type 0
 lays_tree root place tree old (Ok done) new =
-    (new.files ≡ option_map (tree_laid root place tree) old.files) × LeavesAround root old new × Allows (can_lay root place tree) old new × FileCounts None old new
+    (new.files ≡ option_map (tree_laid root place tree) old.files) × LeavesAround root old new
+    × Allows (can_lay root place tree) old new × FileCounts None old new
 lays_tree root place tree old (Err fault) new =
-    IsCauseWithin root (cause_of fault) × LeavesAround root old new × Allows (can_lay root place tree) old new × FileCounts (Some (cause_of fault)) old new × LaidPartly root (items_placed root place tree) old.files new.files
+    IsCauseWithin root (cause_of fault) × LeavesAround root old new × Allows (can_lay root place tree) old new
+    × FileCounts (Some (cause_of fault)) old new × LaidPartly root
+    (items_placed root place tree) old.files new.files
 
--- The same for a failed call on the file of a tree too; and, where the files are not told, because the file was changed since
+-- The same for a failed call on the file of a tree too; and, where the files are not told, because the file was changed
+-- since
 -- its bytes were judged.
 abbrev pub IsKeptCause : List ℕ → List ℕ → Option Tree → Cause → Type 0
 IsKeptCause root file files (FileFailed failed) = IsTrue (is_within root failed) ⊎ (failed ≡ file)
@@ -158,13 +171,18 @@ IsKeptCause root file files ChildFailed = ⊥
 IsKeptCause root file files OutOfMemory = Unit {0}
 IsKeptCause root file files Decided = files ≡ None
 
--- A tree that the store has is laid at a place under a folder. Where that is refused, each path at the folder or below it has
+-- A tree that the store has is laid at a place under a folder. Where that is refused, each path at the folder or below
+-- it has
 -- what stood there, or a part of what the tree gives.
-unfoldable pub lays_kept : List ℕ → List ℕ → List ℕ → List ℕ → Node → Seen → Result (Unit {0}) StoreFault → Seen → Type 0
+unfoldable pub lays_kept : List ℕ → List ℕ → List ℕ → List ℕ → Node → Seen → Result (Unit {0}) StoreFault → Seen
+    → Type 0
 lays_kept store digest root place tree old (Ok done) new =
-    (new.files ≡ option_map (tree_laid root place tree) old.files) × LeavesAround root old new × Allows (can_lay root place tree) old new × FileCounts None old new
+    (new.files ≡ option_map (tree_laid root place tree) old.files) × LeavesAround root old new
+    × Allows (can_lay root place tree) old new × FileCounts None old new
 lays_kept store digest root place tree old (Err fault) new =
-    IsKeptCause root (tree_path store digest) old.files (cause_of fault) × LeavesAround root old new × Allows (can_lay root place tree) old new × FileCounts (Some (cause_of fault)) old new × LaidPartly root (items_placed root place tree) old.files new.files
+    IsKeptCause root (tree_path store digest) old.files (cause_of fault) × LeavesAround root old new
+    × Allows (can_lay root place tree) old new × FileCounts (Some (cause_of fault)) old new
+    × LaidPartly root (items_placed root place tree) old.files new.files
 
 -- a stored tree is read and judged, and then laid at a place under a folder
 unfoldable pub lays_stored : List ℕ → List ℕ → List ℕ → List ℕ → Seen → Result (Unit {0}) StoreFault → Seen → Type 0

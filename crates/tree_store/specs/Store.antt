@@ -65,7 +65,8 @@ done_of (Err fault) = Err fault
 
 -- `Clash` comes exactly where the file of the tree's digest has other bytes.
 abbrev pub Puts : List ℕ → Node → Tree → Result (List ℕ) StoreFault → Type 0
-Puts store root files result = Keeps (sha256 (spelling_of root)) (spelling_of root) (item_at files (tree_path store (sha256 (spelling_of root)))) (done_of result)
+Puts store root files result = Keeps (sha256 (spelling_of root)) (spelling_of root)
+    (item_at files (tree_path store (sha256 (spelling_of root)))) (done_of result)
 
 -- what a refused `put` leaves: what a refused write of the file's bytes leaves, or where none was begun all as before
 abbrev pub LeavesStore : StoreFault → List ℕ → List ℕ → Option Tree → Option Tree → Type 0
@@ -85,7 +86,8 @@ IsJudgedTree (judged.Damaged asked found bad) result = result ≡ Err (Damaged a
 -- what `get` answers of the bytes of a tree's file
 abbrev pub GetsOf : List ℕ → List ℕ → Result Node StoreFault → Type 0
 GetsOf digest bytes (Ok tree) = (sha256 bytes ≡ digest) × Spells tree bytes
-GetsOf digest bytes (Err (Damaged asked found bad)) = (asked ≡ digest) × (found ≡ sha256 bytes) × IsDamage digest bytes bad
+GetsOf digest bytes (Err (Damaged asked found bad)) = (asked ≡ digest) × (found ≡ sha256 bytes)
+    × IsDamage digest bytes bad
 GetsOf digest bytes (Err (File path)) = Unit {0}
 GetsOf digest bytes (Err Memory) = Unit {0}
 GetsOf digest bytes (Err (OddFile path)) = ⊥

@@ -55,8 +55,10 @@ pub record AreApart (file path : List ℕ) : Type 0 where
   pub outside : is_within path file ≡ false
   pub beside : is_within file path ≡ false
 
--- The writer took these bytes, since the files were those: the first of them stand in the file, and it holds the last ones.
-pub record HasWritten (store : List ℕ) (before : Option Tree) (writer : Writer) (bytes : List ℕ) (now : Option Tree) : Type 0 where
+-- The writer took these bytes, since the files were those: the first of them stand in the file, and it holds the last
+-- ones.
+pub record HasWritten (store : List ℕ) (before : Option Tree) (writer : Writer) (bytes : List ℕ)
+    (now : Option Tree) : Type 0 where
   pub first : List ℕ
   pub is : bytes ≡ first ++ writer.piece.items
   pub hashed : Holds256 writer.hasher bytes
@@ -64,8 +66,10 @@ pub record HasWritten (store : List ℕ) (before : Option Tree) (writer : Writer
   pub files : now ≡ option_map (begun_with store first) before
   pub kept : KeptAround (new_path store) before now
 
--- What a call leaves that writes at no path but this one, whatever stands there: all but what is at that path, or a folder
--- above it that was made; and at the path what was there, or a file or nothing. A refusal for a failed call comes where the
+-- What a call leaves that writes at no path but this one, whatever stands there: all but what is at that path, or a
+-- folder
+-- above it that was made; and at the path what was there, or a file or nothing. A refusal for a failed call comes where
+-- the
 -- count rose, with the path whose call failed last.
 pub record NewFrame {A : Type 0} (file : List ℕ) (old : Seen) (result : Result A StoreFault) (new : Seen) : Type 0 where
   pub around : LeavesAround file old new
@@ -75,27 +79,35 @@ pub record NewFrame {A : Type 0} (file : List ℕ) (old : Seen) (result : Result
   pub cause : IfErr result (λ fault. IsReadCause new.failed_at (cause_of fault))
 
 -- the same of a call that reads at a path or below it and writes at the writer's
-pub record LeavesNew {A : Type 0} (path : List ℕ) (writer : Writer) (old : Seen) (result : Result A StoreFault) (after : Writer) (new : Seen)
+pub record LeavesNew {A : Type 0} (path : List ℕ) (writer : Writer) (old : Seen) (result : Result A StoreFault)
+    (after : Writer) (new : Seen)
     : Type 0 where
   pub stays : after.path ≡ writer.path
   pub frame : NewFrame writer.path old result new
   pub blames : IfErr result (BlamesEither path writer.path)
 
 -- what a call answers that adds bytes of which this holds
-pub record Added {A : Type 0} (store : List ℕ) (before : Option Tree) (Is : A → List ℕ → Type 0) (Why : StoreFault → Type 0) (bytes : List ℕ) (old : Seen) (result : Result A StoreFault) (after : Writer) (new : Seen)
+pub record Added {A : Type 0} (store : List ℕ) (before : Option Tree) (Is : A → List ℕ → Type 0)
+    (Why : StoreFault → Type 0) (bytes : List ℕ) (old : Seen) (result : Result A StoreFault) (after : Writer)
+    (new : Seen)
     : Type 0 where
-  pub added : IfOk result (λ value. (more : List ℕ) × Is value more × HasWritten store before after (bytes ++ more) new.files)
+  pub added : IfOk result (λ value. (more : List ℕ) × Is value more
+      × HasWritten store before after (bytes ++ more) new.files)
   pub refused : IfErr result Why
   pub right : new.misused ≡ old.misused
 
 -- It adds them to any that were written, where it reads apart from the file: what it reads is then as it was before.
-pub record Adds {A : Type 0} (path : List ℕ) (Is : Option Tree → A → List ℕ → Type 0) (Why : Option Tree → StoreFault → Type 0) (writer : Writer) (old : Seen) (result : Result A StoreFault) (after : Writer) (new : Seen)
+pub record Adds {A : Type 0} (path : List ℕ) (Is : Option Tree → A → List ℕ → Type 0)
+    (Why : Option Tree → StoreFault → Type 0) (writer : Writer) (old : Seen) (result : Result A StoreFault)
+    (after : Writer) (new : Seen)
     : Type 0 where
-  pub so : (store : List ℕ) (before : Option Tree) (bytes : List ℕ) → HasWritten store before writer bytes old.files → AreApart (new_path store) path
+  pub so : (store : List ℕ) (before : Option Tree) (bytes : List ℕ)
+      → HasWritten store before writer bytes old.files → AreApart (new_path store) path
       → Added store before (Is before) (Why before) bytes old result after new
 
 -- bytes that end with those of a node, which is read so and fits
-pub record IsNodeOf (before : Option Tree) (want : Tree → Result Sized StoreFault) (depth size : ℕ) (head : List ℕ) (now : ℕ) (more : List ℕ) : Type 0 where
+pub record IsNodeOf (before : Option Tree) (want : Tree → Result Sized StoreFault) (depth size : ℕ)
+    (head : List ℕ) (now : ℕ) (more : List ℕ) : Type 0 where
   pub node : Node
   pub bytes : more ≡ head ++ node_bytes node
   pub read : IfSome before (λ files. want files ≡ Ok (node, now))
@@ -106,7 +118,8 @@ abbrev pub Refuses : {A : Type 0} → Option Tree → (Tree → Result A StoreFa
 Refuses {A} before want fault = IfSome before (λ files. IsAnswer {A = A} cause_of (Err fault) (want files))
 
 -- the bytes of a folder's entries, which are read so and fit
-pub record AreEntriesOf (before : Option Tree) (want : Tree → Result (List Named × ℕ) StoreFault) (depth count size now : ℕ) (more : List ℕ) : Type 0 where
+pub record AreEntriesOf (before : Option Tree) (want : Tree → Result (List Named × ℕ) StoreFault)
+    (depth count size now : ℕ) (more : List ℕ) : Type 0 where
   pub entries : List Named
   pub count_is : length entries ≡ count
   pub bytes : more ≡ entries_bytes entries
@@ -122,7 +135,8 @@ pub record HasLength (len : ℕ) (found : Option Item) : Type 0 where
 -- the bytes of a file from one place to another
 pub record IsPart (before : Option Tree) (path : List ℕ) (from to : ℕ) (more : List ℕ) : Type 0 where
   pub length_is : from + length more ≡ to
-  pub told : IfSome before (λ files. take from (bytes_of (item_at files path)) ++ more ≡ take to (bytes_of (item_at files path)))
+  pub told : IfSome before (λ files. take from (bytes_of (item_at files path)) ++ more
+      ≡ take to (bytes_of (item_at files path)))
 
 -- the bytes of a folder's root, which is read so and fits
 pub record IsRootOf (before : Option Tree) (path : List ℕ) (now : ℕ) (more : List ℕ) : Type 0 where
@@ -139,15 +153,18 @@ named_or_left (Some found) file path bytes files = without file files
 -- the files where these bytes are put into the store, and nothing stands where they were written
 abbrev pub bytes_put : List ℕ → List ℕ → Tree → Tree
 bytes_put store bytes files =
-    named_or_left (item_at files (tree_path store (sha256 bytes))) (new_path store) (tree_path store (sha256 bytes)) bytes (folder_made (trees_of store) files)
+    named_or_left (item_at files (tree_path store (sha256 bytes))) (new_path store)
+    (tree_path store (sha256 bytes)) bytes (folder_made (trees_of store) files)
 
 -- nothing stands where a file was written
 abbrev pub IsCleared : List ℕ → Option Tree → Type 0
 IsCleared store files = IfSome files (λ t. item_at t (new_path store) ≡ None)
 
--- What putting leaves, whatever stands there: no child ran, and where it is refused, all but what is at the path where the
+-- What putting leaves, whatever stands there: no child ran, and where it is refused, all but what is at the path where
+-- the
 -- file is written stands as before, but folders above it.
-pub record PutFrame {A : Type 0} (store : List ℕ) (old : Seen) (result : Result A StoreFault) (new : Seen) : Type 0 where
+pub record PutFrame {A : Type 0} (store : List ℕ) (old : Seen) (result : Result A StoreFault)
+    (new : Seen) : Type 0 where
   pub kept : OnErr result (KeptAround (new_path store) old.files new.files)
   pub place : OnErr result (KeptFile (new_path store) old.files new.files)
   pub runs : new.runs ≡ old.runs
@@ -157,11 +174,14 @@ pub record PutFrame {A : Type 0} (store : List ℕ) (old : Seen) (result : Resul
   pub cause : IfErr result (λ fault. IsReadCause new.failed_at (cause_of fault))
 
 -- The file of these bytes got the name of their digest, or a file has it that has them.
-pub record NamesBytes (store bytes : List ℕ) (before : Option Tree) (old : Seen) (result : Result (Unit {0}) StoreFault) (new : Seen) : Type 0 where
-  pub keeps : IfSome before (λ files. Keeps (sha256 bytes) bytes (item_at files (tree_path store (sha256 bytes))) result)
+pub record NamesBytes (store bytes : List ℕ) (before : Option Tree) (old : Seen)
+    (result : Result (Unit {0}) StoreFault) (new : Seen) : Type 0 where
+  pub keeps : IfSome before (λ files. Keeps (sha256 bytes) bytes
+      (item_at files (tree_path store (sha256 bytes))) result)
   pub files : OnOk result (new.files ≡ option_map (bytes_put store bytes) before)
   pub cleared : IfErr result (λ fault. WhereDecided (cause_of fault) (IsCleared store new.files))
-  pub right : MayMisuse (option_map (λ t. is_file_or_absent (item_at t (tree_path store (sha256 bytes)))) before) old.misused new.misused
+  pub right : MayMisuse (option_map (λ t. is_file_or_absent (item_at t (tree_path store (sha256 bytes)))) before)
+      old.misused new.misused
 
 -- what reading a node answers, where its bytes were counted so
 abbrev pub sized_as : Node → Result ℕ StoreFault → Result Sized StoreFault
@@ -176,13 +196,16 @@ pub record IsTreeOf (before : Option Tree) (path : List ℕ) (len : ℕ) (more :
   pub length_is : length more ≡ len
 
 -- bytes are put into the store, and their digest is answered
-pub record PutsBytes (store bytes : List ℕ) (before : Option Tree) (old : Seen) (result : Result (List ℕ) StoreFault) (new : Seen) : Type 0 where
+pub record PutsBytes (store bytes : List ℕ) (before : Option Tree) (old : Seen)
+    (result : Result (List ℕ) StoreFault) (new : Seen) : Type 0 where
   pub digest : IfOk result (λ digest. digest ≡ sha256 bytes)
   pub named : NamesBytes store bytes before old (done_of result) new
 
 -- A refusal is answered again, once nothing stands where a file was written, or another that may come anyway.
-pub record IsClearedOf (fault : StoreFault) (store : List ℕ) (old : Seen) (result : StoreFault) (new : Seen) : Type 0 where
-  pub frame : (first : Seen) → NewFrame {A = Unit {0}} (new_path store) first (Err fault) old → NewFrame {A = Unit {0}} (new_path store) first (Err result) new
+pub record IsClearedOf (fault : StoreFault) (store : List ℕ) (old : Seen) (result : StoreFault)
+    (new : Seen) : Type 0 where
+  pub frame : (first : Seen) → NewFrame {A = Unit {0}} (new_path store) first (Err fault) old
+      → NewFrame {A = Unit {0}} (new_path store) first (Err result) new
   pub right : new.misused ≡ old.misused
   pub cleared : WhereDecided (cause_of result) (IsCleared store new.files)
   pub same : IsTrue (is_free result) ⊎ (result ≡ fault)

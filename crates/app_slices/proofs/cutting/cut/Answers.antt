@@ -10,7 +10,11 @@ pub returns-clause-items : goal.returns-clause-items
 returns-clause-items c = cut_sorted c.args.slices.now c.args.app.now c.cut_tree.ensures.tree
 
 pub returns-clause-once : goal.returns-clause-once
-returns-clause-once c = IfOk-weaker c.cut_tree.result _ _ (λ trees is. cut_once c.args.slices.now c.args.app.now trees c.cut_tree.ensures.tree is) c.cut_tree.ensures.trees
+returns-clause-once c = IfOk-weaker c.cut_tree.result _ _
+    (λ trees is. cut_once c.args.slices.now c.args.app.now trees c.cut_tree.ensures.tree is)
+    c.cut_tree.ensures.trees
 
 pub returns-clause-lays : goal.returns-clause-lays
-returns-clause-lays c = IfOk-weaker c.cut_tree.result _ _ (λ trees is. cut_lays c.args.slices.now c.args.app.now trees c.cut_tree.ensures.tree is) c.cut_tree.ensures.trees
+returns-clause-lays c = IfOk-weaker c.cut_tree.result _ _
+    (λ trees is. cut_lays c.args.slices.now c.args.app.now trees c.cut_tree.ensures.tree is)
+    c.cut_tree.ensures.trees

@@ -10,5 +10,6 @@ use Rattle.bp_docs.proofs.build_plan.read_build_plan.Goals as goal
 pub returns-clause-kept : goal.returns-clause-kept
 returns-clause-kept c =
     answered c.plan_within_limit.result (plan_within_limit c.args.bytes.now)
-    (λ options. IsTrue (list_all (λ (option : PlanOption). list_all (λ (need : Need). is_kept need.meta) option.needs) options))
+    (λ options. IsTrue (list_all (λ (option : PlanOption). list_all
+    (λ (need : Need). is_kept need.meta) option.needs) options))
     c.plan_within_limit.ensures (within_limit_kept c.args.bytes.now)

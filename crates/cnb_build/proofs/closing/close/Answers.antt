@@ -11,4 +11,5 @@ returns-in_err-unmet-clause-step g c =
 
 pub returns-clause-step : goal.returns-clause-step
 unfolding closes
-returns-clause-step g c = went _ _ _ _ _ _ _ c.in_ok-unmet.ensures.step (answered _ _ _ _ c.pending_after.ensures.answer c.pending_after.ensures.cause)
+returns-clause-step g c = went _ _ _ _ _ _ _ c.in_ok-unmet.ensures.step
+    (answered _ _ _ _ c.pending_after.ensures.answer c.pending_after.ensures.cause)

@@ -16,15 +16,26 @@ pub returns-in_err-text : goal.returns-in_err-text
 unfolding commands_build
 returns-in_err-text g c =
     let exit = err_from_is_err_and c.from_residual-in_err-text.result c.from_residual-in_err-text.ensures.1 in
-    rw (exit.1, exit.2) (record { steps = went _ _ _ _ _ _ _ c.in_ok-given.ensures.step (ended _ _ _ _ _ (no_memory _ _ _ Memory refl)) })
+    rw (exit.1, exit.2) (record {
+      steps = went _ _ _ _ _ _ _ c.in_ok-given.ensures.step
+          (ended _ _ _ _ _ (no_memory _ _ _ Memory refl));
+    })
 
 pub returns-in_err-build : goal.returns-in_err-build
 unfolding commands_build
 returns-in_err-build g c =
     let exit = err_from_is_err_and c.from_residual-in_err-build.result c.from_residual-in_err-build.ensures.1 in
-    rw (exit.1, exit.2) (record { steps = went _ _ _ _ _ _ _ c.in_ok-given.ensures.step (went _ _ _ _ _ _ _ (given _ _ _ _ (ap Ok (sym c.in_ok-text.ensures))) (ended _ _ _ _ _ c.in_err-build.ensures.steps)) })
+    rw (exit.1, exit.2) (record {
+      steps = went _ _ _ _ _ _ _ c.in_ok-given.ensures.step
+          (went _ _ _ _ _ _ _ (given _ _ _ _ (ap Ok (sym c.in_ok-text.ensures)))
+          (ended _ _ _ _ _ c.in_err-build.ensures.steps));
+    })
 
 pub returns : goal.returns
 unfolding commands_build
 returns g c =
-    record { steps = went _ _ _ _ _ _ _ c.in_ok-given.ensures.step (went _ _ _ _ _ _ _ (given _ _ _ _ (ap Ok (sym c.in_ok-text.ensures))) (went _ _ _ _ _ _ _ c.in_ok-build.ensures.steps (yielded BuildFault _ _))) }
+    record {
+      steps = went _ _ _ _ _ _ _ c.in_ok-given.ensures.step
+          (went _ _ _ _ _ _ _ (given _ _ _ _ (ap Ok (sym c.in_ok-text.ensures)))
+          (went _ _ _ _ _ _ _ c.in_ok-build.ensures.steps (yielded BuildFault _ _)));
+    }

@@ -17,39 +17,67 @@ pub returns-in_err-group-clause-step : goal.returns-in_err-group-clause-step
 unfolding reads_given
 returns-in_err-group-clause-step g c =
     let exit = err_from_is_err_and c.from_residual-in_err-group.result c.from_residual-in_err-group.ensures.1 in
-    rw (exit.1, exit.2) (went _ _ _ _ _ _ _ (given _ _ _ _ (ap Ok (sym c.in_ok-documents.ensures))) (ended _ _ _ _ _ c.in_err-group.ensures.step))
+    rw (exit.1, exit.2) (went _ _ _ _ _ _ _ (given _ _ _ _ (ap Ok (sym c.in_ok-documents.ensures)))
+    (ended _ _ _ _ _ c.in_err-group.ensures.step))
 
 pub returns-in_err-check_apis-clause-step : goal.returns-in_err-check_apis-clause-step
 unfolding reads_given
 returns-in_err-check_apis-clause-step g c =
-    let exit = err_from_is_err_and c.from_residual-in_err-check_apis.result c.from_residual-in_err-check_apis.ensures.1 in
-    rw (exit.1, exit.2) (went _ _ _ _ _ _ _ (given _ _ _ _ (ap Ok (sym c.in_ok-documents.ensures))) (went _ _ _ _ _ _ _ c.in_ok-group.ensures.step (ended _ _ _ _ _ (given_fault _ _ _ c.in_err-check_apis.field-0.0 c.in_err-check_apis.ensures.answer c.in_err-check_apis.ensures.cause))))
+    let exit = err_from_is_err_and c.from_residual-in_err-check_apis.result
+    c.from_residual-in_err-check_apis.ensures.1 in
+    rw (exit.1, exit.2) (went _ _ _ _ _ _ _ (given _ _ _ _ (ap Ok (sym c.in_ok-documents.ensures)))
+    (went _ _ _ _ _ _ _ c.in_ok-group.ensures.step
+    (ended _ _ _ _ _ (given_fault _ _ _ c.in_err-check_apis.field-0.0 c.in_err-check_apis.ensures.answer
+    c.in_err-check_apis.ensures.cause))))
 
 pub returns-in_err-plan-clause-step : goal.returns-in_err-plan-clause-step
 unfolding reads_given
 returns-in_err-plan-clause-step g c =
     let exit = err_from_is_err_and c.from_residual-in_err-plan.result c.from_residual-in_err-plan.ensures.1 in
-    rw (exit.1, exit.2) (went _ _ _ _ _ _ _ (given _ _ _ _ (ap Ok (sym c.in_ok-documents.ensures))) (went _ _ _ _ _ _ _ c.in_ok-group.ensures.step (went _ _ _ _ _ _ _ (given _ _ _ _ c.in_ok-check_apis.ensures.answer) (ended _ _ _ _ _ c.in_err-plan.ensures.step))))
+    rw (exit.1, exit.2) (went _ _ _ _ _ _ _ (given _ _ _ _ (ap Ok (sym c.in_ok-documents.ensures)))
+    (went _ _ _ _ _ _ _ c.in_ok-group.ensures.step
+    (went _ _ _ _ _ _ _ (given _ _ _ _ c.in_ok-check_apis.ensures.answer)
+    (ended _ _ _ _ _ c.in_err-plan.ensures.step))))
 
 pub returns-in_err-target-clause-step : goal.returns-in_err-target-clause-step
 unfolding reads_given
 returns-in_err-target-clause-step g c =
     let exit = err_from_is_err_and c.from_residual-in_err-target.result c.from_residual-in_err-target.ensures.1 in
-    rw (exit.1, exit.2) (went _ _ _ _ _ _ _ (given _ _ _ _ (ap Ok (sym c.in_ok-documents.ensures))) (went _ _ _ _ _ _ _ c.in_ok-group.ensures.step (went _ _ _ _ _ _ _ (given _ _ _ _ c.in_ok-check_apis.ensures.answer) (went _ _ _ _ _ _ _ c.in_ok-plan.ensures.step (ended _ _ _ _ _ c.in_err-target.ensures.step)))))
+    rw (exit.1, exit.2) (went _ _ _ _ _ _ _ (given _ _ _ _ (ap Ok (sym c.in_ok-documents.ensures)))
+    (went _ _ _ _ _ _ _ c.in_ok-group.ensures.step
+    (went _ _ _ _ _ _ _ (given _ _ _ _ c.in_ok-check_apis.ensures.answer)
+    (went _ _ _ _ _ _ _ c.in_ok-plan.ensures.step (ended _ _ _ _ _ c.in_err-target.ensures.step)))))
 
 pub returns-in_err-files-clause-step : goal.returns-in_err-files-clause-step
 unfolding reads_given
 returns-in_err-files-clause-step g c =
     let exit = err_from_is_err_and c.from_residual-in_err-files.result c.from_residual-in_err-files.ensures.1 in
-    rw (exit.1, exit.2) (went _ _ _ _ _ _ _ (given _ _ _ _ (ap Ok (sym c.in_ok-documents.ensures))) (went _ _ _ _ _ _ _ c.in_ok-group.ensures.step (went _ _ _ _ _ _ _ (given _ _ _ _ c.in_ok-check_apis.ensures.answer) (went _ _ _ _ _ _ _ c.in_ok-plan.ensures.step (went _ _ _ _ _ _ _ c.in_ok-target.ensures.step (ended _ _ _ _ _ c.in_err-files.ensures.step))))))
+    rw (exit.1, exit.2) (went _ _ _ _ _ _ _ (given _ _ _ _ (ap Ok (sym c.in_ok-documents.ensures)))
+    (went _ _ _ _ _ _ _ c.in_ok-group.ensures.step
+    (went _ _ _ _ _ _ _ (given _ _ _ _ c.in_ok-check_apis.ensures.answer)
+    (went _ _ _ _ _ _ _ c.in_ok-plan.ensures.step
+    (went _ _ _ _ _ _ _ c.in_ok-target.ensures.step (ended _ _ _ _ _ c.in_err-files.ensures.step))))))
 
 pub returns-in_err-frame-clause-step : goal.returns-in_err-frame-clause-step
 unfolding reads_given
 returns-in_err-frame-clause-step g c =
     let exit = err_from_is_err_and c.from_residual-in_err-frame.result c.from_residual-in_err-frame.ensures.1 in
-    rw (exit.1, exit.2) (went _ _ _ _ _ _ _ (given _ _ _ _ (ap Ok (sym c.in_ok-documents.ensures))) (went _ _ _ _ _ _ _ c.in_ok-group.ensures.step (went _ _ _ _ _ _ _ (given _ _ _ _ c.in_ok-check_apis.ensures.answer) (went _ _ _ _ _ _ _ c.in_ok-plan.ensures.step (went _ _ _ _ _ _ _ c.in_ok-target.ensures.step (went _ _ _ _ _ _ _ c.in_ok-files.ensures.step (no_memory _ _ _ Memory refl)))))))
+    rw (exit.1, exit.2) (went _ _ _ _ _ _ _ (given _ _ _ _ (ap Ok (sym c.in_ok-documents.ensures)))
+    (went _ _ _ _ _ _ _ c.in_ok-group.ensures.step
+    (went _ _ _ _ _ _ _ (given _ _ _ _ c.in_ok-check_apis.ensures.answer)
+    (went _ _ _ _ _ _ _ c.in_ok-plan.ensures.step
+    (went _ _ _ _ _ _ _ c.in_ok-target.ensures.step
+    (went _ _ _ _ _ _ _ c.in_ok-files.ensures.step (no_memory _ _ _ Memory refl)))))))
 
 pub returns-clause-step : goal.returns-clause-step
 unfolding reads_given
 returns-clause-step g c =
-    went _ _ _ _ _ _ _ (given _ _ _ _ (ap Ok (sym c.in_ok-documents.ensures))) (went _ _ _ _ _ _ _ c.in_ok-group.ensures.step (went _ _ _ _ _ _ _ (given _ _ _ _ c.in_ok-check_apis.ensures.answer) (went _ _ _ _ _ _ _ c.in_ok-plan.ensures.step (went _ _ _ _ _ _ _ c.in_ok-target.ensures.step (went _ _ _ _ _ _ _ c.in_ok-files.ensures.step (given _ _ _ _ (sym (ap (λ (frame : BuildFrame). let made : Given = record { group = c.in_ok-group.group; plan = c.in_ok-plan.plan; frame = frame } in Ok made) c.in_ok-frame.ensures))))))))
+    went _ _ _ _ _ _ _ (given _ _ _ _ (ap Ok (sym c.in_ok-documents.ensures)))
+    (went _ _ _ _ _ _ _ c.in_ok-group.ensures.step
+    (went _ _ _ _ _ _ _ (given _ _ _ _ c.in_ok-check_apis.ensures.answer)
+    (went _ _ _ _ _ _ _ c.in_ok-plan.ensures.step
+    (went _ _ _ _ _ _ _ c.in_ok-target.ensures.step
+    (went _ _ _ _ _ _ _ c.in_ok-files.ensures.step
+    (given _ _ _ _ (sym (ap (λ (frame : BuildFrame). let made : Given = record
+    { group = c.in_ok-group.group; plan = c.in_ok-plan.plan; frame = frame } in Ok made)
+    c.in_ok-frame.ensures))))))))

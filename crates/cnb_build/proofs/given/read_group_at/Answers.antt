@@ -11,4 +11,7 @@ returns-in_err-found g c =
 
 pub returns : goal.returns
 unfolding reads_needed
-returns g c = record { step = went _ _ _ _ _ _ _ c.in_ok-found.ensures.step (answered _ _ _ _ c.group_of.ensures.answer c.group_of.ensures.cause) }
+returns g c = record {
+  step = went _ _ _ _ _ _ _ c.in_ok-found.ensures.step
+      (answered _ _ _ _ c.group_of.ensures.answer c.group_of.ensures.cause);
+}

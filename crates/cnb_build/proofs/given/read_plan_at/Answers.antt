@@ -11,4 +11,5 @@ returns-in_err-found-clause-step g c =
 
 pub returns-clause-step : goal.returns-clause-step
 unfolding reads_needed
-returns-clause-step g c = went _ _ _ _ _ _ _ c.in_ok-found.ensures.step (answered _ _ _ _ c.plan_of.ensures.answer c.plan_of.ensures.cause)
+returns-clause-step g c = went _ _ _ _ _ _ _ c.in_ok-found.ensures.step
+    (answered _ _ _ _ c.plan_of.ensures.answer c.plan_of.ensures.cause)

@@ -12,8 +12,10 @@ use Rattle.cnb_build.proofs.group.build_rows.Given as goal
 -- the builds from here on are the rest of all
 abbrev pub invariant-loop-row : goal.invariant-loop-row
 invariant-loop-row g l = record {
-  step : (result : Result Built BuildFault) (new : Seen) → for_each (builds_one l.frame l.base) (drop l.row-index l.group) l.built (seen g.W.World l.world) result new
-      → for_each (builds_one l.frame l.base) l.group (nothing_built l.fn.plan) (seen g.W.World l.initial.world) result new;
+  step : (result : Result Built BuildFault) (new : Seen) → for_each (builds_one l.frame l.base)
+      (drop l.row-index l.group) l.built (seen g.W.World l.world) result new
+      → for_each (builds_one l.frame l.base) l.group (nothing_built l.fn.plan)
+      (seen g.W.World l.initial.world) result new;
   kept : IsTrue (is_plan_doc l.built.pending);
   short : All AreShort l.built.done;
 }

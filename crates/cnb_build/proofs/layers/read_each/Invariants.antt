@@ -9,7 +9,8 @@ use Rattle.cnb_build.proofs.layers.read_each.Given as goal
 -- the layers from here on are the rest of all
 abbrev pub invariant-loop-layer : goal.invariant-loop-layer
 invariant-loop-layer g l = record {
-  step : (result : Result (List (List ℕ)) BuildFault) (new : Seen) → for_each (reads_layer l.folder) (drop l.layer-index l.layers) l.found (seen g.W.World l.world) result new
+  step : (result : Result (List (List ℕ)) BuildFault) (new : Seen)
+      → for_each (reads_layer l.folder) (drop l.layer-index l.layers) l.found (seen g.W.World l.world) result new
       → for_each (reads_layer l.folder) l.layers [] (seen g.W.World l.initial.world) result new;
   short : AreShort l.found;
 }

@@ -17,9 +17,13 @@ pub returns-in_err-document-clause-step : goal.returns-in_err-document-clause-st
 unfolding reads_layer
 returns-in_err-document-clause-step g c =
     let exit = err_from_is_err_and c.from_residual-in_err-document.result c.from_residual-in_err-document.ensures.1 in
-    rw (exit.1, exit.2) (ended _ _ _ _ _ (reads_same (λ (path : List ℕ) files. true) (λ path files. contents_of (item_at files path)) _ _ _ _ _ c.in_ok-path.ensures c.in_err-document.ensures.step))
+    rw (exit.1, exit.2) (ended _ _ _ _ _ (reads_same (λ (path : List ℕ) files. true)
+    (λ path files. contents_of (item_at files path)) _ _ _ _ _ c.in_ok-path.ensures
+    c.in_err-document.ensures.step))
 
 pub returns-clause-step : goal.returns-clause-step
 unfolding reads_layer
 returns-clause-step g c =
-    went _ _ _ _ _ _ _ (reads_same (λ (path : List ℕ) files. true) (λ path files. contents_of (item_at files path)) _ _ _ _ _ c.in_ok-path.ensures c.in_ok-document.ensures.step) (answered _ _ _ _ c.found_with.ensures.answer c.found_with.ensures.cause)
+    went _ _ _ _ _ _ _ (reads_same (λ (path : List ℕ) files. true)
+    (λ path files. contents_of (item_at files path)) _ _ _ _ _ c.in_ok-path.ensures
+    c.in_ok-document.ensures.step) (answered _ _ _ _ c.found_with.ensures.answer c.found_with.ensures.cause)

@@ -21,4 +21,6 @@ returns-in_err-layers-clause-step g c =
 pub returns-clause-step : goal.returns-clause-step
 unfolding reads_layers
 returns-clause-step g c =
-    went _ _ _ _ _ _ _ c.in_ok-names.ensures.step (went _ _ _ _ _ _ _ (given _ _ _ _ (ap Ok (sym c.in_ok-layers.ensures))) (all_same _ _ _ _ _ _ _ c.as_slice.ensures c.read_each.ensures.step))
+    went _ _ _ _ _ _ _ c.in_ok-names.ensures.step
+    (went _ _ _ _ _ _ _ (given _ _ _ _ (ap Ok (sym c.in_ok-layers.ensures)))
+    (all_same _ _ _ _ _ _ _ c.as_slice.ensures c.read_each.ensures.step))

@@ -17,10 +17,18 @@ pub returns-then-is_absent : goal.returns-then-is_absent
 unfolding reads_names
 returns-then-is_absent g c =
     let absent : is_absent c.in_ok-kind.kind ≡ true = cc in
-    record { step = went _ _ _ _ _ _ _ c.in_ok-kind.ensures.step (no_names c.args.folder.now c.in_ok-kind.kind c.new.result (seen g.W.World c.kind_at.new.world) absent c.new.ensures) }
+    record {
+      step = went _ _ _ _ _ _ _ c.in_ok-kind.ensures.step
+          (no_names c.args.folder.now c.in_ok-kind.kind c.new.result
+          (seen g.W.World c.kind_at.new.world) absent c.new.ensures);
+    }
 
 pub returns : goal.returns
 unfolding reads_names
 returns g c =
     let there : is_absent c.in_ok-kind.kind ≡ false = cc in
-    record { step = went _ _ _ _ _ _ _ c.in_ok-kind.ensures.step (listed_names c.args.folder.now c.in_ok-kind.kind c.names_in.result (seen g.W.World c.kind_at.new.world) (seen g.W.World c.names_in.new.world) there c.names_in.ensures.step) }
+    record {
+      step = went _ _ _ _ _ _ _ c.in_ok-kind.ensures.step
+          (listed_names c.args.folder.now c.in_ok-kind.kind c.names_in.result (seen g.W.World c.kind_at.new.world)
+          (seen g.W.World c.names_in.new.world) there c.names_in.ensures.step);
+    }

@@ -17,5 +17,11 @@ returns-in_err-found g c =
 pub returns : goal.returns
 unfolding reads_as
 returns g c =
-    let read = subst (λ bytes. Answers c.read_launch.result (launch_in bytes)) c.bytes_of.ensures c.read_launch.ensures in
-    record { step = went _ _ _ _ _ _ _ c.in_ok-found.ensures.step (answered _ _ _ _ (answered_at c.args.path.now c.read_launch.result (launch_in (unwrap_or c.in_ok-found.found [])) c.value_at.result read c.value_at.ensures.answer) c.value_at.ensures.cause) }
+    let read = subst (λ bytes. Answers c.read_launch.result (launch_in bytes)) c.bytes_of.ensures
+    c.read_launch.ensures in
+    record {
+      step = went _ _ _ _ _ _ _ c.in_ok-found.ensures.step
+          (answered _ _ _ _ (answered_at c.args.path.now c.read_launch.result
+          (launch_in (unwrap_or c.in_ok-found.found [])) c.value_at.result read c.value_at.ensures.answer)
+          c.value_at.ensures.cause);
+    }

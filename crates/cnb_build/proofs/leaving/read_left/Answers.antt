@@ -17,4 +17,5 @@ returns-in_err-_store-clause-step g c =
 
 pub returns-clause-step : goal.returns-clause-step
 unfolding reads_left
-returns-clause-step g c = went _ _ _ _ _ _ _ c.in_ok-_launch.ensures.step (went _ _ _ _ _ _ _ c.in_ok-_store.ensures.step c.read_layers.ensures.step)
+returns-clause-step g c = went _ _ _ _ _ _ _ c.in_ok-_launch.ensures.step
+    (went _ _ _ _ _ _ _ c.in_ok-_store.ensures.step c.read_layers.ensures.step)

@@ -13,8 +13,10 @@ pub returns-in_err-run_build-clause-step : goal.returns-in_err-run_build-clause-
 unfolding builds_at
 returns-in_err-run_build-clause-step g c =
     let exit = err_from_is_err_and c.from_residual-in_err-run_build.result c.from_residual-in_err-run_build.ensures.1 in
-    rw (exit.1, exit.2) (went _ _ _ _ _ _ _ c.in_ok-clear_env.ensures.step (ended _ _ _ _ _ c.in_err-run_build.ensures.step))
+    rw (exit.1, exit.2) (went _ _ _ _ _ _ _ c.in_ok-clear_env.ensures.step
+    (ended _ _ _ _ _ c.in_err-run_build.ensures.step))
 
 pub returns-clause-step : goal.returns-clause-step
 unfolding builds_at
-returns-clause-step g c = went _ _ _ _ _ _ _ c.in_ok-clear_env.ensures.step (went _ _ _ _ _ _ _ c.in_ok-run_build.ensures.step c.end_build.ensures.step)
+returns-clause-step g c = went _ _ _ _ _ _ _ c.in_ok-clear_env.ensures.step
+    (went _ _ _ _ _ _ _ c.in_ok-run_build.ensures.step c.end_build.ensures.step)

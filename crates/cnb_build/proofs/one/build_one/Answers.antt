@@ -13,4 +13,5 @@ returns-in_err-places-clause-step g c =
 
 pub returns-clause-step : goal.returns-clause-step
 unfolding builds_one
-returns-clause-step g c = went _ _ _ _ _ _ _ (given _ _ _ _ (ap Ok (sym c.in_ok-places.ensures.places))) c.build_at.ensures.step
+returns-clause-step g c = went _ _ _ _ _ _ _ (given _ _ _ _ (ap Ok (sym c.in_ok-places.ensures.places)))
+    c.build_at.ensures.step

@@ -20,10 +20,14 @@ returns-in_err-layers-clause-step g c =
 pub returns-in_err-with_layers-clause-step : goal.returns-in_err-with_layers-clause-step
 unfolding ends_build
 returns-in_err-with_layers-clause-step g c =
-    let exit = err_from_is_err_and c.from_residual-in_err-with_layers.result c.from_residual-in_err-with_layers.ensures.1 in
-    rw (exit.1, exit.2) (went _ _ _ _ _ _ _ c.in_ok-pending.ensures.step (went _ _ _ _ _ _ _ c.in_ok-layers.ensures.step (no_memory _ _ _ Memory refl)))
+    let exit = err_from_is_err_and c.from_residual-in_err-with_layers.result
+    c.from_residual-in_err-with_layers.ensures.1 in
+    rw (exit.1, exit.2) (went _ _ _ _ _ _ _ c.in_ok-pending.ensures.step
+    (went _ _ _ _ _ _ _ c.in_ok-layers.ensures.step (no_memory _ _ _ Memory refl)))
 
 pub returns-clause-step : goal.returns-clause-step
 unfolding ends_build
 returns-clause-step g c =
-    went _ _ _ _ _ _ _ c.in_ok-pending.ensures.step (went _ _ _ _ _ _ _ c.in_ok-layers.ensures.step (given _ _ _ _ (ap Ok (sym c.in_ok-with_layers.ensures.built))))
+    went _ _ _ _ _ _ _ c.in_ok-pending.ensures.step
+    (went _ _ _ _ _ _ _ c.in_ok-layers.ensures.step
+    (given _ _ _ _ (ap Ok (sym c.in_ok-with_layers.ensures.built))))

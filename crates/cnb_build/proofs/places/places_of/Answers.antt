@@ -8,9 +8,12 @@ returns-clause-places c =
     let buildpack = c.in_ok-buildpack.ensures.folder in
     let layers = c.in_ok-layers.ensures.path in
     let descriptor = c.in_ok-descriptor.ensures.0 ∙ ap (λ folder. joined folder (codes "buildpack.toml")) buildpack in
-    let unmet = ap (λ (left : Left). left.unmet) c.in_ok-left.ensures ∙ ap (λ folder. joined folder (codes "build.toml")) layers in
-    let launch = ap (λ (left : Left). left.launch) c.in_ok-left.ensures ∙ ap (λ folder. joined folder (codes "launch.toml")) layers in
-    let store = ap (λ (left : Left). left.store) c.in_ok-left.ensures ∙ ap (λ folder. joined folder (codes "store.toml")) layers in
+    let unmet = ap (λ (left : Left). left.unmet) c.in_ok-left.ensures
+    ∙ ap (λ folder. joined folder (codes "build.toml")) layers in
+    let launch = ap (λ (left : Left). left.launch) c.in_ok-left.ensures
+    ∙ ap (λ folder. joined folder (codes "launch.toml")) layers in
+    let store = ap (λ (left : Left). left.store) c.in_ok-left.ensures
+    ∙ ap (λ folder. joined folder (codes "store.toml")) layers in
     λ i. record {
       buildpack = buildpack i;
       descriptor = descriptor i;

@@ -18,4 +18,8 @@ returns-in_err-bytes g c =
 
 pub returns : goal.returns
 returns g c =
-    record { step = writes_as _ (λ written. written ≡ c.as_slice.result.now) _ (λ bytes e. ap bp_plan_in (e ∙ c.as_slice.ensures) ∙ c.in_ok-bytes.ensures.reads_back c.in_ok-needs.ensures.kept ∙ ap Ok c.in_ok-needs.ensures.needs) _ _ _ c.write_at.ensures.step }
+    record {
+      step = writes_as _ (λ written. written ≡ c.as_slice.result.now) _
+          (λ bytes e. ap bp_plan_in (e ∙ c.as_slice.ensures) ∙ c.in_ok-bytes.ensures.reads_back
+          c.in_ok-needs.ensures.kept ∙ ap Ok c.in_ok-needs.ensures.needs) _ _ _ c.write_at.ensures.step;
+    }

@@ -8,10 +8,12 @@ use Rattle.cnb_detect.proofs.target.read.Goals as goal
 pub returns-in_err-target-clause-step : goal.returns-in_err-target-clause-step
 returns-in_err-target-clause-step g c =
     let exit = err_from_is_err_and c.from_residual.result c.from_residual.ensures.1 in
-    rw (exit.1, exit.2) (mapped_fault _ _ _ _ _ (read_framed read_cause _ _ _ c.in_err-target.ensures.reads c.in_err-target.ensures.frame c.in_err-target.ensures.misused))
+    rw (exit.1, exit.2) (mapped_fault _ _ _ _ _ (read_framed read_cause _ _ _ c.in_err-target.ensures.reads
+    c.in_err-target.ensures.frame c.in_err-target.ensures.misused))
 
 pub returns-clause-step : goal.returns-clause-step
-returns-clause-step g c = mapped _ _ _ _ _ (read_framed read_cause _ _ _ c.in_ok-target.ensures.reads c.in_ok-target.ensures.frame c.in_ok-target.ensures.misused)
+returns-clause-step g c = mapped _ _ _ _ _ (read_framed read_cause _ _ _ c.in_ok-target.ensures.reads
+    c.in_ok-target.ensures.frame c.in_ok-target.ensures.misused)
 
 pub returns-clause-named : goal.returns-clause-named
 returns-clause-named g c = named_so c.in_ok-target.target c.in_ok-target.ensures.named

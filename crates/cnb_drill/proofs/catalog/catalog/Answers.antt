@@ -14,4 +14,5 @@ pub returns : goal.returns
 unfolding drill_catalog
 returns c =
     let four : c.loop-column.column ≡ 4 = omega arith in
-    c.in_ok-add_component.ensures ∙ (λ i. (c.loop-column.invariant ∙ ap columns_below four) i ++ component (c.in_ok-key.ensures i) ∷ [])
+    c.in_ok-add_component.ensures ∙ (λ i. (c.loop-column.invariant ∙ ap columns_below four) i
+    ++ component (c.in_ok-key.ensures i) ∷ [])

@@ -5,7 +5,8 @@ use Rattle.cnb_drill.proofs.BuildpackLemmas.{composite_id, composite_text}
 use Rattle.cnb_drill.proofs.keys.composite_key.Goals as goal
 
 pub key-requires : goal.key-requires
-key-requires c = ap is_bp_id (c.as_str.ensures.value ∙ (c.in_ok-name.ensures.ok ∙ composite_text c.args.column c.requires)) ∙ composite_id c.args.column c.requires
+key-requires c = ap is_bp_id (c.as_str.ensures.value
+    ∙ (c.in_ok-name.ensures.ok ∙ composite_text c.args.column c.requires)) ∙ composite_id c.args.column c.requires
 
 pub returns : goal.returns
 returns c =

@@ -7,8 +7,16 @@ use Rattle.cnb_drill.proofs.keys.version.Goals as goal
 one_joined : IsJoinedNumbers (codes "1.0.0")
 one_joined =
     let one : 1 < 10 = omega arith in
-    let none : 0 < 10 = omega arith in
-    (1, 0, 0, omega arith, omega arith, omega arith, λ i. sym (decimal_digit 1 one) i ++ 46 ∷ (sym (decimal_digit 0 none) i ++ 46 ∷ sym (decimal_digit 0 none) i))
+    let none : 0 < 10 = omega arith in (
+      1,
+      0,
+      0,
+      omega arith,
+      omega arith,
+      omega arith,
+      λ i. sym (decimal_digit 1 one) i ++ 46
+          ∷ (sym (decimal_digit 0 none) i ++ 46 ∷ sym (decimal_digit 0 none) i),
+    )
 
 pub unreachable-requires : goal.unreachable-requires
 unreachable-requires c =

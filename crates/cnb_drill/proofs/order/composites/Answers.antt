@@ -5,8 +5,10 @@ use Rattle.cnb_drill.proofs.order.composites.Goals as goal
 
 pub loop-column-preserved : goal.loop-column-preserved
 loop-column-preserved c =
-    pushed (λ column. entry_of (composite_key column)) [] c.loop-column.column c.loop-column.entries c.push.new.self c.entry.result
+    pushed (λ column. entry_of (composite_key column)) [] c.loop-column.column c.loop-column.entries
+    c.push.new.self c.entry.result
     c.loop-column.invariant (c.entry.ensures ∙ ap entry_of c.in_ok-key.ensures) c.in_ok-push.ensures.ok
 
 pub returns : goal.returns
-returns c = all_pushed (λ column. entry_of (composite_key column)) [] c.loop-column.column 4 c.loop-column.entries (omega arith) (omega arith) c.loop-column.invariant
+returns c = all_pushed (λ column. entry_of (composite_key column)) [] c.loop-column.column 4 c.loop-column.entries
+    (omega arith) (omega arith) c.loop-column.invariant

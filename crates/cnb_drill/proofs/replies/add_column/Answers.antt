@@ -10,12 +10,16 @@ loop-digit-init c = sym (append-nil c.args.replies.now)
 
 pub loop-digit-preserved : goal.loop-digit-preserved
 loop-digit-preserved c =
-    pushed (λ digit. reply_by (component_key c.args.column digit) (Some (digit_code c.args.wanted digit)) (digit_plan c.args.column)) c.args.replies.now c.loop-digit.digit c.loop-digit.replies c.push.new.self c.in_ok-reply.reply
+    pushed (λ digit. reply_by (component_key c.args.column digit) (Some (digit_code c.args.wanted digit))
+    (digit_plan c.args.column)) c.args.replies.now c.loop-digit.digit c.loop-digit.replies c.push.new.self
+    c.in_ok-reply.reply
     c.loop-digit.invariant
-    (c.in_ok-reply.ensures ∙ (λ i. reply_by (c.in_ok-key.ensures i) (c.digit_code-code.ensures i) ((c.as_str.ensures.value ∙ c.in_ok-plan.ensures) i)))
+    (c.in_ok-reply.ensures ∙ (λ i. reply_by (c.in_ok-key.ensures i) (c.digit_code-code.ensures i)
+    ((c.as_str.ensures.value ∙ c.in_ok-plan.ensures) i)))
     c.in_ok-push.ensures.ok
 
 pub returns : goal.returns
 returns c =
-    all_pushed (λ digit. reply_by (component_key c.args.column digit) (Some (digit_code c.args.wanted digit)) (digit_plan c.args.column)) c.args.replies.now c.loop-digit.digit 8 c.loop-digit.replies
+    all_pushed (λ digit. reply_by (component_key c.args.column digit) (Some (digit_code c.args.wanted digit))
+    (digit_plan c.args.column)) c.args.replies.now c.loop-digit.digit 8 c.loop-digit.replies
     (omega arith) (omega arith) c.loop-digit.invariant

@@ -7,4 +7,5 @@ use Rattle.cnb_drill.proofs.replies.add_column.Given as goal
 
 abbrev pub invariant-loop-digit : goal.invariant-loop-digit
 invariant-loop-digit l =
-    l.replies ≡ l.initial.replies ++ map (λ digit. reply_by (component_key l.column digit) (Some (digit_code l.wanted digit)) (digit_plan l.column)) (numbers_below l.digit)
+    l.replies ≡ l.initial.replies ++ map (λ digit. reply_by (component_key l.column digit)
+    (Some (digit_code l.wanted digit)) (digit_plan l.column)) (numbers_below l.digit)

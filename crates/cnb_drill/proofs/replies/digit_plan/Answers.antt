@@ -7,4 +7,6 @@ pub returns : goal.returns
 returns c =
     let few : c.args.column < 10 = let small = c.requires in omega arith in
     c.in_ok-plan.ensures.ok
-    ∙ (λ i. codes "[[provides]]\nname = \"x" ++ (decimal_digit c.args.column few i ++ (codes "\"\n[[or]]\n[[or.provides]]\nname = \"y" ++ (decimal_digit c.args.column few i ++ codes "\"\n"))))
+    ∙ (λ i. codes "[[provides]]\nname = \"x" ++ (decimal_digit c.args.column few i
+    ++ (codes "\"\n[[or]]\n[[or.provides]]\nname = \"y"
+    ++ (decimal_digit c.args.column few i ++ codes "\"\n"))))

@@ -8,7 +8,8 @@ use Rattle.cnb_drill.proofs.spawners.drill_spawners.Goals as goal
 
 pub loop-preserved : goal.loop-preserved
 loop-preserved c =
-    one_more (spawner_seen ghosts) c.args.number c.loop.counter c.loop.spawners.items c.push.new.self.items c.in_ok-spawner.field-0 c.loop.invariant c.in_ok-spawner.ensures c.in_ok-push.ensures.items
+    one_more (spawner_seen ghosts) c.args.number c.loop.counter c.loop.spawners.items c.push.new.self.items
+    c.in_ok-spawner.field-0 c.loop.invariant c.in_ok-spawner.ensures c.in_ok-push.ensures.items
 
 pub returns : goal.returns
 returns c =

@@ -6,5 +6,6 @@ use Rattle.cnb_drill.proofs.spawners.spawner.Goals as goal
 
 pub returns : goal.returns
 returns c =
-    let says = c.in_ok-spawner.ensures.says ∙ (ap (λ replies. Some (cut_replies replies)) c.in_ok-table.ensures ∙ ap Some (cut_drill c.args.number)) in
+    let says = c.in_ok-spawner.ensures.says ∙ (ap (λ replies. Some (cut_replies replies)) c.in_ok-table.ensures
+    ∙ ap Some (cut_drill c.args.number)) in
     λ i. record { runs = c.in_ok-spawner.ensures.runs i; says = says i; faults = c.in_ok-spawner.ensures.faults i }

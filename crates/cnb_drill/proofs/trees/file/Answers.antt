@@ -9,6 +9,8 @@ returns c =
     let tens : c.args.place / 10 < 10 = let few = c.requires.place in omega arith in
     let ones : c.args.place % 10 < 10 = omega arith in
     let name : c.from_string.result ≡ file_name c.args.place =
-    c.from_string.ensures ∙ (c.in_ok-name.ensures.ok ∙ (λ i. 102 ∷ (decimal_digit (c.args.place / 10) tens i ++ decimal_digit (c.args.place % 10) ones i))) in
-    let bytes : c.from_vec.result ≡ contents c.args.tree = c.from_vec.ensures ∙ c.in_ok-bytes.ensures.items_if_clones_equal (λ y e. e) in
+    c.from_string.ensures ∙ (c.in_ok-name.ensures.ok
+    ∙ (λ i. 102 ∷ (decimal_digit (c.args.place / 10) tens i ++ decimal_digit (c.args.place % 10) ones i))) in
+    let bytes : c.from_vec.result ≡ contents c.args.tree = c.from_vec.ensures
+    ∙ c.in_ok-bytes.ensures.items_if_clones_equal (λ y e. e) in
     λ i. drill_file (bytes i) (name i)

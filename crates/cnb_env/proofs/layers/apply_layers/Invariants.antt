@@ -12,7 +12,10 @@ invariant-loop-layer g l = record {
   files : g.W.World.file_faults l.world ≡ g.W.World.file_faults l.initial.world;
   children : g.W.World.child_faults l.world ≡ g.W.World.child_faults l.initial.world;
   runs : g.W.World.runs l.world ≡ g.W.World.runs l.initial.world;
-  misused : (now : ℕ) → MayMisuse (option_map (λ files. list_all (is_fit_layer l.phase files) (drop l.layer-index l.layers)) (g.W.World.tree l.initial.world)) (g.W.World.misused l.world) now
-      → MayMisuse (option_map (λ files. list_all (is_fit_layer l.phase files) l.layers) (g.W.World.tree l.initial.world)) (g.W.World.misused l.initial.world) now;
-  left : Leaves (g.W.World.tree l.initial.world) (layer_applied l.phase) (drop l.layer-index l.layers) l.env (λ files. each (layer_applied l.phase files) l.layers l.initial.env);
+  misused : (now : ℕ) → MayMisuse (option_map (λ files. list_all (is_fit_layer l.phase files)
+      (drop l.layer-index l.layers)) (g.W.World.tree l.initial.world)) (g.W.World.misused l.world) now
+      → MayMisuse (option_map (λ files. list_all (is_fit_layer l.phase files) l.layers)
+      (g.W.World.tree l.initial.world)) (g.W.World.misused l.initial.world) now;
+  left : Leaves (g.W.World.tree l.initial.world) (layer_applied l.phase) (drop l.layer-index l.layers) l.env
+      (λ files. each (layer_applied l.phase files) l.layers l.initial.env);
 }

@@ -12,7 +12,10 @@ invariant-loop-layers g l = record {
   files : g.W.World.file_faults l.world ≡ g.W.World.file_faults l.initial.world;
   children : g.W.World.child_faults l.world ≡ g.W.World.child_faults l.initial.world;
   runs : g.W.World.runs l.world ≡ g.W.World.runs l.initial.world;
-  misused : (now : ℕ) → MayMisuse (option_map (λ files. list_all (is_fit_set l.phase files) (drop l.layers-index l.sets)) (g.W.World.tree l.initial.world)) (g.W.World.misused l.world) now
-      → MayMisuse (option_map (λ files. list_all (is_fit_set l.phase files) l.sets) (g.W.World.tree l.initial.world)) (g.W.World.misused l.initial.world) now;
-  left : Leaves (g.W.World.tree l.initial.world) (set_applied l.phase) (drop l.layers-index l.sets) l.env (λ files. each (set_applied l.phase files) l.sets l.initial.env);
+  misused : (now : ℕ) → MayMisuse (option_map (λ files. list_all (is_fit_set l.phase files)
+      (drop l.layers-index l.sets)) (g.W.World.tree l.initial.world)) (g.W.World.misused l.world) now
+      → MayMisuse (option_map (λ files. list_all (is_fit_set l.phase files) l.sets)
+      (g.W.World.tree l.initial.world)) (g.W.World.misused l.initial.world) now;
+  left : Leaves (g.W.World.tree l.initial.world) (set_applied l.phase) (drop l.layers-index l.sets) l.env
+      (λ files. each (set_applied l.phase files) l.sets l.initial.env);
 }

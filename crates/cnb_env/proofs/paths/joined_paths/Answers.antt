@@ -7,4 +7,5 @@ loop-place-preserved c =
     let text = string_bytes c.loop-place.text in
     c.in_ok-push_separated.ensures
     ∙ ap (λ path. cond (nat_eq c.loop-place.place 0) text (text ++ codes ":") ++ path) c.as_str.ensures.text
-    ∙ joined_more c.args.paths.now c.loop-place.place c.index-paths-place.result text c.loop-place-test.true c.index-paths-place.is c.loop-place.invariant
+    ∙ joined_more c.args.paths.now c.loop-place.place c.index-paths-place.result text c.loop-place-test.true
+    c.index-paths-place.is c.loop-place.invariant

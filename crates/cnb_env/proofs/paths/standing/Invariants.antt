@@ -10,5 +10,7 @@ invariant-loop-layer g l = record {
   children : g.W.World.child_faults l.world ≡ g.W.World.child_faults l.initial.world;
   runs : g.W.World.runs l.world ≡ g.W.World.runs l.initial.world;
   misused : g.W.World.misused l.world ≡ g.W.World.misused l.initial.world;
-  found : IfSome (g.W.World.tree l.initial.world) (λ files. l.paths ++ standing_at files (drop l.layer-index l.layers) l.name ≡ standing_at files l.layers l.name);
+  found : IfSome (g.W.World.tree l.initial.world)
+      (λ files. l.paths ++ standing_at files (drop l.layer-index l.layers) l.name
+      ≡ standing_at files l.layers l.name);
 }

@@ -6,4 +6,5 @@ use Rattle.cnb_export.specs.Ascending.{latest}
 use Rattle.cnb_export.proofs.ascending.last_of_each.Given as goal
 
 abbrev pub invariant-loop-row : goal.invariant-loop-row
-invariant-loop-row g l = (q : List ℕ) → hash.get_by (λ k. bytes_eq q k.now) l.latest ≡ fin.get (latest g.T.Keyed.key_of (take l.row-index l.rows)) q
+invariant-loop-row g l = (q : List ℕ) → hash.get_by (λ k. bytes_eq q k.now) l.latest
+    ≡ fin.get (latest g.T.Keyed.key_of (take l.row-index l.rows)) q

@@ -9,7 +9,11 @@ pub returns-in_err-exported : goal.returns-in_err-exported
 unfolding exports_given
 returns-in_err-exported g c =
     let exit = err_from_is_err_and c.from_residual.result c.from_residual.ensures.1 in
-    rw (exit.1, exit.2) (record { steps = ended _ _ _ _ _ (mapped_fault Fault _ _ _ c.in_err-exported.field-0.0 (exports_readable _ _ _ _ _ _ c.requires.group c.in_err-exported.ensures.steps)) })
+    rw (exit.1, exit.2) (record {
+      steps = ended _ _ _ _ _
+          (mapped_fault Fault _ _ _ c.in_err-exported.field-0.0
+          (exports_readable _ _ _ _ _ _ c.requires.group c.in_err-exported.ensures.steps));
+    })
 
 pub finish_export-requires-clause-readable : goal.finish_export-requires-clause-readable
 finish_export-requires-clause-readable g c = c.in_ok-exported.ensures.readable c.requires.group
@@ -17,4 +21,8 @@ finish_export-requires-clause-readable g c = c.in_ok-exported.ensures.readable c
 pub returns : goal.returns
 unfolding exports_given
 returns g c =
-    record { steps = went _ _ _ _ _ _ _ (mapped Fault _ _ _ _ (exports_readable _ _ _ _ _ _ c.requires.group c.in_ok-exported.ensures.steps)) (c.finish_export.ensures.steps _) }
+    record {
+      steps = went _ _ _ _ _ _ _ (mapped Fault _ _ _ _
+          (exports_readable _ _ _ _ _ _ c.requires.group c.in_ok-exported.ensures.steps))
+          (c.finish_export.ensures.steps _);
+    }

@@ -14,15 +14,29 @@ pub returns-in_err-text : goal.returns-in_err-text
 unfolding finishes_export
 returns-in_err-text g c =
     let exit = err_from_is_err_and c.from_residual.result c.from_residual.ensures.1 in
-    rw (exit.1, exit.2) (record { steps = λ caches. ended _ _ _ _ _ (no_memory _ _ _ (Fault (Store stored.Memory)) refl) })
+    rw (exit.1, exit.2) (record {
+      steps = λ caches. ended _ _ _ _ _
+          (no_memory _ _ _ (Fault (Store stored.Memory)) refl);
+    })
 
 pub returns-in_err-save_image : goal.returns-in_err-save_image
 unfolding finishes_export
 returns-in_err-save_image g c =
-    let exit = err_from_is_err_and c.from_residual-in_err-save_image.result c.from_residual-in_err-save_image.ensures.1 in
-    rw (exit.1, exit.2) (record { steps = λ caches. went _ _ _ _ _ _ _ (given _ _ _ _ (ap Ok (sym c.in_ok-text.ensures))) (ended _ _ _ _ _ (within _ _ _ _ _ (mapped_fault Fault _ _ _ c.in_err-save_image.field-0.0 (saved_readable _ _ _ _ _ _ c.requires.readable c.in_err-save_image.ensures.step)))) })
+    let exit = err_from_is_err_and c.from_residual-in_err-save_image.result
+    c.from_residual-in_err-save_image.ensures.1 in
+    rw (exit.1, exit.2) (record {
+      steps = λ caches. went _ _ _ _ _ _ _
+          (given _ _ _ _ (ap Ok (sym c.in_ok-text.ensures)))
+          (ended _ _ _ _ _ (within _ _ _ _ _ (mapped_fault Fault _ _ _ c.in_err-save_image.field-0.0
+          (saved_readable _ _ _ _ _ _ c.requires.readable c.in_err-save_image.ensures.step))));
+    })
 
 pub returns : goal.returns
 unfolding finishes_export
 returns g c =
-    record { steps = λ caches. went _ _ _ _ _ _ _ (given _ _ _ _ (ap Ok (sym c.in_ok-text.ensures))) (went _ _ _ _ _ _ _ (within _ _ _ _ _ (mapped Fault _ _ _ _ (saved_readable _ _ _ _ _ _ c.requires.readable c.in_ok-save_image.ensures.step))) (yielded ExportRefusal _ _)) }
+    record {
+      steps = λ caches. went _ _ _ _ _ _ _ (given _ _ _ _ (ap Ok (sym c.in_ok-text.ensures)))
+          (went _ _ _ _ _ _ _ (within _ _ _ _ _ (mapped Fault _ _ _ _
+          (saved_readable _ _ _ _ _ _ c.requires.readable c.in_ok-save_image.ensures.step)))
+          (yielded ExportRefusal _ _));
+    }

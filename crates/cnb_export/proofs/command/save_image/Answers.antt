@@ -6,7 +6,10 @@ use Rattle.cnb_export.proofs.command.save_image.Goals as goal
 pub returns-in_err-save_image : goal.returns-in_err-save_image
 returns-in_err-save_image g c =
     let exit = err_from_is_err_and c.from_residual.result c.from_residual.ensures.1 in
-    rw (exit.1, exit.2) (record { step = mapped_fault of_image_fault _ _ _ c.in_err-save_image.field-0.0 c.in_err-save_image.ensures.step })
+    rw (exit.1, exit.2) (record {
+      step = mapped_fault of_image_fault _ _ _ c.in_err-save_image.field-0.0
+          c.in_err-save_image.ensures.step;
+    })
 
 pub returns : goal.returns
 returns g c =

@@ -21,12 +21,17 @@ pub returns-in_err-gone-clause-steps : goal.returns-in_err-gone-clause-steps
 unfolding exports
 returns-in_err-gone-clause-steps g c =
     let exit = err_from_is_err_and c.from_residual-in_err-gone.result c.from_residual-in_err-gone.ensures.1 in
-    rw (exit.1, exit.2) (went _ _ _ _ _ _ _ (within _ _ _ _ _ c.in_ok-gained.ensures.step) (ended _ _ _ _ _ (within_caches _ _ _ _ _ (rows_refused _ (is_group_doc c.args.group.now) _ _ _ _ _ _ (Store stored.Memory) refl c.in_ok-gained.ensures.cacheable c.in_err-gone.ensures.memory))))
+    rw (exit.1, exit.2) (went _ _ _ _ _ _ _ (within _ _ _ _ _ c.in_ok-gained.ensures.step)
+    (ended _ _ _ _ _ (within_caches _ _ _ _ _ (rows_refused _ (is_group_doc c.args.group.now) _ _ _ _ _ _
+    (Store stored.Memory) refl c.in_ok-gained.ensures.cacheable c.in_err-gone.ensures.memory))))
 
 pub returns-clause-steps : goal.returns-clause-steps
 unfolding exports
 returns-clause-steps g c =
-    went _ _ _ _ _ _ _ (within _ _ _ _ _ c.in_ok-gained.ensures.step) (went _ _ _ _ _ _ _ (within_caches _ _ _ _ _ (rows_stored _ (is_group_doc c.args.group.now) _ _ _ _ _ _ _ c.in_ok-gained.ensures.cacheable c.in_ok-gone.ensures.stores)) (yielded ExportFault _ _))
+    went _ _ _ _ _ _ _ (within _ _ _ _ _ c.in_ok-gained.ensures.step)
+    (went _ _ _ _ _ _ _ (within_caches _ _ _ _ _ (rows_stored _
+    (is_group_doc c.args.group.now) _ _ _ _ _ _ _ c.in_ok-gained.ensures.cacheable
+    c.in_ok-gone.ensures.stores)) (yielded ExportFault _ _))
 
 pub returns-in_err-gained-clause-one_image : goal.returns-in_err-gained-clause-one_image
 returns-in_err-gained-clause-one_image g c = one_image _ _ _ _ _ _ _ (returns-in_err-gained-clause-steps g c)

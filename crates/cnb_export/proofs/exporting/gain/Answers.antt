@@ -19,4 +19,6 @@ returns-in_err-previous-clause-step g c =
 pub returns-clause-step : goal.returns-clause-step
 unfolding gains gains_over
 returns-clause-step g c =
-    went _ _ _ _ _ _ _ c.in_ok-run.ensures.step (went _ _ _ _ _ _ _ c.in_ok-previous.ensures.step (same_for (gains_over c.args.frame.now c.args.group.now c.args.analyzed.now.run c.in_ok-run.run') _ _ _ _ _ c.as_slice.ensures c.gain_over.ensures.step))
+    went _ _ _ _ _ _ _ c.in_ok-run.ensures.step (went _ _ _ _ _ _ _ c.in_ok-previous.ensures.step
+    (same_for (gains_over c.args.frame.now c.args.group.now c.args.analyzed.now.run c.in_ok-run.run') _ _ _ _
+    _ c.as_slice.ensures c.gain_over.ensures.step))

@@ -17,9 +17,16 @@ pub returns-in_err-found : goal.returns-in_err-found
 unfolding reads_needed
 returns-in_err-found g c =
     let exit = err_from_is_err_and c.from_residual-in_err-found.result c.from_residual-in_err-found.ensures.1 in
-    rw (exit.1, exit.2) (record { step = went _ _ _ _ _ _ _ (given _ _ _ _ (ap Ok (sym c.in_ok-path.ensures.0))) (ended _ _ _ _ _ c.in_err-found.ensures.step) })
+    rw (exit.1, exit.2) (record {
+      step = went _ _ _ _ _ _ _ (given _ _ _ _ (ap Ok (sym c.in_ok-path.ensures.0)))
+          (ended _ _ _ _ _ c.in_err-found.ensures.step);
+    })
 
 pub returns : goal.returns
 unfolding reads_needed
 returns g c =
-    record { step = went _ _ _ _ _ _ _ (given _ _ _ _ (ap Ok (sym c.in_ok-path.ensures.0))) (went _ _ _ _ _ _ _ c.in_ok-found.ensures.step (given_answer _ _ _ c.group_at.ensures.answer c.group_at.ensures.cause)) }
+    record {
+      step = went _ _ _ _ _ _ _ (given _ _ _ _ (ap Ok (sym c.in_ok-path.ensures.0)))
+          (went _ _ _ _ _ _ _ c.in_ok-found.ensures.step
+          (given_answer _ _ _ c.group_at.ensures.answer c.group_at.ensures.cause));
+    }

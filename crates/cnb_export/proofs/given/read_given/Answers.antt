@@ -17,15 +17,25 @@ pub returns-in_err-analyzed-clause-step : goal.returns-in_err-analyzed-clause-st
 unfolding reads_given
 returns-in_err-analyzed-clause-step g c =
     let exit = err_from_is_err_and c.from_residual-in_err-analyzed.result c.from_residual-in_err-analyzed.ensures.1 in
-    rw (exit.1, exit.2) (went _ _ _ _ _ _ _ c.in_ok-group.ensures.step (ended _ _ _ _ _ (mapped_fault Fault _ _ _ c.in_err-analyzed.field-0.0 c.in_err-analyzed.ensures.step)))
+    rw (exit.1, exit.2) (went _ _ _ _ _ _ _ c.in_ok-group.ensures.step
+    (ended _ _ _ _ _ (mapped_fault Fault _ _ _ c.in_err-analyzed.field-0.0 c.in_err-analyzed.ensures.step)))
 
 pub returns-in_err-frame-clause-step : goal.returns-in_err-frame-clause-step
 unfolding reads_given
 returns-in_err-frame-clause-step g c =
     let exit = err_from_is_err_and c.from_residual-in_err-frame.result c.from_residual-in_err-frame.ensures.1 in
-    rw (exit.1, exit.2) (went _ _ _ _ _ _ _ c.in_ok-group.ensures.step (went _ _ _ _ _ _ _ (mapped Fault _ _ _ _ c.in_ok-analyzed.ensures.step) ((no_memory _ _ _ (Fault (Store stored.Memory)) refl))))
+    rw (exit.1, exit.2) (went _ _ _ _ _ _ _ c.in_ok-group.ensures.step
+    (went _ _ _ _ _ _ _ (mapped Fault _ _ _ _ c.in_ok-analyzed.ensures.step)
+    ((no_memory _ _ _ (Fault (Store stored.Memory)) refl))))
 
 pub returns-clause-step : goal.returns-clause-step
 unfolding reads_given
 returns-clause-step g c =
-    went _ _ _ _ _ _ _ c.in_ok-group.ensures.step (went _ _ _ _ _ _ _ (mapped Fault _ _ _ _ c.in_ok-analyzed.ensures.step) ((given _ _ _ _ (ap (λ frame. Ok (record { frame = frame; group = c.in_ok-group.group; analyzed = c.in_ok-analyzed.analyzed })) (sym c.in_ok-frame.ensures.frame)))))
+    went _ _ _ _ _ _ _ c.in_ok-group.ensures.step
+    (went _ _ _ _ _ _ _ (mapped Fault _ _ _ _ c.in_ok-analyzed.ensures.step)
+    ((given _ _ _ _ (ap (λ frame. Ok (record {
+      frame = frame;
+      group = c.in_ok-group.group;
+      analyzed =
+          c.in_ok-analyzed.analyzed;
+    })) (sym c.in_ok-frame.ensures.frame)))))

@@ -9,9 +9,15 @@ pub returns-in_err-image : goal.returns-in_err-image
 unfolding reads_layers
 returns-in_err-image g c =
     let exit = err_from_is_err_and c.from_residual.result c.from_residual.ensures.1 in
-    rw (exit.1, exit.2) (record { step = ended _ _ _ _ _ (mapped_fault of_image_fault _ _ _ c.in_err-image.field-0.0 c.in_err-image.ensures.step) })
+    rw (exit.1, exit.2) (record {
+      step = ended _ _ _ _ _
+          (mapped_fault of_image_fault _ _ _ c.in_err-image.field-0.0 c.in_err-image.ensures.step);
+    })
 
 pub returns : goal.returns
 unfolding reads_layers
 returns g c =
-    record { step = went _ _ _ _ _ _ _ (mapped of_image_fault _ _ _ _ c.in_ok-image.ensures.step) (yielded ExportFault _ _) }
+    record {
+      step = went _ _ _ _ _ _ _ (mapped of_image_fault _ _ _ _ c.in_ok-image.ensures.step)
+          (yielded ExportFault _ _);
+    }

@@ -8,5 +8,7 @@ use Rattle.cnb_export.proofs.trees.put_each.Given as goal
 -- the trees from here on are the rest of all
 abbrev pub invariant-loop-tree : goal.invariant-loop-tree
 invariant-loop-tree g l =
-    (result : Result (List (List ℕ)) ExportFault) (new : Seen) → for_each (puts_part l.store) (drop (length l.yielded) l.fn.trees) l.digests (seen g.W.World l.world) result new
+    (result : Result (List (List ℕ)) ExportFault) (new : Seen)
+    → for_each (puts_part l.store) (drop (length l.yielded) l.fn.trees) l.digests
+    (seen g.W.World l.world) result new
     → for_each (puts_part l.store) l.fn.trees [] (seen g.W.World l.initial.world) result new

@@ -8,4 +8,5 @@ is_part_here : (c : goal.Else-not-is_before_next) → IsTrue (is_part (get_or c.
 is_part_here c = search (rules, common_steps)
 
 pub loop-at-preserved : goal.loop-at-preserved
-loop-at-preserved c = names_from _ _ c.loop-at.at (omega arith) (omega arith) (is_part_here c) (c.if-not-is_before_next.ensures refl) c.loop-at.invariant
+loop-at-preserved c = names_from _ _ c.loop-at.at (omega arith) (omega arith) (is_part_here c)
+    (c.if-not-is_before_next.ensures refl) c.loop-at.invariant

@@ -16,8 +16,14 @@ pub returns-in_err-unpack : goal.returns-in_err-unpack
 unfolding unpacks_command
 returns-in_err-unpack g c =
     let exit = err_from_is_err_and c.from_residual-in_err-unpack.result c.from_residual-in_err-unpack.ensures.1 in
-    rw (exit.1, exit.2) (record { steps = went _ _ _ _ _ _ _ (given _ _ _ _ (ap Ok (sym c.in_ok-text.ensures))) (ended _ _ _ _ _ c.in_err-unpack.ensures.steps) })
+    rw (exit.1, exit.2) (record {
+      steps = went _ _ _ _ _ _ _ (given _ _ _ _ (ap Ok (sym c.in_ok-text.ensures)))
+          (ended _ _ _ _ _ c.in_err-unpack.ensures.steps);
+    })
 
 pub returns : goal.returns
 unfolding unpacks_command
-returns g c = record { steps = went _ _ _ _ _ _ _ (given _ _ _ _ (ap Ok (sym c.in_ok-text.ensures))) (went _ _ _ _ _ _ _ c.in_ok-unpack.ensures.steps (yielded LaunchFault _ _)) }
+returns g c = record {
+  steps = went _ _ _ _ _ _ _ (given _ _ _ _ (ap Ok (sym c.in_ok-text.ensures)))
+      (went _ _ _ _ _ _ _ c.in_ok-unpack.ensures.steps (yielded LaunchFault _ _));
+}

@@ -6,7 +6,9 @@ use Rattle.cnb_launch.proofs.documents.read_launch.Goals as goal
 pub returns-in_err-doc-clause-reads : goal.returns-in_err-doc-clause-reads
 returns-in_err-doc-clause-reads g c =
     let exit = err_from_is_err_and c.from_residual-in_err-doc.result c.from_residual-in_err-doc.ensures.1 in
-    rw (exit.1, exit.2) (doc_refused c.args.root.now c.in_ok-path.path (g.W.World.tree c.args.world.now) _ c.in_ok-path.ensures c.in_err-doc.ensures.reads)
+    rw (exit.1, exit.2) (doc_refused c.args.root.now c.in_ok-path.path
+    (g.W.World.tree c.args.world.now) _ c.in_ok-path.ensures c.in_err-doc.ensures.reads)
 
 pub returns-clause-reads : goal.returns-clause-reads
-returns-clause-reads g c = doc_read c.args.root.now c.in_ok-path.path (g.W.World.tree c.args.world.now) (Ok c.in_ok-doc.doc) c.in_ok-path.ensures c.in_ok-doc.ensures.reads
+returns-clause-reads g c = doc_read c.args.root.now c.in_ok-path.path (g.W.World.tree c.args.world.now)
+    (Ok c.in_ok-doc.doc) c.in_ok-path.ensures c.in_ok-doc.ensures.reads

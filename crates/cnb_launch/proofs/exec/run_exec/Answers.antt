@@ -15,9 +15,15 @@ pub returns-in_err-end : goal.returns-in_err-end
 unfolding runs_exec
 returns-in_err-end g c =
     let exit = err_from_is_err_and c.from_residual-in_err-end.result c.from_residual-in_err-end.ensures.1 in
-    rw (exit.1, exit.2) (record { step = ended _ _ _ _ _ (run_as_refused _ _ _ _ _ c.in_ok-job.ensures c.in_err-end.ensures.step) })
+    rw (exit.1, exit.2) (record {
+      step = ended _ _ _ _ _
+          (run_as_refused _ _ _ _ _ c.in_ok-job.ensures c.in_err-end.ensures.step);
+    })
 
 pub returns : goal.returns
 unfolding runs_exec
 returns g c =
-    record { step = went _ _ _ _ _ _ _ (run_as _ _ _ _ (Ok _) c.in_ok-job.ensures c.in_ok-end.ensures.step) (answered _ _ _ _ c.after_exec.ensures.answer c.after_exec.ensures.given) }
+    record {
+      step = went _ _ _ _ _ _ _ (run_as _ _ _ _ (Ok _) c.in_ok-job.ensures c.in_ok-end.ensures.step)
+          (answered _ _ _ _ c.after_exec.ensures.answer c.after_exec.ensures.given);
+    }

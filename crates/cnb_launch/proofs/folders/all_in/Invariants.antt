@@ -12,8 +12,10 @@ invariant-loop-folder g l = record {
   files : g.W.World.file_faults l.world ≡ g.W.World.file_faults l.initial.world;
   children : g.W.World.child_faults l.world ≡ g.W.World.child_faults l.initial.world;
   runs : g.W.World.runs l.world ≡ g.W.World.runs l.initial.world;
-  misused : (now : ℕ) → MayMisuse (option_map (are_fit (drop l.folder-index l.folders)) (g.W.World.tree l.initial.world)) (g.W.World.misused l.world) now
-      → MayMisuse (option_map (are_fit l.folders) (g.W.World.tree l.initial.world)) (g.W.World.misused l.initial.world) now;
+  misused : (now : ℕ) → MayMisuse (option_map (are_fit (drop l.folder-index l.folders))
+      (g.W.World.tree l.initial.world)) (g.W.World.misused l.world) now
+      → MayMisuse (option_map (are_fit l.folders) (g.W.World.tree l.initial.world))
+      (g.W.World.misused l.initial.world) now;
   within : (room : ℕ) → AreWithin room l.folders → All (AreWithin (room + 256)) l.all;
   left : Leaves l.wanted (g.W.World.tree l.initial.world) l.all (drop l.folder-index l.folders) l.folders;
 }

@@ -13,5 +13,7 @@ invariant-loop-name g l = record {
   runs : g.W.World.runs l.world ≡ g.W.World.runs l.initial.world;
   misused : g.W.World.misused l.world ≡ g.W.World.misused l.initial.world;
   within : AreWithin (length l.folder + 256) l.paths;
-  found : IfSome (g.W.World.tree l.initial.world) (λ files. l.paths ++ wanted_among l.wanted files l.folder (drop l.name-index l.names) ≡ wanted_among l.wanted files l.folder l.names);
+  found : IfSome (g.W.World.tree l.initial.world)
+      (λ files. l.paths ++ wanted_among l.wanted files l.folder (drop l.name-index l.names)
+      ≡ wanted_among l.wanted files l.folder l.names);
 }

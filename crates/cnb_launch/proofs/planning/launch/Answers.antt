@@ -19,13 +19,17 @@ returns-in_err-job-clause-steps g c =
 
 pub returns-clause-steps : goal.returns-clause-steps
 unfolding launches
-returns-clause-steps g c = went _ _ _ _ _ _ _ c.in_ok-plan.ensures.steps (run_as _ _ _ _ _ c.in_ok-job.ensures c.run_child.ensures.step)
+returns-clause-steps g c = went _ _ _ _ _ _ _ c.in_ok-plan.ensures.steps
+    (run_as _ _ _ _ _ c.in_ok-job.ensures c.run_child.ensures.step)
 
 pub returns-in_err-plan-clause-keeps : goal.returns-in_err-plan-clause-keeps
-returns-in_err-plan-clause-keeps g c = λ path. launch_keeps path c.args.root.now c.args.call.now c.args.env.now _ _ _ (returns-in_err-plan-clause-steps g c)
+returns-in_err-plan-clause-keeps g c = λ path. launch_keeps path c.args.root.now c.args.call.now c.args.env.now _
+    _ _ (returns-in_err-plan-clause-steps g c)
 
 pub returns-in_err-job-clause-keeps : goal.returns-in_err-job-clause-keeps
-returns-in_err-job-clause-keeps g c = λ path. launch_keeps path c.args.root.now c.args.call.now c.args.env.now _ _ _ (returns-in_err-job-clause-steps g c)
+returns-in_err-job-clause-keeps g c = λ path. launch_keeps path c.args.root.now c.args.call.now c.args.env.now _ _
+    _ (returns-in_err-job-clause-steps g c)
 
 pub returns-clause-keeps : goal.returns-clause-keeps
-returns-clause-keeps g c = λ path. launch_keeps path c.args.root.now c.args.call.now c.args.env.now _ _ _ (returns-clause-steps g c)
+returns-clause-keeps g c = λ path. launch_keeps path c.args.root.now c.args.call.now c.args.env.now _ _ _
+    (returns-clause-steps g c)

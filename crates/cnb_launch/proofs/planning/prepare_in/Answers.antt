@@ -11,21 +11,51 @@ pub returns-in_err-start : goal.returns-in_err-start
 unfolding prepares_in
 returns-in_err-start g c =
     let exit = err_from_is_err_and c.from_residual.result c.from_residual.ensures.1 in
-    rw (exit.1, exit.2) (record { step = ended _ _ _ _ _ (mapped_fault _ _ _ _ _ (env_refused g.W.World c.args.chosen.kind (option_copied c.as_ref.result) c.args.sets.now c.args.env.now _ _ _ c.as_ref.ensures.value c.in_err-start.ensures.reads c.in_err-start.ensures.frame c.in_err-start.ensures.misused)) })
+    rw (exit.1, exit.2) (record {
+      step = ended _ _ _ _ _
+          (mapped_fault _ _ _ _ _ (env_refused g.W.World c.args.chosen.kind
+          (option_copied c.as_ref.result) c.args.sets.now c.args.env.now _ _ _ c.as_ref.ensures.value
+          c.in_err-start.ensures.reads c.in_err-start.ensures.frame c.in_err-start.ensures.misused));
+    })
 
 pub returns-in_err-execs : goal.returns-in_err-execs
 unfolding prepares_in
 returns-in_err-execs g c =
     let exit = err_from_is_err_and c.from_residual-in_err-execs.result c.from_residual-in_err-execs.ensures.1 in
-    rw (exit.1, exit.2) (record { step = went _ _ _ _ _ _ _ (mapped _ _ _ _ _ (env_step g.W.World c.args.chosen.kind (option_copied c.as_ref.result) c.args.sets.now c.args.env.now (Ok c.in_ok-start.start) _ _ c.as_ref.ensures.value c.in_ok-start.ensures.reads c.in_ok-start.ensures.frame c.in_ok-start.ensures.misused)) (ended _ _ _ _ _ (mapped_fault _ _ _ _ _ (read_step g.W.World _ _ _ _ _ c.in_err-execs.ensures.reads c.in_err-execs.ensures.frame c.in_err-execs.ensures.misused))) })
+    rw (exit.1, exit.2) (record {
+      step = went _ _ _ _ _ _ _
+          (mapped _ _ _ _ _ (env_step g.W.World c.args.chosen.kind
+          (option_copied c.as_ref.result) c.args.sets.now c.args.env.now
+          (Ok c.in_ok-start.start) _ _ c.as_ref.ensures.value c.in_ok-start.ensures.reads
+          c.in_ok-start.ensures.frame c.in_ok-start.ensures.misused))
+          (ended _ _ _ _ _ (mapped_fault _ _ _ _ _ (read_step g.W.World _ _ _ _ _ c.in_err-execs.ensures.reads
+          c.in_err-execs.ensures.frame c.in_err-execs.ensures.misused)));
+    })
 
 pub returns-in_err-prepared_of : goal.returns-in_err-prepared_of
 unfolding prepares_in
 returns-in_err-prepared_of g c =
-    let exit = err_from_is_err_and c.from_residual-in_err-prepared_of.result c.from_residual-in_err-prepared_of.ensures.1 in
-    rw (exit.1, exit.2) (record { step = went _ _ _ _ _ _ _ (mapped _ _ _ _ _ (env_step g.W.World c.args.chosen.kind (option_copied c.as_ref.result) c.args.sets.now c.args.env.now (Ok c.in_ok-start.start) _ _ c.as_ref.ensures.value c.in_ok-start.ensures.reads c.in_ok-start.ensures.frame c.in_ok-start.ensures.misused)) (went _ _ _ _ _ _ _ (mapped _ _ _ _ _ (read_step g.W.World _ _ _ _ _ c.in_ok-execs.ensures.reads c.in_ok-execs.ensures.frame c.in_ok-execs.ensures.misused)) (no_memory _ _ _ Memory refl)) })
+    let exit = err_from_is_err_and c.from_residual-in_err-prepared_of.result
+    c.from_residual-in_err-prepared_of.ensures.1 in
+    rw (exit.1, exit.2) (record {
+      step = went _ _ _ _ _ _ _
+          (mapped _ _ _ _ _ (env_step g.W.World c.args.chosen.kind
+          (option_copied c.as_ref.result) c.args.sets.now c.args.env.now
+          (Ok c.in_ok-start.start) _ _ c.as_ref.ensures.value c.in_ok-start.ensures.reads
+          c.in_ok-start.ensures.frame c.in_ok-start.ensures.misused))
+          (went _ _ _ _ _ _ _ (mapped _ _ _ _ _ (read_step g.W.World _ _ _ _ _ c.in_ok-execs.ensures.reads
+          c.in_ok-execs.ensures.frame c.in_ok-execs.ensures.misused)) (no_memory _ _ _ Memory refl));
+    })
 
 pub returns : goal.returns
 unfolding prepares_in
 returns g c =
-    record { step = went _ _ _ _ _ _ _ (mapped _ _ _ _ _ (env_step g.W.World c.args.chosen.kind (option_copied c.as_ref.result) c.args.sets.now c.args.env.now (Ok c.in_ok-start.start) _ _ c.as_ref.ensures.value c.in_ok-start.ensures.reads c.in_ok-start.ensures.frame c.in_ok-start.ensures.misused)) (went _ _ _ _ _ _ _ (mapped _ _ _ _ _ (read_step g.W.World _ _ _ _ _ c.in_ok-execs.ensures.reads c.in_ok-execs.ensures.frame c.in_ok-execs.ensures.misused)) (given _ _ _ _ (sym (ap Ok c.in_ok-prepared_of.ensures)))) }
+    record {
+      step = went _ _ _ _ _ _ _ (mapped _ _ _ _ _
+          (env_step g.W.World c.args.chosen.kind (option_copied c.as_ref.result) c.args.sets.now c.args.env.now
+          (Ok c.in_ok-start.start) _ _ c.as_ref.ensures.value c.in_ok-start.ensures.reads
+          c.in_ok-start.ensures.frame c.in_ok-start.ensures.misused))
+          (went _ _ _ _ _ _ _ (mapped _ _ _ _ _ (read_step g.W.World _ _ _ _ _ c.in_ok-execs.ensures.reads
+          c.in_ok-execs.ensures.frame c.in_ok-execs.ensures.misused))
+          (given _ _ _ _ (sym (ap Ok c.in_ok-prepared_of.ensures))));
+    }

@@ -7,8 +7,12 @@ use Rattle.cnb_launch.proofs.sets.execs_in.Goals as goal
 pub returns-in_err-execs-clause-reads : goal.returns-in_err-execs-clause-reads
 returns-in_err-execs-clause-reads g c =
     let exit = err_from_is_err_and c.from_residual-in_err-execs.result c.from_residual-in_err-execs.ensures.1 in
-    rw (exit.1, exit.2) (execs_refused c.args.kind.now c.args.sets.now _ (g.W.World.tree c.args.world.now) _ (c.as_slice-2.ensures ∙ c.in_ok-folders.ensures.folders ∙ ap (all_exec_folders c.args.kind.now) c.as_slice.ensures) c.in_err-execs.ensures.reads)
+    rw (exit.1, exit.2) (execs_refused c.args.kind.now c.args.sets.now _ (g.W.World.tree c.args.world.now) _
+    (c.as_slice-2.ensures ∙ c.in_ok-folders.ensures.folders
+    ∙ ap (all_exec_folders c.args.kind.now) c.as_slice.ensures) c.in_err-execs.ensures.reads)
 
 pub returns-clause-reads : goal.returns-clause-reads
 returns-clause-reads g c =
-    execs_read c.args.kind.now c.args.sets.now _ (g.W.World.tree c.args.world.now) (Ok c.in_ok-execs.execs) (c.as_slice-2.ensures ∙ c.in_ok-folders.ensures.folders ∙ ap (all_exec_folders c.args.kind.now) c.as_slice.ensures) c.in_ok-execs.ensures.reads
+    execs_read c.args.kind.now c.args.sets.now _ (g.W.World.tree c.args.world.now) (Ok c.in_ok-execs.execs)
+    (c.as_slice-2.ensures ∙ c.in_ok-folders.ensures.folders
+    ∙ ap (all_exec_folders c.args.kind.now) c.as_slice.ensures) c.in_ok-execs.ensures.reads

@@ -7,11 +7,16 @@ use Rattle.cnb_launch.proofs.sets.sets_in.Goals as goal
 pub returns-in_err-sets-clause-reads : goal.returns-in_err-sets-clause-reads
 returns-in_err-sets-clause-reads g c =
     let exit = err_from_is_err_and c.from_residual-in_err-sets.result c.from_residual-in_err-sets.ensures.1 in
-    rw (exit.1, exit.2) (sets_refused c.args.root.now c.args.doc.now.buildpacks _ (g.W.World.tree c.args.world.now) _ (c.as_slice-2.ensures ∙ c.in_ok-folders.ensures.folders ∙ ap (set_folders c.args.root.now) c.as_slice.ensures) c.in_err-sets.ensures.reads)
+    rw (exit.1, exit.2) (sets_refused c.args.root.now c.args.doc.now.buildpacks _
+    (g.W.World.tree c.args.world.now) _ (c.as_slice-2.ensures ∙ c.in_ok-folders.ensures.folders
+    ∙ ap (set_folders c.args.root.now) c.as_slice.ensures) c.in_err-sets.ensures.reads)
 
 pub returns-clause-reads : goal.returns-clause-reads
 returns-clause-reads g c =
-    sets_read c.args.root.now c.args.doc.now.buildpacks _ (g.W.World.tree c.args.world.now) (Ok c.in_ok-sets.sets) (c.as_slice-2.ensures ∙ c.in_ok-folders.ensures.folders ∙ ap (set_folders c.args.root.now) c.as_slice.ensures) c.in_ok-sets.ensures.reads
+    sets_read c.args.root.now c.args.doc.now.buildpacks _ (g.W.World.tree c.args.world.now) (Ok c.in_ok-sets.sets)
+    (c.as_slice-2.ensures ∙ c.in_ok-folders.ensures.folders
+    ∙ ap (set_folders c.args.root.now) c.as_slice.ensures) c.in_ok-sets.ensures.reads
 
 pub returns-clause-short : goal.returns-clause-short
-returns-clause-short g c = c.in_ok-sets.ensures.within 4359 (subst (AreWithin 4359) (sym c.as_slice-2.ensures) c.in_ok-folders.ensures.within)
+returns-clause-short g c = c.in_ok-sets.ensures.within 4359
+    (subst (AreWithin 4359) (sym c.as_slice-2.ensures) c.in_ok-folders.ensures.within)

@@ -26,12 +26,21 @@ returns-in_err-tree g c =
 pub returns-in_err-write_tree : goal.returns-in_err-write_tree
 unfolding lays_launch
 returns-in_err-write_tree g c =
-    let exit = err_from_is_err_and c.from_residual-in_err-write_tree.result c.from_residual-in_err-write_tree.ensures.1 in
-    let laid = laid_as _ _ _ _ _ _ _ (Err _) c.in_ok-place.ensures.path c.in_ok-tree.ensures.file c.in_err-write_tree.ensures.steps in
-    rw (exit.1, exit.2) (record { step = went _ _ _ _ _ _ _ (made _ _ _ (c.in_ok-bytes.ensures.reads_back c.requires.readable)) (mapped_fault _ _ _ _ _ laid) })
+    let exit = err_from_is_err_and c.from_residual-in_err-write_tree.result
+    c.from_residual-in_err-write_tree.ensures.1 in
+    let laid = laid_as _ _ _ _ _ _ _ (Err _) c.in_ok-place.ensures.path c.in_ok-tree.ensures.file
+    c.in_err-write_tree.ensures.steps in
+    rw (exit.1, exit.2) (record {
+      step = went _ _ _ _ _ _ _
+          (made _ _ _ (c.in_ok-bytes.ensures.reads_back c.requires.readable)) (mapped_fault _ _ _ _ _ laid);
+    })
 
 pub returns : goal.returns
 unfolding lays_launch
 returns g c =
-    let laid = laid_as _ _ _ _ _ _ _ (Ok _) c.in_ok-place.ensures.path c.in_ok-tree.ensures.file c.in_ok-write_tree.ensures.steps in
-    record { step = went _ _ _ _ _ _ _ (made _ _ _ (c.in_ok-bytes.ensures.reads_back c.requires.readable)) (mapped _ _ _ _ _ laid) }
+    let laid = laid_as _ _ _ _ _ _ _ (Ok _) c.in_ok-place.ensures.path c.in_ok-tree.ensures.file
+    c.in_ok-write_tree.ensures.steps in
+    record {
+      step = went _ _ _ _ _ _ _ (made _ _ _ (c.in_ok-bytes.ensures.reads_back c.requires.readable))
+          (mapped _ _ _ _ _ laid);
+    }

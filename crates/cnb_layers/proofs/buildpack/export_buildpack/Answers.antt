@@ -16,9 +16,16 @@ pub returns-in_err-documents : goal.returns-in_err-documents
 unfolding exports_buildpack
 returns-in_err-documents g c =
     let exit = err_from_is_err_and c.from_residual-in_err-documents.result c.from_residual-in_err-documents.ensures.1 in
-    rw (exit.1, exit.2) (record { step = went _ _ _ _ _ _ _ (given _ _ _ _ (ap Ok (sym c.in_ok-folder.ensures.path))) (ended _ _ _ _ _ c.in_err-documents.ensures.step) })
+    rw (exit.1, exit.2) (record {
+      step = went _ _ _ _ _ _ _
+          (given _ _ _ _ (ap Ok (sym c.in_ok-folder.ensures.path)))
+          (ended _ _ _ _ _ c.in_err-documents.ensures.step);
+    })
 
 pub returns : goal.returns
 unfolding exports_buildpack
 returns g c =
-    record { step = went _ _ _ _ _ _ _ (given _ _ _ _ (ap Ok (sym c.in_ok-folder.ensures.path))) (went _ _ _ _ _ _ _ c.in_ok-documents.ensures.step c.export_layers.ensures.step) }
+    record {
+      step = went _ _ _ _ _ _ _ (given _ _ _ _ (ap Ok (sym c.in_ok-folder.ensures.path)))
+          (went _ _ _ _ _ _ _ c.in_ok-documents.ensures.step c.export_layers.ensures.step);
+    }

@@ -5,10 +5,16 @@ use Rattle.cnb_layers.proofs.buildpack.export_each.Goals as goal
 pub returns-in_err-all : goal.returns-in_err-all
 returns-in_err-all g c =
     let exit = err_from_is_err_and c.from_residual.result c.from_residual.ensures.1 in
-    rw (exit.1, exit.2) (record { step = c.loop-layer.invariant _ _ (stops _ _ _ c.layer-item.result _ _ _ _ c.loop-layer-test.true c.layer-item.is c.in_err-all.ensures.step) })
+    rw (exit.1, exit.2) (record {
+      step = c.loop-layer.invariant _ _
+          (stops _ _ _ c.layer-item.result _ _ _ _ c.loop-layer-test.true c.layer-item.is
+          c.in_err-all.ensures.step);
+    })
 
 pub loop-layer-preserved : goal.loop-layer-preserved
-loop-layer-preserved g c = λ result new h. c.loop-layer.invariant result new (goes_on _ _ _ c.layer-item.result _ _ _ _ c.loop-layer-test.true c.layer-item.is c.in_ok-all.ensures.step result new h)
+loop-layer-preserved g c = λ result new h. c.loop-layer.invariant result new
+    (goes_on _ _ _ c.layer-item.result _ _ _ _ c.loop-layer-test.true c.layer-item.is c.in_ok-all.ensures.step
+    result new h)
 
 pub returns : goal.returns
 returns g c = record { step = c.loop-layer.invariant _ _ (over _ _ _ _ _ c.loop-layer-test.false) }

@@ -9,5 +9,8 @@ use Rattle.cnb_layers.proofs.buildpack.export_each.Given as goal
 -- the layers from here on are the rest of all
 abbrev pub invariant-loop-layer : goal.invariant-loop-layer
 invariant-loop-layer g l =
-    (result : Result Gathered ExportFault) (new : Seen) → for_each (exports_layer l.frame.store.now l.frame.previous.now l.frame.id.now l.frame.folder.now) (drop l.layer-index l.layers) l.all (seen g.W.World l.world) result new
-    → for_each (exports_layer l.frame.store.now l.frame.previous.now l.frame.id.now l.frame.folder.now) l.layers l.fn.gathered (seen g.W.World l.initial.world) result new
+    (result : Result Gathered ExportFault) (new : Seen) → for_each
+    (exports_layer l.frame.store.now l.frame.previous.now l.frame.id.now l.frame.folder.now)
+    (drop l.layer-index l.layers) l.all (seen g.W.World l.world) result new
+    → for_each (exports_layer l.frame.store.now l.frame.previous.now l.frame.id.now l.frame.folder.now) l.layers
+    l.fn.gathered (seen g.W.World l.initial.world) result new

@@ -13,4 +13,7 @@ returns-in_err-names g c =
 pub returns : goal.returns
 unfolding exports_layers
 returns g c =
-    record { step = went _ _ _ _ _ _ _ c.in_ok-names.ensures.step (all_same _ _ _ _ _ _ _ c.as_slice.ensures c.export_each.ensures.step) }
+    record {
+      step = went _ _ _ _ _ _ _ c.in_ok-names.ensures.step
+          (all_same _ _ _ _ _ _ _ c.as_slice.ensures c.export_each.ensures.step);
+    }

@@ -16,8 +16,14 @@ pub returns-in_err-all : goal.returns-in_err-all
 unfolding exports_store_document
 returns-in_err-all g c =
     let exit = err_from_is_err_and c.from_residual-in_err-all.result c.from_residual-in_err-all.ensures.1 in
-    rw (exit.1, exit.2) (record { step = went _ _ _ _ _ _ _ c.in_ok-store_document.ensures.step (no_memory _ _ _ (Store stored.Memory) refl) })
+    rw (exit.1, exit.2) (record {
+      step = went _ _ _ _ _ _ _ c.in_ok-store_document.ensures.step
+          (no_memory _ _ _ (Store stored.Memory) refl);
+    })
 
 pub returns : goal.returns
 unfolding exports_store_document
-returns g c = record { step = went _ _ _ _ _ _ _ c.in_ok-store_document.ensures.step (given _ _ _ _ (ap Ok (sym c.in_ok-all.ensures))) }
+returns g c = record {
+  step = went _ _ _ _ _ _ _ c.in_ok-store_document.ensures.step
+      (given _ _ _ _ (ap Ok (sym c.in_ok-all.ensures)));
+}

@@ -17,9 +17,16 @@ pub returns-in_err-launch : goal.returns-in_err-launch
 unfolding reads_launch
 returns-in_err-launch g c =
     let exit = err_from_is_err_and c.from_residual-in_err-launch.result c.from_residual-in_err-launch.ensures.1 in
-    rw (exit.1, exit.2) (record { step = went _ _ _ _ _ _ _ (given _ _ _ _ (ap Ok (sym c.in_ok-path.ensures.0))) (ended _ _ _ _ _ c.in_err-launch.ensures.step) })
+    rw (exit.1, exit.2) (record {
+      step = went _ _ _ _ _ _ _ (given _ _ _ _ (ap Ok (sym c.in_ok-path.ensures.0)))
+          (ended _ _ _ _ _ c.in_err-launch.ensures.step);
+    })
 
 pub returns : goal.returns
 unfolding reads_launch
 returns g c =
-    record { step = went _ _ _ _ _ _ _ (given _ _ _ _ (ap Ok (sym c.in_ok-path.ensures.0))) (went _ _ _ _ _ _ _ c.in_ok-launch.ensures.step (given_answer _ _ _ c.one_default.ensures.answer c.one_default.ensures.cause)) }
+    record {
+      step = went _ _ _ _ _ _ _ (given _ _ _ _ (ap Ok (sym c.in_ok-path.ensures.0)))
+          (went _ _ _ _ _ _ _ c.in_ok-launch.ensures.step
+          (given_answer _ _ _ c.one_default.ensures.answer c.one_default.ensures.cause));
+    }

@@ -15,4 +15,7 @@ returns-in_err-path g c =
 pub returns : goal.returns
 unfolding reads_store_document
 returns g c =
-    record { step = went _ _ _ _ _ _ _ (given _ _ _ _ (ap Ok (sym c.in_ok-path.ensures.0))) c.read_store_toml.ensures.step }
+    record {
+      step = went _ _ _ _ _ _ _ (given _ _ _ _ (ap Ok (sym c.in_ok-path.ensures.0)))
+          c.read_store_toml.ensures.step;
+    }

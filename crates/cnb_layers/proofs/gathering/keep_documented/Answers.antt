@@ -16,15 +16,24 @@ pub returns-in_err-settled : goal.returns-in_err-settled
 unfolding keeps_documented
 returns-in_err-settled g c =
     let exit = err_from_is_err_and c.from_residual-in_err-settled.result c.from_residual-in_err-settled.ensures.1 in
-    rw (exit.1, exit.2) (record { step = went _ _ _ _ _ _ _ c.in_ok-contents.ensures.step (ended _ _ _ _ _ c.in_err-settled.ensures.step) })
+    rw (exit.1, exit.2) (record {
+      step = went _ _ _ _ _ _ _ c.in_ok-contents.ensures.step
+          (ended _ _ _ _ _ c.in_err-settled.ensures.step);
+    })
 
 pub returns-in_err-kept : goal.returns-in_err-kept
 unfolding keeps_documented
 returns-in_err-kept g c =
     let exit = err_from_is_err_and c.from_residual-in_err-kept.result c.from_residual-in_err-kept.ensures.1 in
-    rw (exit.1, exit.2) (record { step = went _ _ _ _ _ _ _ c.in_ok-contents.ensures.step (went _ _ _ _ _ _ _ c.in_ok-settled.ensures.step (no_memory _ _ _ (Store stored.Memory) refl)) })
+    rw (exit.1, exit.2) (record {
+      step = went _ _ _ _ _ _ _ c.in_ok-contents.ensures.step
+          (went _ _ _ _ _ _ _ c.in_ok-settled.ensures.step (no_memory _ _ _ (Store stored.Memory) refl));
+    })
 
 pub returns : goal.returns
 unfolding keeps_documented
 returns g c =
-    record { step = went _ _ _ _ _ _ _ c.in_ok-contents.ensures.step (went _ _ _ _ _ _ _ c.in_ok-settled.ensures.step (given _ _ _ _ (ap Ok (sym c.in_ok-kept.ensures)))) }
+    record {
+      step = went _ _ _ _ _ _ _ c.in_ok-contents.ensures.step
+          (went _ _ _ _ _ _ _ c.in_ok-settled.ensures.step (given _ _ _ _ (ap Ok (sym c.in_ok-kept.ensures))));
+    }

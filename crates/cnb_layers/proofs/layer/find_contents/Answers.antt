@@ -16,9 +16,15 @@ pub returns-in_err-there : goal.returns-in_err-there
 unfolding finds_contents
 returns-in_err-there g c =
     let exit = err_from_is_err_and c.from_residual-in_err-there.result c.from_residual-in_err-there.ensures.1 in
-    rw (exit.1, exit.2) (record { step = went _ _ _ _ _ _ _ (given _ _ _ _ (ap Ok (sym c.in_ok-path.ensures.path))) (ended _ _ _ _ _ c.in_err-there.ensures.step) })
+    rw (exit.1, exit.2) (record {
+      step = went _ _ _ _ _ _ _
+          (given _ _ _ _ (ap Ok (sym c.in_ok-path.ensures.path))) (ended _ _ _ _ _ c.in_err-there.ensures.step);
+    })
 
 pub returns : goal.returns
 unfolding finds_contents
 returns g c =
-    record { step = went _ _ _ _ _ _ _ (given _ _ _ _ (ap Ok (sym c.in_ok-path.ensures.path))) (went _ _ _ _ _ _ _ c.in_ok-there.ensures.step c.take_contents.ensures.step) }
+    record {
+      step = went _ _ _ _ _ _ _ (given _ _ _ _ (ap Ok (sym c.in_ok-path.ensures.path)))
+          (went _ _ _ _ _ _ _ c.in_ok-there.ensures.step c.take_contents.ensures.step);
+    }

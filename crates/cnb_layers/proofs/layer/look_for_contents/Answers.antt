@@ -13,4 +13,7 @@ returns-in_err-kind g c =
 pub returns : goal.returns
 unfolding looks_for_contents
 returns g c =
-    record { step = went _ _ _ _ _ _ _ c.in_ok-kind.ensures.step (given_answer _ _ _ c.there_by.ensures.answer c.there_by.ensures.cause) }
+    record {
+      step = went _ _ _ _ _ _ _ c.in_ok-kind.ensures.step
+          (given_answer _ _ _ c.there_by.ensures.answer c.there_by.ensures.cause);
+    }

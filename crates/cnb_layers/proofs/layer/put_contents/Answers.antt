@@ -9,8 +9,14 @@ pub returns-in_err-digest : goal.returns-in_err-digest
 unfolding puts_contents
 returns-in_err-digest g c =
     let exit = err_from_is_err_and c.from_residual.result c.from_residual.ensures.1 in
-    rw (exit.1, exit.2) (record { step = ended _ _ _ _ _ (mapped_fault Store _ _ _ c.in_err-digest.field-0.0 c.in_err-digest.ensures.steps) })
+    rw (exit.1, exit.2) (record {
+      step = ended _ _ _ _ _
+          (mapped_fault Store _ _ _ c.in_err-digest.field-0.0 c.in_err-digest.ensures.steps);
+    })
 
 pub returns : goal.returns
 unfolding puts_contents
-returns g c = record { step = went _ _ _ _ _ _ _ (mapped Store _ _ _ _ c.in_ok-digest.ensures.steps) (yielded ExportFault _ _) }
+returns g c = record {
+  step = went _ _ _ _ _ _ _ (mapped Store _ _ _ _ c.in_ok-digest.ensures.steps)
+      (yielded ExportFault _ _);
+}

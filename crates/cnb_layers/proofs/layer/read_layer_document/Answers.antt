@@ -13,4 +13,7 @@ returns-in_err-found g c =
 pub returns : goal.returns
 unfolding reads_layer
 returns g c =
-    record { step = went _ _ _ _ _ _ _ c.in_ok-found.ensures.step (given_answer _ _ _ c.layer_value.ensures.answer c.layer_value.ensures.cause) }
+    record {
+      step = went _ _ _ _ _ _ _ c.in_ok-found.ensures.step
+          (given_answer _ _ _ c.layer_value.ensures.answer c.layer_value.ensures.cause);
+    }

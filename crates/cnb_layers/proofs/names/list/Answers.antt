@@ -7,8 +7,15 @@ use Rattle.cnb_layers.proofs.names.list.Goals as goal
 pub returns-in_err-names : goal.returns-in_err-names
 returns-in_err-names g c =
     let exit = err_from_is_err_and c.from_residual.result c.from_residual.ensures.1 in
-    rw (exit.1, exit.2) (record { step = files_refused cause_of of_read_fault same_cause _ _ c.in_err-names.field-0.0 c.in_err-names.ensures.reads c.in_err-names.ensures.frame c.in_err-names.ensures.misused })
+    rw (exit.1, exit.2) (record {
+      step = files_refused cause_of of_read_fault same_cause _ _
+          c.in_err-names.field-0.0 c.in_err-names.ensures.reads c.in_err-names.ensures.frame
+          c.in_err-names.ensures.misused;
+    })
 
 pub returns : goal.returns
 returns g c =
-    record { step = files_read cause_of of_read_fault same_cause _ _ c.in_ok-names.names c.in_ok-names.ensures.reads c.in_ok-names.ensures.frame c.in_ok-names.ensures.misused }
+    record {
+      step = files_read cause_of of_read_fault same_cause _ _ c.in_ok-names.names
+          c.in_ok-names.ensures.reads c.in_ok-names.ensures.frame c.in_ok-names.ensures.misused;
+    }

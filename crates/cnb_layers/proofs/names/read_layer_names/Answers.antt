@@ -16,9 +16,15 @@ pub returns-in_err-layers : goal.returns-in_err-layers
 unfolding reads_layer_names
 returns-in_err-layers g c =
     let exit = err_from_is_err_and c.from_residual-in_err-layers.result c.from_residual-in_err-layers.ensures.1 in
-    rw (exit.1, exit.2) (record { step = went _ _ _ _ _ _ _ c.in_ok-names.ensures.step ((no_memory _ _ _ (Store stored.Memory) refl)) })
+    rw (exit.1, exit.2) (record {
+      step = went _ _ _ _ _ _ _ c.in_ok-names.ensures.step
+          ((no_memory _ _ _ (Store stored.Memory) refl));
+    })
 
 pub returns : goal.returns
 unfolding reads_layer_names
 returns g c =
-    record { step = went _ _ _ _ _ _ _ c.in_ok-names.ensures.step ((given _ _ _ _ (ap Ok (sym c.in_ok-layers.ensures)))) }
+    record {
+      step = went _ _ _ _ _ _ _ c.in_ok-names.ensures.step
+          ((given _ _ _ _ (ap Ok (sym c.in_ok-layers.ensures))));
+    }

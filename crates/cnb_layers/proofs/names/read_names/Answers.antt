@@ -18,9 +18,15 @@ returns-in_err-kind g c =
 pub returns-in-Absent : goal.returns-in-Absent
 unfolding reads_names yields
 returns-in-Absent g c =
-    record { step = went _ _ _ _ _ _ _ c.in_ok-kind.ensures.step (same_for (λ what. lists_unless (is_absent what) c.args.folder.now) _ _ _ _ _ (sym c.in-Absent.is) (c.new.ensures, refl)) }
+    record {
+      step = went _ _ _ _ _ _ _ c.in_ok-kind.ensures.step
+          (same_for (λ what. lists_unless (is_absent what) c.args.folder.now) _ _ _ _ _ (sym c.in-Absent.is)
+          (c.new.ensures, refl));
+    }
 
-stands : (what : Kind) → (what ≡ kind.Folder) ⊎ (((exec : Bool) × (len : ℕ) × (what ≡ kind.File exec len)) ⊎ ((what ≡ kind.Link) ⊎ (what ≡ kind.Odd))) → is_absent what ≡ false
+stands : (what : Kind) → (what ≡ kind.Folder)
+    ⊎ (((exec : Bool) × (len : ℕ) × (what ≡ kind.File exec len)) ⊎ ((what ≡ kind.Link) ⊎ (what ≡ kind.Odd)))
+    → is_absent what ≡ false
 stands what (inl h) = ap is_absent h
 stands what (inr (inl (exec, len, h))) = ap is_absent h
 stands what (inr (inr (inl h))) = ap is_absent h
@@ -29,4 +35,8 @@ stands what (inr (inr (inr h))) = ap is_absent h
 pub returns-in-Folder : goal.returns-in-Folder
 unfolding reads_names
 returns-in-Folder g c =
-    record { step = went _ _ _ _ _ _ _ c.in_ok-kind.ensures.step (same_for (λ absent. lists_unless absent c.args.folder.now) _ _ _ _ _ (sym (stands _ c.in-Folder.is)) c.list.ensures.step) }
+    record {
+      step = went _ _ _ _ _ _ _ c.in_ok-kind.ensures.step
+          (same_for (λ absent. lists_unless absent c.args.folder.now) _ _ _ _ _
+          (sym (stands _ c.in-Folder.is)) c.list.ensures.step);
+    }

@@ -9,5 +9,6 @@ use Rattle.cnb_layers.proofs.patterns.parse_all.Given as goal
 -- the texts from here on are the rest of all
 abbrev pub invariant-loop-text : goal.invariant-loop-text
 invariant-loop-text l =
-    (outside : Seen) (result : Result (List (List Item)) ExportFault) → for_each (adds_pattern l.id) (drop l.text-index l.texts) l.patterns outside result outside
+    (outside : Seen) (result : Result (List (List Item)) ExportFault)
+    → for_each (adds_pattern l.id) (drop l.text-index l.texts) l.patterns outside result outside
     → for_each (adds_pattern l.id) l.texts [] outside result outside

@@ -13,4 +13,7 @@ returns-in_err-check_reused g c =
 
 pub returns : goal.returns
 unfolding reuses yields
-returns g c = record { step = went _ _ _ _ _ _ _ c.in_ok-check_reused.ensures.step (c.settled_as.ensures ∙ ap (settled_as (Some true)) c.digest_or-digest.ensures, refl) }
+returns g c = record {
+  step = went _ _ _ _ _ _ _ c.in_ok-check_reused.ensures.step
+      (c.settled_as.ensures ∙ ap (settled_as (Some true)) c.digest_or-digest.ensures, refl);
+}

@@ -27,7 +27,10 @@ returns-in_err-arch-clause-steps g c =
 
 pub returns-clause-steps : goal.returns-clause-steps
 unfolding makes_base
-returns-clause-steps g c = went _ _ _ _ _ _ _ c.in_ok-rows.ensures.steps (given _ _ _ _ (run_doc _ _ _ _ _ _ c.in_ok-os.ensures c.in_ok-arch.ensures c.new-env.ensures))
+returns-clause-steps g c = went _ _ _ _ _ _ _ c.in_ok-rows.ensures.steps
+    (given _ _ _ _ (run_doc _ _ _ _ _ _ c.in_ok-os.ensures c.in_ok-arch.ensures c.new-env.ensures))
 
 pub returns-clause-readable : goal.returns-clause-readable
-returns-clause-readable g c = λ is-os is-arch some. made_readable _ _ _ _ _ _ c.in_ok-os.ensures c.in_ok-arch.ensures c.new-env.ensures is-os is-arch (folders_filled _ _ _ _ _ some c.in_ok-rows.ensures.steps)
+returns-clause-readable g c = λ is-os is-arch some. made_readable _ _ _ _ _ _ c.in_ok-os.ensures
+    c.in_ok-arch.ensures c.new-env.ensures is-os is-arch
+    (folders_filled _ _ _ _ _ some c.in_ok-rows.ensures.steps)

@@ -15,8 +15,14 @@ pub returns-in_err-push : goal.returns-in_err-push
 unfolding puts_next
 returns-in_err-push g c =
     let exit = err_from_is_err_and c.from_residual-in_err-push.result c.from_residual-in_err-push.ensures.1 in
-    rw (exit.1, exit.2) (record { step = (went _ _ _ _ _ _ _ c.in_ok-digest.ensures.steps (no_memory _ _ _ Memory refl)) })
+    rw (exit.1, exit.2) (record {
+      step = (went _ _ _ _ _ _ _ c.in_ok-digest.ensures.steps
+          (no_memory _ _ _ Memory refl));
+    })
 
 pub returns : goal.returns
 unfolding puts_next
-returns g c = record { step = went _ _ _ _ _ _ _ c.in_ok-digest.ensures.steps (given _ _ _ _ (ap Ok (sym c.in_ok-push.ensures.ok))) }
+returns g c = record {
+  step = went _ _ _ _ _ _ _ c.in_ok-digest.ensures.steps
+      (given _ _ _ _ (ap Ok (sym c.in_ok-push.ensures.ok)));
+}

@@ -12,7 +12,10 @@ returns-in_err-base-clause-steps g c =
 
 pub returns-clause-steps : goal.returns-clause-steps
 unfolding rebases_on
-returns-clause-steps g c = went _ _ _ _ _ _ _ (mapped _ _ _ _ _ c.in_ok-base.ensures.step) (put_so c.args.image.now c.rebased.new.image c.args.run.now c.in_ok-base.base c.rebased.result _ c.rebased.ensures.answer c.rebased.ensures.cause)
+returns-clause-steps g c = went _ _ _ _ _ _ _ (mapped _ _ _ _ _ c.in_ok-base.ensures.step)
+    (put_so c.args.image.now c.rebased.new.image c.args.run.now c.in_ok-base.base c.rebased.result _
+    c.rebased.ensures.answer c.rebased.ensures.cause)
 
 pub returns-clause-readable : goal.returns-clause-readable
-returns-clause-readable g c = put_readable c.args.image.now c.rebased.new.image c.args.run.now c.in_ok-base.base c.rebased.result c.named.ensures c.in_ok-base.ensures.readable c.rebased.ensures.answer
+returns-clause-readable g c = put_readable c.args.image.now c.rebased.new.image c.args.run.now c.in_ok-base.base
+    c.rebased.result c.named.ensures c.in_ok-base.ensures.readable c.rebased.ensures.answer

@@ -16,11 +16,18 @@ returns-in_err-text g c =
 pub returns-in_err-save_image : goal.returns-in_err-save_image
 unfolding saves_rebased
 returns-in_err-save_image g c =
-    let exit = err_from_is_err_and c.from_residual-in_err-save_image.result c.from_residual-in_err-save_image.ensures.1 in
-    rw (exit.1, exit.2) (record { steps = went _ _ _ _ _ _ _ (given _ _ _ _ (ap Ok (sym c.in_ok-text.ensures))) (ended _ _ _ _ _ (mapped_fault _ _ _ _ _ (written_readable _ _ _ _ _ _ c.requires.readable c.in_err-save_image.ensures.step))) })
+    let exit = err_from_is_err_and c.from_residual-in_err-save_image.result
+    c.from_residual-in_err-save_image.ensures.1 in
+    rw (exit.1, exit.2) (record {
+      steps = went _ _ _ _ _ _ _ (given _ _ _ _ (ap Ok (sym c.in_ok-text.ensures)))
+          (ended _ _ _ _ _ (mapped_fault _ _ _ _ _ (written_readable _ _ _ _ _ _ c.requires.readable
+          c.in_err-save_image.ensures.step)));
+    })
 
 pub returns : goal.returns
 unfolding saves_rebased
 returns g c = record {
-  steps = went _ _ _ _ _ _ _ (given _ _ _ _ (ap Ok (sym c.in_ok-text.ensures))) (went _ _ _ _ _ _ _ (mapped _ _ _ _ _ (written_readable _ _ _ _ _ _ c.requires.readable c.in_ok-save_image.ensures.step)) (yielded RebaseFault _ _));
+  steps = went _ _ _ _ _ _ _ (given _ _ _ _ (ap Ok (sym c.in_ok-text.ensures)))
+      (went _ _ _ _ _ _ _ (mapped _ _ _ _ _ (written_readable _ _ _ _ _ _ c.requires.readable
+      c.in_ok-save_image.ensures.step)) (yielded RebaseFault _ _));
 }

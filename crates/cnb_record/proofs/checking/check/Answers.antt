@@ -15,7 +15,8 @@ unfolding checks
 returns-clause-steps g c = went _ _ _ _ _ _ _ c.in_ok-proved.ensures.step c.compare.ensures.step
 
 pub returns-in_err-proved-clause-outcome : goal.returns-in_err-proved-clause-outcome
-returns-in_err-proved-clause-outcome g c = comes_to_check c.args.options.now _ _ _ (returns-in_err-proved-clause-steps g c)
+returns-in_err-proved-clause-outcome g c = comes_to_check c.args.options.now _ _ _
+    (returns-in_err-proved-clause-steps g c)
 
 pub returns-clause-outcome : goal.returns-clause-outcome
 returns-clause-outcome g c = comes_to_check c.args.options.now _ _ _ (returns-clause-steps g c)

@@ -19,4 +19,5 @@ returns-in_err-found g c =
 
 pub returns : goal.returns
 unfolding compares_group matches reads_group
-returns g c = rw (sym c.in_ok-path.ensures) (record { step = went _ _ _ _ _ _ _ (c.in_ok-found.ensures.step) (refl, c.match_group.ensures) })
+returns g c = rw (sym c.in_ok-path.ensures) (record
+    { step = went _ _ _ _ _ _ _ (c.in_ok-found.ensures.step) (refl, c.match_group.ensures) })

@@ -17,8 +17,17 @@ pub returns-in_err-found : goal.returns-in_err-found
 unfolding compares_plan matches
 returns-in_err-found g c =
     let exit = err_from_is_err_and c.from_residual-in_err-found.result c.from_residual-in_err-found.ensures.1 in
-    rw (exit.1, exit.2, sym c.in_ok-path.ensures) (record { step = ended _ _ _ _ _ (mapped_fault _ _ _ _ _ (read_framed read_cause _ _ _ c.in_err-found.ensures.reads c.in_err-found.ensures.frame c.in_err-found.ensures.misused)) })
+    rw (exit.1, exit.2, sym c.in_ok-path.ensures)
+    (record {
+      step = ended _ _ _ _ _ (mapped_fault _ _ _ _ _
+          (read_framed read_cause _ _ _ c.in_err-found.ensures.reads c.in_err-found.ensures.frame
+          c.in_err-found.ensures.misused));
+    })
 
 pub returns : goal.returns
 unfolding compares_plan matches
-returns g c = rw (sym c.in_ok-path.ensures) (record { step = went _ _ _ _ _ _ _ (mapped _ _ _ _ _ (read_framed read_cause _ _ _ c.in_ok-found.ensures.reads c.in_ok-found.ensures.frame c.in_ok-found.ensures.misused)) (refl, c.match_plan.ensures) })
+returns g c = rw (sym c.in_ok-path.ensures) (record {
+  step = went _ _ _ _ _ _ _ (mapped _ _ _ _ _
+      (read_framed read_cause _ _ _ c.in_ok-found.ensures.reads c.in_ok-found.ensures.frame
+      c.in_ok-found.ensures.misused)) (refl, c.match_plan.ensures);
+})

@@ -12,7 +12,9 @@ returns-in_err-found-clause-steps g c =
 
 pub returns-clause-steps : goal.returns-clause-steps
 unfolding finds
-returns-clause-steps g c = λ world. went _ _ _ _ _ _ _ (within_spawners _ world _ _ _ c.in_ok-found.ensures.step) (c.with_record.ensures.step _)
+returns-clause-steps g c = λ world. went _ _ _ _ _ _ _ (within_spawners _ world _ _ _ c.in_ok-found.ensures.step)
+    (c.with_record.ensures.step _)
 
 pub returns-clause-written : goal.returns-clause-written
-returns-clause-written g c = written_with c.with_record.result c.in_ok-found.found.chosen c.with_record.ensures.chosen c.in_ok-found.ensures.written
+returns-clause-written g c = written_with c.with_record.result c.in_ok-found.found.chosen
+    c.with_record.ensures.chosen c.in_ok-found.ensures.written

@@ -20,12 +20,15 @@ returns-in_err-found-clause-steps g c =
 
 pub returns-clause-steps : goal.returns-clause-steps
 unfolding detects_recorded
-returns-clause-steps g c = went _ _ _ _ _ _ _ c.in_ok-found.ensures.steps (within _ _ _ _ _ c.write_recorded.ensures.steps)
+returns-clause-steps g c = went _ _ _ _ _ _ _ c.in_ok-found.ensures.steps
+    (within _ _ _ _ _ c.write_recorded.ensures.steps)
 
 pub returns-in_err-found-clause-outcome : goal.returns-in_err-found-clause-outcome
 returns-in_err-found-clause-outcome g c =
-    comes_to_recorded Document c.args.options.now c.args.path.now c.args.env.now c.as_str-work.ensures.is_path c.requires.place _ _ _ (returns-in_err-found-clause-steps g c)
+    comes_to_recorded Document c.args.options.now c.args.path.now c.args.env.now c.as_str-work.ensures.is_path
+    c.requires.place _ _ _ (returns-in_err-found-clause-steps g c)
 
 pub returns-clause-outcome : goal.returns-clause-outcome
 returns-clause-outcome g c =
-    comes_to_recorded Document c.args.options.now c.args.path.now c.args.env.now c.as_str-work.ensures.is_path c.requires.place _ _ _ (returns-clause-steps g c)
+    comes_to_recorded Document c.args.options.now c.args.path.now c.args.env.now c.as_str-work.ensures.is_path
+    c.requires.place _ _ _ (returns-clause-steps g c)

@@ -11,21 +11,37 @@ pub returns-in_err-order-clause-step : goal.returns-in_err-order-clause-step
 unfolding reads_ordered
 returns-in_err-order-clause-step g c =
     let exit = err_from_is_err_and c.from_residual.result c.from_residual.ensures.1 in
-    rw (exit.1, exit.2) (ended _ _ _ _ _ (mapped_fault _ _ _ _ _ (read_framed read_cause _ _ _ c.in_err-order.ensures.reads c.in_err-order.ensures.frame c.in_err-order.ensures.misused)))
+    rw (exit.1, exit.2) (ended _ _ _ _ _ (mapped_fault _ _ _ _ _
+    (read_framed read_cause _ _ _ c.in_err-order.ensures.reads c.in_err-order.ensures.frame
+    c.in_err-order.ensures.misused)))
 
 pub returns-in_err-catalog-clause-step : goal.returns-in_err-catalog-clause-step
 unfolding reads_ordered
 returns-in_err-catalog-clause-step g c =
     let exit = err_from_is_err_and c.from_residual-in_err-catalog.result c.from_residual-in_err-catalog.ensures.1 in
-    rw (exit.1, exit.2) (went _ _ _ _ _ _ _ (mapped _ _ _ _ _ (read_framed read_cause _ _ _ c.in_ok-order.ensures.reads c.in_ok-order.ensures.frame c.in_ok-order.ensures.misused)) (ended _ _ _ _ _ (mapped_fault _ _ _ _ _ (read_framed read_cause _ _ _ c.in_err-catalog.ensures.reads c.in_err-catalog.ensures.frame c.in_err-catalog.ensures.misused))))
+    rw (exit.1, exit.2) (went _ _ _ _ _ _ _ (mapped _ _ _ _ _
+    (read_framed read_cause _ _ _ c.in_ok-order.ensures.reads c.in_ok-order.ensures.frame
+    c.in_ok-order.ensures.misused)) (ended _ _ _ _ _
+    (mapped_fault _ _ _ _ _ (read_framed read_cause _ _ _ c.in_err-catalog.ensures.reads
+    c.in_err-catalog.ensures.frame c.in_err-catalog.ensures.misused))))
 
 pub returns-in_err-check-clause-step : goal.returns-in_err-check-clause-step
 unfolding reads_ordered
 returns-in_err-check-clause-step g c =
     let exit = err_from_is_err_and c.from_residual-in_err-check.result c.from_residual-in_err-check.ensures.1 in
-    rw (exit.1, exit.2) (went _ _ _ _ _ _ _ (mapped _ _ _ _ _ (read_framed read_cause _ _ _ c.in_ok-order.ensures.reads c.in_ok-order.ensures.frame c.in_ok-order.ensures.misused)) (went _ _ _ _ _ _ _ (mapped _ _ _ _ _ (read_framed read_cause _ _ _ c.in_ok-catalog.ensures.reads c.in_ok-catalog.ensures.frame c.in_ok-catalog.ensures.misused)) (ended _ _ _ _ _ (mapped_fault _ _ _ _ _ (check_step _ _ _ c.in_err-check.ensures.answer)))))
+    rw (exit.1, exit.2) (went _ _ _ _ _ _ _ (mapped _ _ _ _ _
+    (read_framed read_cause _ _ _ c.in_ok-order.ensures.reads c.in_ok-order.ensures.frame
+    c.in_ok-order.ensures.misused)) (went _ _ _ _ _ _ _
+    (mapped _ _ _ _ _ (read_framed read_cause _ _ _ c.in_ok-catalog.ensures.reads
+    c.in_ok-catalog.ensures.frame c.in_ok-catalog.ensures.misused))
+    (ended _ _ _ _ _ (mapped_fault _ _ _ _ _ (check_step _ _ _ c.in_err-check.ensures.answer)))))
 
 pub returns-clause-step : goal.returns-clause-step
 unfolding reads_ordered
 returns-clause-step g c =
-    went _ _ _ _ _ _ _ (mapped _ _ _ _ _ (read_framed read_cause _ _ _ c.in_ok-order.ensures.reads c.in_ok-order.ensures.frame c.in_ok-order.ensures.misused)) (went _ _ _ _ _ _ _ (mapped _ _ _ _ _ (read_framed read_cause _ _ _ c.in_ok-catalog.ensures.reads c.in_ok-catalog.ensures.frame c.in_ok-catalog.ensures.misused)) (went _ _ _ _ _ _ _ (mapped _ _ _ _ _ (given _ _ _ _ c.in_ok-check.ensures.answer)) (yielded CheckRefusal _ _)))
+    went _ _ _ _ _ _ _ (mapped _ _ _ _ _ (read_framed read_cause _ _ _ c.in_ok-order.ensures.reads
+    c.in_ok-order.ensures.frame c.in_ok-order.ensures.misused))
+    (went _ _ _ _ _ _ _ (mapped _ _ _ _ _ (read_framed read_cause _ _ _ c.in_ok-catalog.ensures.reads
+    c.in_ok-catalog.ensures.frame c.in_ok-catalog.ensures.misused))
+    (went _ _ _ _ _ _ _ (mapped _ _ _ _ _ (given _ _ _ _ c.in_ok-check.ensures.answer))
+    (yielded CheckRefusal _ _)))

@@ -10,14 +10,30 @@ pub returns-in_err-group : goal.returns-in_err-group
 unfolding reads_group
 returns-in_err-group g c =
     let exit = err_from_is_err_and c.from_residual.result c.from_residual.ensures.1 in
-    rw (exit.1, exit.2) (record { step = ended _ _ _ _ _ (mapped_fault _ _ _ _ _ (read_framed read_cause _ _ _ c.in_err-group.ensures.reads c.in_err-group.ensures.frame c.in_err-group.ensures.misused)) })
+    rw (exit.1, exit.2) (record {
+      step = ended _ _ _ _ _
+          (mapped_fault _ _ _ _ _ (read_framed read_cause _ _ _ c.in_err-group.ensures.reads
+          c.in_err-group.ensures.frame c.in_err-group.ensures.misused));
+    })
 
 pub returns-in_err-check_apis : goal.returns-in_err-check_apis
 unfolding reads_group
 returns-in_err-check_apis g c =
-    let exit = err_from_is_err_and c.from_residual-in_err-check_apis.result c.from_residual-in_err-check_apis.ensures.1 in
-    rw (exit.1, exit.2) (record { step = went _ _ _ _ _ _ _ (mapped _ _ _ _ _ (read_framed read_cause _ _ _ c.in_ok-group.ensures.reads c.in_ok-group.ensures.frame c.in_ok-group.ensures.misused)) (ended _ _ _ _ _ (given_fault _ _ _ c.in_err-check_apis.field-0.0 c.in_err-check_apis.ensures.answer c.in_err-check_apis.ensures.cause)) })
+    let exit = err_from_is_err_and c.from_residual-in_err-check_apis.result
+    c.from_residual-in_err-check_apis.ensures.1 in
+    rw (exit.1, exit.2) (record {
+      step = went _ _ _ _ _ _ _
+          (mapped _ _ _ _ _ (read_framed read_cause _ _ _ c.in_ok-group.ensures.reads c.in_ok-group.ensures.frame
+          c.in_ok-group.ensures.misused)) (ended _ _ _ _ _
+          (given_fault _ _ _ c.in_err-check_apis.field-0.0 c.in_err-check_apis.ensures.answer
+          c.in_err-check_apis.ensures.cause));
+    })
 
 pub returns : goal.returns
 unfolding reads_group
-returns g c = record { step = went _ _ _ _ _ _ _ (mapped _ _ _ _ _ (read_framed read_cause _ _ _ c.in_ok-group.ensures.reads c.in_ok-group.ensures.frame c.in_ok-group.ensures.misused)) (went _ _ _ _ _ _ _ (given _ _ _ _ c.in_ok-check_apis.ensures.answer) (yielded CheckRefusal _ _)) }
+returns g c = record {
+  step = went _ _ _ _ _ _ _
+      (mapped _ _ _ _ _ (read_framed read_cause _ _ _ c.in_ok-group.ensures.reads c.in_ok-group.ensures.frame
+      c.in_ok-group.ensures.misused)) (went _ _ _ _ _ _ _ (given _ _ _ _ c.in_ok-check_apis.ensures.answer)
+      (yielded CheckRefusal _ _));
+}

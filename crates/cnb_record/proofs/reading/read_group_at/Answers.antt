@@ -15,17 +15,23 @@ pub returns-in_err-found-clause-reads : goal.returns-in_err-found-clause-reads
 unfolding needed_at
 returns-in_err-found-clause-reads g c =
     let exit = err_from_is_err_and c.from_residual.result c.from_residual.ensures.1 in
-    rw (exit.1, exit.2) (refused_where read_cause _ (λ (files : Tree). document_at files c.args.path.now) (λ (found : Option (List ℕ)) (files : Tree). needed group_in c.args.path.now found) _ c.in_err-found.ensures.reads)
+    rw (exit.1, exit.2) (refused_where read_cause _ (λ (files : Tree). document_at files c.args.path.now)
+    (λ (found : Option (List ℕ)) (files : Tree). needed group_in c.args.path.now found) _
+    c.in_err-found.ensures.reads)
 
 pub returns-in_err-group-clause-reads : goal.returns-in_err-group-clause-reads
 unfolding needed_at
 returns-in_err-group-clause-reads g c =
     let exit = err_from_is_err_and c.from_residual-in_err-group.result c.from_residual-in_err-group.ensures.1 in
-    rw (exit.1, exit.2) (read_then (λ (files : Tree). document_at files c.args.path.now) (needed group_in c.args.path.now) _ c.in_ok-found.found (Err _) c.in_ok-found.ensures.reads c.in_err-group.ensures.reads)
+    rw (exit.1, exit.2) (read_then (λ (files : Tree). document_at files c.args.path.now)
+    (needed group_in c.args.path.now) _ c.in_ok-found.found
+    (Err _) c.in_ok-found.ensures.reads c.in_err-group.ensures.reads)
 
 pub returns-clause-reads : goal.returns-clause-reads
 unfolding needed_at
-returns-clause-reads g c = read_then (λ (files : Tree). document_at files c.args.path.now) (needed group_in c.args.path.now) _ c.in_ok-found.found (Ok c.in_ok-group.group) c.in_ok-found.ensures.reads c.in_ok-group.ensures.reads
+returns-clause-reads g c = read_then (λ (files : Tree). document_at files c.args.path.now)
+    (needed group_in c.args.path.now) _ c.in_ok-found.found
+    (Ok c.in_ok-group.group) c.in_ok-found.ensures.reads c.in_ok-group.ensures.reads
 
 pub returns-in_err-group-clause-frame : goal.returns-in_err-group-clause-frame
 returns-in_err-group-clause-frame g c =

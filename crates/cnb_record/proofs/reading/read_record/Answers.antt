@@ -14,17 +14,24 @@ pub returns-in_err-found-clause-reads : goal.returns-in_err-found-clause-reads
 unfolding record_at
 returns-in_err-found-clause-reads g c =
     let exit = err_from_is_err_and c.from_residual.result c.from_residual.ensures.1 in
-    rw (exit.1, exit.2) (refused_where read_cause _ (λ (files : Tree). file_at 16777216 Record files c.args.path.now) (λ (found : Option (List ℕ)) (files : Tree). needed {A = List ℕ} Ok c.args.path.now found) _ c.in_err-found.ensures.reads)
+    rw (exit.1, exit.2) (refused_where read_cause _
+    (λ (files : Tree). file_at 16777216 Record files c.args.path.now)
+    (λ (found : Option (List ℕ)) (files : Tree). needed {A = List ℕ} Ok c.args.path.now found) _
+    c.in_err-found.ensures.reads)
 
 pub returns-in_err-bytes-clause-reads : goal.returns-in_err-bytes-clause-reads
 unfolding record_at
 returns-in_err-bytes-clause-reads g c =
     let exit = err_from_is_err_and c.from_residual-in_err-bytes.result c.from_residual-in_err-bytes.ensures.1 in
-    rw (exit.1, exit.2) (read_then (λ (files : Tree). file_at 16777216 Record files c.args.path.now) (needed {A = List ℕ} Ok c.args.path.now) _ c.in_ok-found.found (Err _) c.in_ok-found.ensures.reads c.in_err-bytes.ensures.reads)
+    rw (exit.1, exit.2) (read_then (λ (files : Tree). file_at 16777216 Record files c.args.path.now)
+    (needed {A = List ℕ} Ok c.args.path.now) _ c.in_ok-found.found
+    (Err _) c.in_ok-found.ensures.reads c.in_err-bytes.ensures.reads)
 
 pub returns-clause-reads : goal.returns-clause-reads
 unfolding record_at
-returns-clause-reads g c = read_then (λ (files : Tree). file_at 16777216 Record files c.args.path.now) (needed {A = List ℕ} Ok c.args.path.now) _ c.in_ok-found.found (Ok c.in_ok-bytes.bytes) c.in_ok-found.ensures.reads c.in_ok-bytes.ensures.reads
+returns-clause-reads g c = read_then (λ (files : Tree). file_at 16777216 Record files c.args.path.now)
+    (needed {A = List ℕ} Ok c.args.path.now) _ c.in_ok-found.found
+    (Ok c.in_ok-bytes.bytes) c.in_ok-found.ensures.reads c.in_ok-bytes.ensures.reads
 
 pub returns-in_err-bytes-clause-frame : goal.returns-in_err-bytes-clause-frame
 returns-in_err-bytes-clause-frame g c =

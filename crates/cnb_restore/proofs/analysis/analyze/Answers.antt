@@ -24,13 +24,22 @@ pub returns-in_err-run-clause-steps : goal.returns-in_err-run-clause-steps
 unfolding analyzes
 returns-in_err-run-clause-steps g c =
     let exit = err_from_is_err_and c.from_residual-in_err-run.result c.from_residual-in_err-run.ensures.1 in
-    rw (exit.1, exit.2) (went _ _ _ _ _ _ _ c.in_ok-image.ensures.step (went _ _ _ _ _ _ _ c.in_ok-known.ensures.step (no_memory _ _ _ Memory refl)))
+    rw (exit.1, exit.2) (went _ _ _ _ _ _ _ c.in_ok-image.ensures.step
+    (went _ _ _ _ _ _ _ c.in_ok-known.ensures.step (no_memory _ _ _ Memory refl)))
 
 pub returns-clause-steps : goal.returns-clause-steps
 unfolding analyzes
 returns-clause-steps g c =
-    let P : List ℕ → Result Analyzed RestoreFault = λ run. Ok (record { run = run; os = c.in_ok-image.image.os; arch = c.in_ok-image.image.arch; previous = c.in_ok-known.known }) in
-    went _ _ _ _ _ _ _ c.in_ok-image.ensures.step (went _ _ _ _ _ _ _ c.in_ok-known.ensures.step (given _ _ _ _ (ap P (sym c.in_ok-run.ensures))))
+    let P : List ℕ → Result Analyzed RestoreFault = λ run. Ok
+    (record {
+      run = run;
+      os = c.in_ok-image.image.os;
+      arch = c.in_ok-image.image.arch;
+      previous =
+          c.in_ok-known.known;
+    }) in
+    went _ _ _ _ _ _ _ c.in_ok-image.ensures.step
+    (went _ _ _ _ _ _ _ c.in_ok-known.ensures.step (given _ _ _ _ (ap P (sym c.in_ok-run.ensures))))
 
 pub returns-clause-named : goal.returns-clause-named
 returns-clause-named g c = run_named c.in_ok-image.image c.in_ok-image.ensures.readable

@@ -13,9 +13,17 @@ returns-in_err-remove g c =
 pub returns-in_err-make_folder : goal.returns-in_err-make_folder
 unfolding prepares_folder
 returns-in_err-make_folder g c =
-    let exit = err_from_is_err_and c.from_residual-in_err-make_folder.result c.from_residual-in_err-make_folder.ensures.1 in
-    rw (exit.1, exit.2) (record { step = went _ _ _ _ _ _ _ c.in_ok-remove.ensures.step (ended _ _ _ _ _ c.in_err-make_folder.ensures.step) })
+    let exit = err_from_is_err_and c.from_residual-in_err-make_folder.result
+    c.from_residual-in_err-make_folder.ensures.1 in
+    rw (exit.1, exit.2) (record {
+      step = went _ _ _ _ _ _ _ c.in_ok-remove.ensures.step
+          (ended _ _ _ _ _ c.in_err-make_folder.ensures.step);
+    })
 
 pub returns : goal.returns
 unfolding prepares_folder
-returns g c = record { step = went _ _ _ _ _ _ _ c.in_ok-remove.ensures.step (went _ _ _ _ _ _ _ c.in_ok-make_folder.ensures.step (stored_as _ _ _ _ _ _ c.kept_for.ensures c.write_store_document.ensures.step)) }
+returns g c = record {
+  step = went _ _ _ _ _ _ _ c.in_ok-remove.ensures.step
+      (went _ _ _ _ _ _ _ c.in_ok-make_folder.ensures.step
+      (stored_as _ _ _ _ _ _ c.kept_for.ensures c.write_store_document.ensures.step));
+}

@@ -17,10 +17,15 @@ returns-in_err-folder-clause-step g c =
 pub returns-in_err-prepare_folder-clause-step : goal.returns-in_err-prepare_folder-clause-step
 unfolding restores_buildpack
 returns-in_err-prepare_folder-clause-step g c =
-    let exit = err_from_is_err_and c.from_residual-in_err-prepare_folder.result c.from_residual-in_err-prepare_folder.ensures.1 in
-    rw (exit.1, exit.2) (ended _ _ _ _ _ (within _ _ _ _ _ (prepared_as _ _ _ _ _ _ _ _ c.in_ok-folder.ensures.path c.store_of.ensures c.in_err-prepare_folder.ensures.step)))
+    let exit = err_from_is_err_and c.from_residual-in_err-prepare_folder.result
+    c.from_residual-in_err-prepare_folder.ensures.1 in
+    rw (exit.1, exit.2) (ended _ _ _ _ _ (within _ _ _ _ _
+    (prepared_as _ _ _ _ _ _ _ _ c.in_ok-folder.ensures.path c.store_of.ensures
+    c.in_err-prepare_folder.ensures.step)))
 
 pub returns-clause-step : goal.returns-clause-step
 unfolding restores_buildpack
 returns-clause-step g c =
-    went _ _ _ _ _ _ _ (within _ _ _ _ _ (prepared_as _ _ _ _ _ _ _ _ c.in_ok-folder.ensures.path c.store_of.ensures c.in_ok-prepare_folder.ensures.step)) (rows_as _ _ _ _ _ _ _ _ c.in_ok-folder.ensures.path c.restore_rows.ensures.step)
+    went _ _ _ _ _ _ _ (within _ _ _ _ _ (prepared_as _ _ _ _ _ _ _ _ c.in_ok-folder.ensures.path
+    c.store_of.ensures c.in_ok-prepare_folder.ensures.step))
+    (rows_as _ _ _ _ _ _ _ _ c.in_ok-folder.ensures.path c.restore_rows.ensures.step)

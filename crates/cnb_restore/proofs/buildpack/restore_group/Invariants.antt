@@ -12,8 +12,12 @@ abbrev pub invariant-loop-row : goal.invariant-loop-row
 invariant-loop-row g l = record {
   step : (result : Result Restored RestoreFault) (new : WorldAndCaches)
       → restores_group l.layers l.sources (drop l.row-index l.group) l.so_far
-      (world_and_caches (seen g.W.World l.world) (caches_of (map (λ b. shelf_seen (goal.Shelf-dyn g (b.vtable, b.value)) b.value) l.caches.shelves.items) l.caches.places)) result new
+      (world_and_caches (seen g.W.World l.world) (caches_of
+      (map (λ b. shelf_seen (goal.Shelf-dyn g (b.vtable, b.value)) b.value) l.caches.shelves.items)
+      l.caches.places)) result new
       → restores_group l.layers l.sources l.group l.fn.restored
-      (world_and_caches (seen g.W.World l.fn.world) (caches_of (map (λ b. shelf_seen (goal.Shelf-dyn g (b.vtable, b.value)) b.value) l.fn.caches.shelves.items) l.fn.caches.places)) result new;
+      (world_and_caches (seen g.W.World l.fn.world)
+      (caches_of (map (λ b. shelf_seen (goal.Shelf-dyn g (b.vtable, b.value)) b.value)
+      l.fn.caches.shelves.items) l.fn.caches.places)) result new;
   count : length l.so_far.gone + length l.caches.places ≡ length l.fn.restored.gone + length l.fn.caches.places;
 }

@@ -24,5 +24,7 @@ pub returns-clause-step : goal.returns-clause-step
 unfolding restores_rows
 returns-clause-step g c =
     went _ _ _ _ _ _ _ (given _ _ _ _ refl) (layers_as _ _ _ _ _ _ _ _ _
-    (ap (map (λ (row : Bor LayerRow). row.now)) c.deref.ensures.value ∙ c.in_ok-app.ensures ∙ ap (rows_of c.args.id.now) c.layers_of.ensures)
-    (ap (map (λ (row : Bor LayerRow). row.now)) c.deref-2.ensures.value ∙ c.in_ok-cache.ensures ∙ ap (rows_of c.args.id.now) c.as_slice.ensures) c.restore_layers.ensures.step)
+    (ap (map (λ (row : Bor LayerRow). row.now)) c.deref.ensures.value ∙ c.in_ok-app.ensures
+    ∙ ap (rows_of c.args.id.now) c.layers_of.ensures)
+    (ap (map (λ (row : Bor LayerRow). row.now)) c.deref-2.ensures.value ∙ c.in_ok-cache.ensures
+    ∙ ap (rows_of c.args.id.now) c.as_slice.ensures) c.restore_layers.ensures.step)

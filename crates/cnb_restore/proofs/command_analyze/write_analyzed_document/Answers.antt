@@ -13,8 +13,30 @@ returns-in_err-bytes g c =
 
 pub returns-in_err-write_document : goal.returns-in_err-write_document
 returns-in_err-write_document g c =
-    let exit = err_from_is_err_and c.from_residual-in_err-write_document.result c.from_residual-in_err-write_document.ensures.1 in
-    rw (exit.1, exit.2) (record { step = write_refused g.W.World _ _ _ _ _ _ _ c.in_err-write_document.ensures.cause (subst (ReadsAsAnalyzed c.args.analyzed.now) (sym c.as_slice.ensures) c.in_ok-bytes.ensures) c.in_err-write_document.ensures.err c.in_err-write_document.ensures.runs c.in_err-write_document.ensures.misused (record { ends = write_ends _ _ c.in_err-write_document.ensures.cause; files = c.in_err-write_document.ensures.files; children = c.in_err-write_document.ensures.children }) })
+    let exit = err_from_is_err_and c.from_residual-in_err-write_document.result
+    c.from_residual-in_err-write_document.ensures.1 in
+    rw (exit.1, exit.2) (record {
+      step = write_refused g.W.World _ _ _ _ _ _ _
+          c.in_err-write_document.ensures.cause (subst (ReadsAsAnalyzed c.args.analyzed.now)
+          (sym c.as_slice.ensures) c.in_ok-bytes.ensures) c.in_err-write_document.ensures.err
+          c.in_err-write_document.ensures.runs c.in_err-write_document.ensures.misused
+          (record {
+            ends = write_ends _ _ c.in_err-write_document.ensures.cause;
+            files =
+                c.in_err-write_document.ensures.files;
+            children = c.in_err-write_document.ensures.children;
+          });
+    })
 
 pub returns : goal.returns
-returns g c = record { step = written_so g.W.World _ _ _ _ _ _ (subst (ReadsAsAnalyzed c.args.analyzed.now) (sym c.as_slice.ensures) c.in_ok-bytes.ensures) c.in_ok-write_document.ensures.ok c.in_ok-write_document.ensures.fit c.in_ok-write_document.ensures.runs c.in_ok-write_document.ensures.misused (record { ends = tt; files = c.in_ok-write_document.ensures.files; children = c.in_ok-write_document.ensures.children }) }
+returns g c = record {
+  step = written_so g.W.World _ _ _ _ _ _
+      (subst (ReadsAsAnalyzed c.args.analyzed.now) (sym c.as_slice.ensures) c.in_ok-bytes.ensures)
+      c.in_ok-write_document.ensures.ok c.in_ok-write_document.ensures.fit c.in_ok-write_document.ensures.runs
+      c.in_ok-write_document.ensures.misused (record {
+        ends = tt;
+        files = c.in_ok-write_document.ensures.files;
+        children =
+            c.in_ok-write_document.ensures.children;
+      });
+}

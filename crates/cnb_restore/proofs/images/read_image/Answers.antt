@@ -16,7 +16,16 @@ returns-in_err-path g c =
 pub returns-in_err-found : goal.returns-in_err-found
 returns-in_err-found g c =
     let exit = err_from_is_err_and c.from_residual-in_err-found.result c.from_residual-in_err-found.ensures.1 in
-    rw (exit.1, exit.2) (record { step = document_refused cause_of of_read_fault same_cause image_table_in (λ path. some_named c.args.name.now) _ c.in_ok-path.ensures c.in_err-found.ensures.reads c.in_err-found.ensures.frame c.in_err-found.ensures.misused })
+    rw (exit.1, exit.2) (record {
+      step = document_refused cause_of of_read_fault same_cause image_table_in
+          (λ path. some_named c.args.name.now) _ c.in_ok-path.ensures c.in_err-found.ensures.reads
+          c.in_err-found.ensures.frame c.in_err-found.ensures.misused;
+    })
 
 pub returns : goal.returns
-returns g c = record { step = document_read cause_of of_read_fault same_cause image_table_in (λ path. some_named c.args.name.now) c.in_ok-found.found _ c.in_ok-path.ensures c.in_ok-found.ensures.reads c.in_ok-found.ensures.frame c.in_ok-found.ensures.misused c.some_named.ensures.answer c.some_named.ensures.cause }
+returns g c = record {
+  step = document_read cause_of of_read_fault same_cause image_table_in
+      (λ path. some_named c.args.name.now) c.in_ok-found.found _ c.in_ok-path.ensures c.in_ok-found.ensures.reads
+      c.in_ok-found.ensures.frame c.in_ok-found.ensures.misused c.some_named.ensures.answer
+      c.some_named.ensures.cause;
+}

@@ -13,4 +13,7 @@ returns-in_err-place g c =
     rw (exit.1, exit.2) (record { step = not_laid _ _ _ _ })
 
 pub returns : goal.returns
-returns g c = record { step = laid_so _ _ _ _ _ _ _ _ _ c.in_ok-path.ensures.path c.in_ok-place.ensures c.laid.ensures c.write_tree.ensures.steps }
+returns g c = record {
+  step = laid_so _ _ _ _ _ _ _ _ _ c.in_ok-path.ensures.path c.in_ok-place.ensures
+      c.laid.ensures c.write_tree.ensures.steps;
+}

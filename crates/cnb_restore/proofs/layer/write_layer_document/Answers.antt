@@ -26,9 +26,39 @@ returns-in_err-name g c =
 pub returns-in_err-write_document : goal.returns-in_err-write_document
 unfolding writes_layer
 returns-in_err-write_document g c =
-    let exit = err_from_is_err_and c.from_residual-in_err-write_document.result c.from_residual-in_err-write_document.ensures.1 in
-    rw (exit.1, exit.2) (record { step = document_as c.args.folder.now c.as_str-2.result.now (document_name c.args.row.now.layer) (ReadsAsLayer c.args.row.now.meta) (seen g.W.World c.args.world.now) _ (seen g.W.World c.write_document.new.world) (c.as_str-2.ensures ∙ c.in_ok-name.ensures.name ∙ ap document_name c.as_str.ensures.text) (write_refused g.W.World cause_of (joined c.args.folder.now c.as_str-2.result.now) (ReadsAsLayer c.args.row.now.meta) c.as_slice.result.now _ _ _ c.in_err-write_document.ensures.cause (subst (ReadsAsLayer c.args.row.now.meta) (sym c.as_slice.ensures) c.in_ok-bytes.ensures) c.in_err-write_document.ensures.err c.in_err-write_document.ensures.runs c.in_err-write_document.ensures.misused (record { ends = write_ends _ _ c.in_err-write_document.ensures.cause; files = c.in_err-write_document.ensures.files; children = c.in_err-write_document.ensures.children })) })
+    let exit = err_from_is_err_and c.from_residual-in_err-write_document.result
+    c.from_residual-in_err-write_document.ensures.1 in
+    rw (exit.1, exit.2) (record {
+      step = document_as c.args.folder.now c.as_str-2.result.now
+          (document_name c.args.row.now.layer) (ReadsAsLayer c.args.row.now.meta)
+          (seen g.W.World c.args.world.now) _ (seen g.W.World c.write_document.new.world)
+          (c.as_str-2.ensures ∙ c.in_ok-name.ensures.name ∙ ap document_name c.as_str.ensures.text)
+          (write_refused g.W.World cause_of (joined c.args.folder.now c.as_str-2.result.now)
+          (ReadsAsLayer c.args.row.now.meta) c.as_slice.result.now _ _ _ c.in_err-write_document.ensures.cause
+          (subst (ReadsAsLayer c.args.row.now.meta) (sym c.as_slice.ensures) c.in_ok-bytes.ensures)
+          c.in_err-write_document.ensures.err c.in_err-write_document.ensures.runs
+          c.in_err-write_document.ensures.misused (record {
+            ends = write_ends _ _ c.in_err-write_document.ensures.cause;
+            files =
+                c.in_err-write_document.ensures.files;
+            children = c.in_err-write_document.ensures.children;
+          }));
+    })
 
 pub returns : goal.returns
 unfolding writes_layer
-returns g c = record { step = document_as c.args.folder.now c.as_str-2.result.now (document_name c.args.row.now.layer) (ReadsAsLayer c.args.row.now.meta) (seen g.W.World c.args.world.now) _ (seen g.W.World c.write_document.new.world) (c.as_str-2.ensures ∙ c.in_ok-name.ensures.name ∙ ap document_name c.as_str.ensures.text) (written_so g.W.World cause_of (joined c.args.folder.now c.as_str-2.result.now) (ReadsAsLayer c.args.row.now.meta) c.as_slice.result.now _ _ (subst (ReadsAsLayer c.args.row.now.meta) (sym c.as_slice.ensures) c.in_ok-bytes.ensures) c.in_ok-write_document.ensures.ok c.in_ok-write_document.ensures.fit c.in_ok-write_document.ensures.runs c.in_ok-write_document.ensures.misused (record { ends = tt; files = c.in_ok-write_document.ensures.files; children = c.in_ok-write_document.ensures.children })) }
+returns g c = record {
+  step = document_as c.args.folder.now c.as_str-2.result.now
+      (document_name c.args.row.now.layer) (ReadsAsLayer c.args.row.now.meta) (seen g.W.World c.args.world.now) _
+      (seen g.W.World c.write_document.new.world) (c.as_str-2.ensures ∙ c.in_ok-name.ensures.name
+      ∙ ap document_name c.as_str.ensures.text) (written_so g.W.World cause_of
+      (joined c.args.folder.now c.as_str-2.result.now) (ReadsAsLayer c.args.row.now.meta) c.as_slice.result.now _ _
+      (subst (ReadsAsLayer c.args.row.now.meta) (sym c.as_slice.ensures) c.in_ok-bytes.ensures)
+      c.in_ok-write_document.ensures.ok c.in_ok-write_document.ensures.fit c.in_ok-write_document.ensures.runs
+      c.in_ok-write_document.ensures.misused (record {
+        ends = tt;
+        files = c.in_ok-write_document.ensures.files;
+        children =
+            c.in_ok-write_document.ensures.children;
+      }));
+}

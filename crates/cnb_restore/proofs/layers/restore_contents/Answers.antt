@@ -16,9 +16,12 @@ pub returns-in_err-counted-clause-step : goal.returns-in_err-counted-clause-step
 unfolding restores_contents
 returns-in_err-counted-clause-step g c =
     let exit = err_from_is_err_and c.from_residual-in_err-counted.result c.from_residual-in_err-counted.ensures.1 in
-    rw (exit.1, exit.2) (went _ _ _ _ _ _ _ (within_caches _ _ _ _ _ c.in_ok-found.ensures.step) (ended _ _ _ _ _ (no_memory _ _ _ Memory refl)))
+    rw (exit.1, exit.2) (went _ _ _ _ _ _ _ (within_caches _ _ _ _ _ c.in_ok-found.ensures.step)
+    (ended _ _ _ _ _ (no_memory _ _ _ Memory refl)))
 
 pub returns-clause-step : goal.returns-clause-step
 unfolding restores_contents
 returns-clause-step g c =
-    went _ _ _ _ _ _ _ (within_caches _ _ _ _ _ c.in_ok-found.ensures.step) (went _ _ _ _ _ _ _ (given _ _ _ _ (ap Ok (sym c.in_ok-counted.ensures))) (c.restore_found.ensures.step _))
+    went _ _ _ _ _ _ _ (within_caches _ _ _ _ _ c.in_ok-found.ensures.step)
+    (went _ _ _ _ _ _ _ (given _ _ _ _ (ap Ok (sym c.in_ok-counted.ensures)))
+    (c.restore_found.ensures.step _))

@@ -16,9 +16,11 @@ pub returns-in_err-after-clause-step : goal.returns-in_err-after-clause-step
 unfolding restores_document
 returns-in_err-after-clause-step g c caches =
     let exit = err_from_is_err_and c.from_residual-in_err-after.result c.from_residual-in_err-after.ensures.1 in
-    rw (exit.1, exit.2) (went _ _ _ _ _ _ _ (within _ _ _ caches _ c.in_ok-write_layer_document.ensures.step) (no_memory _ _ _ Memory refl))
+    rw (exit.1, exit.2) (went _ _ _ _ _ _ _ (within _ _ _ caches _ c.in_ok-write_layer_document.ensures.step)
+    (no_memory _ _ _ Memory refl))
 
 pub returns-clause-step : goal.returns-clause-step
 unfolding restores_document
 returns-clause-step g c caches =
-    went _ _ _ _ _ _ _ (within _ _ _ caches _ c.in_ok-write_layer_document.ensures.step) (given _ _ _ _ (ap Ok (sym c.in_ok-after.ensures)))
+    went _ _ _ _ _ _ _ (within _ _ _ caches _ c.in_ok-write_layer_document.ensures.step)
+    (given _ _ _ _ (ap Ok (sym c.in_ok-after.ensures)))

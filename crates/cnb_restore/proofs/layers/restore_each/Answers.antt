@@ -9,12 +9,16 @@ pub returns-in_err-so_far-clause-step : goal.returns-in_err-so_far-clause-step
 unfolding restores_each
 returns-in_err-so_far-clause-step g c =
     let exit = err_from_is_err_and c.from_residual.result c.from_residual.ensures.1 in
-    rw (exit.1, exit.2) (c.loop-name.invariant.step _ _ (stops _ _ _ _ _ _ _ _ (text_below _ _ c.loop-name-test.true) (text_at c.args.names.now _ _ c.loop-name-test.true) c.in_err-so_far.ensures.step))
+    rw (exit.1, exit.2) (c.loop-name.invariant.step _ _
+    (stops _ _ _ _ _ _ _ _ (text_below _ _ c.loop-name-test.true)
+    (text_at c.args.names.now _ _ c.loop-name-test.true) c.in_err-so_far.ensures.step))
 
 pub loop-name-preserved : goal.loop-name-preserved
 unfolding restores_each
 loop-name-preserved g c = record {
-  step = λ result new h. c.loop-name.invariant.step result new (goes_on _ _ _ _ _ _ _ _ (text_below _ _ c.loop-name-test.true) (text_at c.args.names.now _ _ c.loop-name-test.true) c.in_ok-so_far.ensures.step result new h);
+  step = λ result new h. c.loop-name.invariant.step result new
+      (goes_on _ _ _ _ _ _ _ _ (text_below _ _ c.loop-name-test.true)
+      (text_at c.args.names.now _ _ c.loop-name-test.true) c.in_ok-so_far.ensures.step result new h);
   count = c.in_ok-so_far.ensures.count ∙ c.loop-name.invariant.count;
 }
 

@@ -13,4 +13,5 @@ returns-in_err-lay_contents-clause-step g c caches =
 pub returns-clause-step : goal.returns-clause-step
 unfolding restores_laid
 returns-clause-step g c caches =
-    went _ _ _ _ _ _ _ (within _ _ _ caches _ c.in_ok-lay_contents.ensures.step) (c.restore_document.ensures.step caches)
+    went _ _ _ _ _ _ _ (within _ _ _ caches _ c.in_ok-lay_contents.ensures.step)
+    (c.restore_document.ensures.step caches)

@@ -15,4 +15,6 @@ returns-in_err-names-clause-step g c =
 pub returns-clause-step : goal.returns-clause-step
 unfolding restores_layers
 returns-clause-step g c =
-    went _ _ _ _ _ _ _ (given _ _ _ _ refl) (each_as _ _ _ _ _ _ _ _ _ (ap (map (λ (name : Bor (List ℕ)). name.now)) c.deref.ensures.value ∙ c.in_ok-names.ensures) c.restore_each.ensures.step)
+    went _ _ _ _ _ _ _ (given _ _ _ _ refl) (each_as _ _ _ _ _ _ _ _ _
+    (ap (map (λ (name : Bor (List ℕ)). name.now)) c.deref.ensures.value ∙ c.in_ok-names.ensures)
+    c.restore_each.ensures.step)

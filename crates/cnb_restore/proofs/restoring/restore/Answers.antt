@@ -13,12 +13,19 @@ pub returns-in_err-previous : goal.returns-in_err-previous
 unfolding restores
 returns-in_err-previous g c =
     let exit = err_from_is_err_and c.from_residual.result c.from_residual.ensures.1 in
-    rw (exit.1, exit.2) (record { steps = ended _ _ _ _ _ (within _ _ _ _ _ (previous_as c.args.store.now _ _ (seen g.W.World c.args.world.now) (Err c.in_err-previous.field-0.0) (seen g.W.World c.read_previous.new.world) c.as_ref.ensures.value c.in_err-previous.ensures.step)) })
+    rw (exit.1, exit.2) (record {
+      steps = ended _ _ _ _ _
+          (within _ _ _ _ _ (previous_as c.args.store.now _ _ (seen g.W.World c.args.world.now)
+          (Err c.in_err-previous.field-0.0) (seen g.W.World c.read_previous.new.world) c.as_ref.ensures.value
+          c.in_err-previous.ensures.step));
+    })
 
 pub returns : goal.returns
 unfolding restores restores_from
 returns g c =
     record {
-      steps = went _ _ _ _ _ _ _ (within _ _ _ _ _ (previous_as c.args.store.now _ _ (seen g.W.World c.args.world.now) (Ok c.in_ok-previous.previous) (seen g.W.World c.read_previous.new.world) c.as_ref.ensures.value c.in_ok-previous.ensures.step))
+      steps = went _ _ _ _ _ _ _ (within _ _ _ _ _ (previous_as c.args.store.now _ _
+          (seen g.W.World c.args.world.now) (Ok c.in_ok-previous.previous)
+          (seen g.W.World c.read_previous.new.world) c.as_ref.ensures.value c.in_ok-previous.ensures.step))
           (group_from _ _ _ _ _ _ _ c.as_slice.ensures c.restore_from.ensures.steps);
     }

@@ -16,12 +16,16 @@ pub returns-in_err-restored : goal.returns-in_err-restored
 unfolding restores_from
 returns-in_err-restored g c =
     let exit = err_from_is_err_and c.from_residual-in_err-restored.result c.from_residual-in_err-restored.ensures.1 in
-    rw (exit.1, exit.2) (record { steps = went _ _ _ _ _ _ _ (within_caches _ _ _ _ _ c.in_ok-rows.ensures.step) (ended _ _ _ _ _ (no_memory _ _ _ Memory refl)) })
+    rw (exit.1, exit.2) (record {
+      steps = went _ _ _ _ _ _ _ (within_caches _ _ _ _ _ c.in_ok-rows.ensures.step)
+          (ended _ _ _ _ _ (no_memory _ _ _ Memory refl));
+    })
 
 pub returns : goal.returns
 unfolding restores_from
 returns g c =
     record {
-      steps = went _ _ _ _ _ _ _ (within_caches _ _ _ _ _ c.in_ok-rows.ensures.step) (went _ _ _ _ _ _ _ (given _ _ _ _ (ap Ok (sym c.in_ok-restored.ensures)))
+      steps = went _ _ _ _ _ _ _ (within_caches _ _ _ _ _ c.in_ok-rows.ensures.step)
+          (went _ _ _ _ _ _ _ (given _ _ _ _ (ap Ok (sym c.in_ok-restored.ensures)))
           c.restore_group.ensures.step);
     }

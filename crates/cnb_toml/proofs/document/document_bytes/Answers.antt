@@ -9,4 +9,5 @@ pub returns-in-Ok : goal.returns-in-Ok
 returns-in-Ok c = λ within.
     let text = c.in-Ok.text in
     ap document_in (c.from_vec.ensures ∙ ap (λ v. v.items) c.into_bytes.ensures.value)
-    ∙ cond-true _ _ _ (is_text (string_bytes text) (IsUtf8-string_bytes text)) ∙ ap or_not_toml (c.in-Ok.ensures.reads_back within)
+    ∙ cond-true _ _ _ (is_text (string_bytes text) (IsUtf8-string_bytes text))
+    ∙ ap or_not_toml (c.in-Ok.ensures.reads_back within)

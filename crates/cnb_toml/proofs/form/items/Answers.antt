@@ -7,4 +7,6 @@ loop-place-preserved g c =
     let values = c.args.values.now.items in
     let same = c.deref-value-items.ensures.value in
     let inside : c.loop-place.place < length values = omega (arith, ap length same) in
-    rw c.in_ok-push.ensures.ok (read_on-ok g.F.Form.value_of c.loop-place.items c.loop-place.place values c.value-item.result c.in_ok-item.field-0 inside (rw same at c.value-item.is) c.in_ok-item.ensures ∙ c.loop-place.invariant)
+    rw c.in_ok-push.ensures.ok (read_on-ok g.F.Form.value_of c.loop-place.items c.loop-place.place values
+    c.value-item.result c.in_ok-item.field-0 inside (rw same at c.value-item.is) c.in_ok-item.ensures
+    ∙ c.loop-place.invariant)

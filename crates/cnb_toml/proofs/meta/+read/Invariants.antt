@@ -7,8 +7,10 @@ use Rattle.cnb_toml.proofs.meta.+read.Given as goal
 
 abbrev pub invariant-read_items-loop-place : goal.invariant-read_items-loop-place
 invariant-read_items-loop-place l =
-    items_at l.depth 0 (items_view l.item-items) ≡ joined l.list (items_at l.depth l.place (items_view (drop l.place l.item-items)))
+    items_at l.depth 0 (items_view l.item-items) ≡ joined l.list
+    (items_at l.depth l.place (items_view (drop l.place l.item-items)))
 
 abbrev pub invariant-read_members-loop-key : goal.invariant-read_members-loop-key
 invariant-read_members-loop-key l =
-    members_at l.depth (members_view l.members.entries) ≡ joined l.entries (plain_at l.depth (members_view l.key-iterator))
+    members_at l.depth (members_view l.members.entries) ≡ joined l.entries
+    (plain_at l.depth (members_view l.key-iterator))

@@ -10,4 +10,5 @@ invariant-write_list-loop-meta l = map view l.items.items ≡ map data_of (take 
 
 abbrev pub invariant-write_table-loop-entry : goal.invariant-write_table-loop-entry
 invariant-write_table-loop-entry l =
-    put_all (map entry_of (drop l.entry-index l.entries)) (members_view l.table.entries) ≡ put_all (map entry_of l.entries) no_members
+    put_all (map entry_of (drop l.entry-index l.entries)) (members_view l.table.entries)
+    ≡ put_all (map entry_of l.entries) no_members

@@ -7,4 +7,6 @@ use Rattle.cnb_words.proofs.export.export_in.Goals as goal
 pub returns-in_err-options-clause-reads : goal.returns-in_err-options-clause-reads
 returns-in_err-options-clause-reads c =
     let exit = err_from_is_err_and c.from_residual.result c.from_residual.ensures.1 in
-    rw (exit.1, exit.2) (refused_words (codes "store" ∷ codes "work" ∷ codes "layers" ∷ codes "app" ∷ codes "launcher" ∷ codes "image" ∷ []) (codes "cache" ∷ []) (map string_bytes c.args.words.now) export_in _ (λ options e. rw e refl) c.in_err-options.ensures.refused)
+    rw (exit.1, exit.2) (refused_words (codes "store" ∷ codes "work" ∷ codes "layers" ∷ codes "app"
+    ∷ codes "launcher" ∷ codes "image" ∷ []) (codes "cache" ∷ [])
+    (map string_bytes c.args.words.now) export_in _ (λ options e. rw e refl) c.in_err-options.ensures.refused)

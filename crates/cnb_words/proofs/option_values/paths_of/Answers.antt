@@ -6,8 +6,10 @@ use Rattle.cnb_words.proofs.option_values.paths_of.Goals as goal
 
 pub returns-in-Some-clause-reads : goal.returns-in-Some-clause-reads
 returns-in-Some-clause-reads c =
-    subst (AreReadAs c.paths_in.result) (ap paths_in c.in-Some.ensures ∙ paths_by_name (dashed c.args.name.now) c.args.options.now) c.paths_in.ensures.reads
+    subst (AreReadAs c.paths_in.result) (ap paths_in c.in-Some.ensures
+    ∙ paths_by_name (dashed c.args.name.now) c.args.options.now) c.paths_in.ensures.reads
 
 pub returns-in-None-clause-reads : goal.returns-in-None-clause-reads
 returns-in-None-clause-reads c =
-    sym (paths_by_name (dashed c.args.name.now) c.args.options.now) ∙ ap paths_in (sym c.in-None.ensures) ∙ ap Some (sym c.new.ensures)
+    sym (paths_by_name (dashed c.args.name.now) c.args.options.now) ∙ ap paths_in (sym c.in-None.ensures)
+    ∙ ap Some (sym c.new.ensures)

@@ -7,4 +7,5 @@ abbrev pub invariant-loop-name : goal.invariant-loop-name
 invariant-loop-name l = app_of l.command ≡ reader (map (λ name. name.now) (take l.name-index l.once)) []
 
 abbrev pub invariant-loop-name-2 : goal.invariant-loop-name-2
-invariant-loop-name-2 l = app_of l.command ≡ reader (map (λ name. name.now) l.once) (map (λ name. name.now) (take l.name-index l.often))
+invariant-loop-name-2 l = app_of l.command ≡ reader (map (λ name. name.now) l.once)
+    (map (λ name. name.now) (take l.name-index l.often))

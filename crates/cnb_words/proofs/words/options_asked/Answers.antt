@@ -7,4 +7,6 @@ use Rattle.steps.specs.Causes.{IsAnswer}
 
 pub returns-clause-words : goal.returns-clause-words
 returns-clause-words c =
-    subst (IsAnswer cause_of c.phase_asked.result) (phase_law c.args.command.now (options_in (map string_bytes c.args.words.now))) c.phase_asked.ensures.words
+    subst (IsAnswer cause_of c.phase_asked.result)
+    (phase_law c.args.command.now (options_in (map string_bytes c.args.words.now)))
+    c.phase_asked.ensures.words

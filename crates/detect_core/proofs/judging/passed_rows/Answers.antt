@@ -10,8 +10,11 @@ loop-member-preserved c =
     let says = kept_says c.args.target.now c.args.kept.now in
     elim c.match-options_of.branch [
       | in-Some+in_ok-passed_row+in_ok-push w ↦
-          w.rows-is ∙ (w.in_ok-push.ensures.ok ∙ passed_more says c.args.group.now c.loop-member.member-index c.member-item.result lt c.member-item.is
-          c.loop-member.rows w.in-Some.options.now w.in_ok-passed_row.field-0 w.in-Some.ensures w.in_ok-passed_row.ensures c.loop-member.invariant)
+          w.rows-is ∙ (w.in_ok-push.ensures.ok ∙ passed_more says c.args.group.now c.loop-member.member-index
+          c.member-item.result lt c.member-item.is
+          c.loop-member.rows w.in-Some.options.now w.in_ok-passed_row.field-0 w.in-Some.ensures
+          w.in_ok-passed_row.ensures c.loop-member.invariant)
       | in_default w ↦
-          w.rows-is ∙ failed_more says c.args.group.now c.loop-member.member-index c.member-item.result lt c.member-item.is c.loop-member.rows w.in_default.ensures c.loop-member.invariant
+          w.rows-is ∙ failed_more says c.args.group.now c.loop-member.member-index c.member-item.result lt
+          c.member-item.is c.loop-member.rows w.in_default.ensures c.loop-member.invariant
     ]

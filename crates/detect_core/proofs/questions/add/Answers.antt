@@ -9,10 +9,14 @@ use Rattle.detect_core.proofs.questions.add.Goals as goal
 
 pub returns-then-was_met-clause-keys : goal.returns-then-was_met-clause-keys
 returns-then-was_met-clause-keys c =
-    adds_none (λ (m : Member). m.key) (keys_of c.args.kept.now ++ c.args.asked.now.keys) c.args.member.now c.args.asked.now.keys
-    (ap (λ ks. list_any (same_key c.args.member.now.key) (keys_of c.args.kept.now ++ ks)) (sym c.as_slice.ensures) ∙ (sym c.was_met.ensures ∙ c.if-was_met.true))
+    adds_none (λ (m : Member). m.key) (keys_of c.args.kept.now ++ c.args.asked.now.keys) c.args.member.now
+    c.args.asked.now.keys
+    (ap (λ ks. list_any (same_key c.args.member.now.key) (keys_of c.args.kept.now ++ ks)) (sym c.as_slice.ensures)
+    ∙ (sym c.was_met.ensures ∙ c.if-was_met.true))
 
 pub returns-then-was_met-clause-jobs : goal.returns-then-was_met-clause-jobs
 returns-then-was_met-clause-jobs c =
-    adds_none (detect_job c.args.frame.now) (keys_of c.args.kept.now ++ c.args.asked.now.keys) c.args.member.now c.args.asked.now.jobs
-    (ap (λ ks. list_any (same_key c.args.member.now.key) (keys_of c.args.kept.now ++ ks)) (sym c.as_slice.ensures) ∙ (sym c.was_met.ensures ∙ c.if-was_met.true))
+    adds_none (detect_job c.args.frame.now) (keys_of c.args.kept.now ++ c.args.asked.now.keys) c.args.member.now
+    c.args.asked.now.jobs
+    (ap (λ ks. list_any (same_key c.args.member.now.key) (keys_of c.args.kept.now ++ ks)) (sym c.as_slice.ensures)
+    ∙ (sym c.was_met.ensures ∙ c.if-was_met.true))

@@ -15,16 +15,24 @@ loop-member-preserved c =
     let known = keys_of c.args.kept.now in
     let fit = is_fit c.args.frame.now.target in
     record {
-      keys = more_unmet (λ (m : Member). m.key) fit known c.args.group.now c.loop-member.member-index c.member-item.result c.loop-member.asked.keys c.loop-member.asked.keys c.add_fitting.new.asked.keys
-          lt c.member-item.is c.loop-member.invariant.keys c.loop-member.invariant.keys c.in_ok-add_fitting.ensures.keys;
-      jobs = more_unmet (detect_job c.args.frame.now) fit known c.args.group.now c.loop-member.member-index c.member-item.result c.loop-member.asked.keys c.loop-member.asked.jobs c.add_fitting.new.asked.jobs
-          lt c.member-item.is c.loop-member.invariant.keys c.loop-member.invariant.jobs c.in_ok-add_fitting.ensures.jobs;
+      keys = more_unmet (λ (m : Member). m.key) fit known c.args.group.now c.loop-member.member-index
+          c.member-item.result c.loop-member.asked.keys c.loop-member.asked.keys c.add_fitting.new.asked.keys
+          lt c.member-item.is c.loop-member.invariant.keys c.loop-member.invariant.keys
+          c.in_ok-add_fitting.ensures.keys;
+      jobs = more_unmet (detect_job c.args.frame.now) fit known c.args.group.now c.loop-member.member-index
+          c.member-item.result c.loop-member.asked.keys c.loop-member.asked.jobs c.add_fitting.new.asked.jobs
+          lt c.member-item.is c.loop-member.invariant.keys c.loop-member.invariant.jobs
+          c.in_ok-add_fitting.ensures.jobs;
     }
 
 pub returns-clause-keys : goal.returns-clause-keys
 returns-clause-keys c =
-    c.loop-member.invariant.keys ∙ ap (λ ms. map (λ (m : Member). m.key) (unmet (keys_of c.args.kept.now) (filter (is_fit c.args.frame.now.target) ms))) (take_all c.loop-member.member-index c.args.group.now (omega arith))
+    c.loop-member.invariant.keys ∙ ap (λ ms. map (λ (m : Member). m.key)
+    (unmet (keys_of c.args.kept.now) (filter (is_fit c.args.frame.now.target) ms)))
+    (take_all c.loop-member.member-index c.args.group.now (omega arith))
 
 pub returns-clause-jobs : goal.returns-clause-jobs
 returns-clause-jobs c =
-    c.loop-member.invariant.jobs ∙ ap (λ ms. map (detect_job c.args.frame.now) (unmet (keys_of c.args.kept.now) (filter (is_fit c.args.frame.now.target) ms))) (take_all c.loop-member.member-index c.args.group.now (omega arith))
+    c.loop-member.invariant.jobs ∙ ap (λ ms. map (detect_job c.args.frame.now)
+    (unmet (keys_of c.args.kept.now) (filter (is_fit c.args.frame.now.target) ms)))
+    (take_all c.loop-member.member-index c.args.group.now (omega arith))

@@ -16,10 +16,13 @@ returns-clause-asked g c = rw c.without_answers.ensures c.detect_recorded-found.
 pub returns-clause-written : goal.returns-clause-written
 returns-clause-written g c =
     rw c.without_answers.ensures
-    (ok_chosen (λ (chosen : Chosen). IsTrue (is_group_doc chosen.group) × IsTrue (is_plan_doc chosen.plan)) c.detect_recorded-found.result c.detect_recorded-found.ensures.written)
+    (ok_chosen (λ (chosen : Chosen). IsTrue (is_group_doc chosen.group) × IsTrue (is_plan_doc chosen.plan))
+    c.detect_recorded-found.result c.detect_recorded-found.ensures.written)
 
 pub returns-clause-faults : goal.returns-clause-faults
 returns-clause-faults g c =
     rw c.without_answers.ensures
-    (chosen_counts end_cause c.detect_recorded-found.result (faults_of (spawners_seen g.S.Spawner c.args.spawners.now.items))
-    (faults_of (spawners_seen g.S.Spawner c.detect_recorded-found.new.spawners.items)) c.detect_recorded-found.ensures.faults)
+    (chosen_counts end_cause c.detect_recorded-found.result
+    (faults_of (spawners_seen g.S.Spawner c.args.spawners.now.items))
+    (faults_of (spawners_seen g.S.Spawner c.detect_recorded-found.new.spawners.items))
+    c.detect_recorded-found.ensures.faults)

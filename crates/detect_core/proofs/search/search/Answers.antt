@@ -18,12 +18,15 @@ returns-in_err-walk-clause-search g c =
     let r0 = spawners_seen g.S.Spawner c.args.spawners.now.items in
     err_result (IsRecordedSearch c.args.frame.now listed r0 r0) c.from_residual.result Memory c.from_residual.ensures.1
     (no_choice c.args.frame.now listed r0 r0 [] Memory
-    (stopped_by c.args.frame.now listed r0 r0 [] pool.Memory (stopped_next c.args.frame.now listed listed 0 r0 r0 [] [] false (search_start c.args.frame.now listed r0))))
+    (stopped_by c.args.frame.now listed r0 r0 [] pool.Memory
+    (stopped_next c.args.frame.now listed listed 0 r0 r0 [] [] false
+    (search_start c.args.frame.now listed r0))))
 
 pub returns-in_err-walk-clause-faults : goal.returns-in_err-walk-clause-faults
 returns-in_err-walk-clause-faults g c =
     let before = faults_of (spawners_seen g.S.Spawner c.args.spawners.now.items) in
-    err_result (λ r. CountsSpawners end_cause r before before) c.from_residual.result Memory c.from_residual.ensures.1 (stayed before before refl)
+    err_result (λ r. CountsSpawners end_cause r before before) c.from_residual.result Memory
+    c.from_residual.ensures.1 (stayed before before refl)
 
 pub search_groups-requires-clause-within : goal.search_groups-requires-clause-within
 search_groups-requires-clause-within g c κs within =
@@ -31,5 +34,8 @@ search_groups-requires-clause-within g c κs within =
 
 pub returns-in-Ok-clause-search : goal.returns-in-Ok-clause-search
 returns-in-Ok-clause-search g c =
-    choice_found c.args.frame.now c.in_ok-walk.walk (listed_groups c.args.catalog.now c.args.order.now) (spawners_seen g.S.Spawner c.args.spawners.now.items) (spawners_seen g.S.Spawner c.search_groups.new.spawners.items)
-    c.search_groups.new.rows c.search_groups.result c.in-Ok.chosen c.in_ok-walk.ensures c.search_groups.ensures.search c.in-Ok.is
+    choice_found c.args.frame.now c.in_ok-walk.walk (listed_groups c.args.catalog.now c.args.order.now)
+    (spawners_seen g.S.Spawner c.args.spawners.now.items)
+    (spawners_seen g.S.Spawner c.search_groups.new.spawners.items)
+    c.search_groups.new.rows c.search_groups.result c.in-Ok.chosen c.in_ok-walk.ensures
+    c.search_groups.ensures.search c.in-Ok.is

@@ -17,7 +17,8 @@ returns-then-is_empty-clause-all g c =
     asked_nobody c.args.jobs.now c.new.result.items (spawners_seen g.S.Spawner c.args.spawners.now.items) none
 
 pub returns-in_err-round-clause-some : goal.returns-in_err-round-clause-some
-returns-in_err-round-clause-some g c = on_err c.from_residual.result (ran_nobody c.args.jobs.now (spawners_seen g.S.Spawner c.args.spawners.now.items))
+returns-in_err-round-clause-some g c = on_err c.from_residual.result
+    (ran_nobody c.args.jobs.now (spawners_seen g.S.Spawner c.args.spawners.now.items))
 
 pub returns-in_err-round-clause-faults : goal.returns-in_err-round-clause-faults
 returns-in_err-round-clause-faults g c =
@@ -30,19 +31,25 @@ returns-clause-all g c =
     let olds = c.args.spawners.now.items in
     let news = c.run_all.new.spawners.items in
     let used = min c.min-workers.result (length olds) in
-    both_ok (λ answers. length answers.items ≡ length c.args.jobs.now) (λ answers. RanAll g.S.Spawner.runs c.args.jobs.now answers.items (take used olds) (take used news))
-    (λ answers. AskedBy (recorded c.args.jobs.now answers.items) (spawners_seen g.S.Spawner olds) (spawners_seen g.S.Spawner news))
+    both_ok (λ answers. length answers.items ≡ length c.args.jobs.now)
+    (λ answers. RanAll g.S.Spawner.runs c.args.jobs.now answers.items (take used olds) (take used news))
+    (λ answers. AskedBy (recorded c.args.jobs.now answers.items) (spawners_seen g.S.Spawner olds)
+    (spawners_seen g.S.Spawner news))
     c.run_all.result c.run_all.ensures.answers c.run_all.ensures.all
-    (λ answers long ran. asked_all (spawner_seen g.S.Spawner) used olds news c.run_all.ensures.others c.run_all.ensures.same_says c.run_all.ensures.said c.args.jobs.now answers.items long ran)
+    (λ answers long ran. asked_all (spawner_seen g.S.Spawner) used olds news c.run_all.ensures.others
+    c.run_all.ensures.same_says c.run_all.ensures.said c.args.jobs.now answers.items long ran)
 
 pub returns-clause-some : goal.returns-clause-some
 returns-clause-some g c =
     let olds = c.args.spawners.now.items in
     let news = c.run_all.new.spawners.items in
     let used = min c.min-workers.result (length olds) in
-    err_so (RanSome g.S.Spawner.runs c.args.jobs.now (take used olds) (take used news)) (RunsSome c.args.jobs.now (spawners_seen g.S.Spawner olds) (spawners_seen g.S.Spawner news))
+    err_so (RanSome g.S.Spawner.runs c.args.jobs.now (take used olds) (take used news))
+    (RunsSome c.args.jobs.now (spawners_seen g.S.Spawner olds) (spawners_seen g.S.Spawner news))
     c.run_all.result c.run_all.ensures.some
-    (asked_some (spawner_seen g.S.Spawner) used olds news c.run_all.ensures.others c.run_all.ensures.same_says c.run_all.ensures.said c.args.jobs.now)
+    (asked_some (spawner_seen g.S.Spawner) used olds news c.run_all.ensures.others c.run_all.ensures.same_says
+    c.run_all.ensures.said c.args.jobs.now)
 
 pub returns-clause-faults : goal.returns-clause-faults
-returns-clause-faults g c = pool_counts (spawner_seen g.S.Spawner) c.run_all.result c.args.spawners.now.items c.run_all.new.spawners.items c.run_all.ensures.counts
+returns-clause-faults g c = pool_counts (spawner_seen g.S.Spawner) c.run_all.result c.args.spawners.now.items
+    c.run_all.new.spawners.items c.run_all.ensures.counts

@@ -7,9 +7,11 @@ use Rattle.detect_record.proofs.asked.met_in.Goals as goal
 
 pub loop-member-preserved : goal.loop-member-preserved
 loop-member-preserved c = λ asked is.
-    met_more (keys_of c.args.kept.now) c.args.target.now c.args.group.now c.loop-member.member-index c.member-item.result c.met_with-met.result asked
+    met_more (keys_of c.args.kept.now) c.args.target.now c.args.group.now c.loop-member.member-index
+    c.member-item.result c.met_with-met.result asked
     c.loop-member-test.true c.member-item.is
-    (c.met_with-met.ensures (put_members c.args.target.now asked (take c.loop-member.member-index c.args.group.now)) (c.loop-member.invariant asked is))
+    (c.met_with-met.ensures (put_members c.args.target.now asked
+    (take c.loop-member.member-index c.args.group.now)) (c.loop-member.invariant asked is))
 
 pub returns : goal.returns
 returns c = λ asked is.

@@ -15,5 +15,6 @@ returns c = λ asked is.
     let key = c.args.member.now.key in
     subst (λ ks. IsMet keys ks c.met_behind.result)
     (sym (put_fit c.args.target.now asked c.args.member.now (sym c.is_fit.ensures ∙ c.if-not-is_fit.false)))
-    (subst (λ m. IsMet keys (put_key asked key) m) (sym (c.met_behind.ensures ∙ ap (met_behind c.args.met) c.place.ensures.place))
+    (subst (λ m. IsMet keys (put_key asked key) m)
+    (sym (c.met_behind.ensures ∙ ap (met_behind c.args.met) c.place.ensures.place))
     (met_step keys asked key c.args.met is))

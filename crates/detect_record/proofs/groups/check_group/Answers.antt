@@ -9,16 +9,19 @@ use Rattle.detect_record.proofs.groups.check_group.Goals as goal
 pub returns-in_err-line : goal.returns-in_err-line
 returns-in_err-line c = λ groups all e.
     let known = known_by c.args.target.now c.args.kept.now all in
-    err_goes c.from_residual.result c.in_err-line.field-0.0 _ _ _ (found_or_next known c.args.place groups c.next_group.new.lines) c.from_residual.ensures.1 refl
+    err_goes c.from_residual.result c.in_err-line.field-0.0 _ _ _
+    (found_or_next known c.args.place groups c.next_group.new.lines) c.from_residual.ensures.1 refl
     (c.in_err-line.ensures known (AtGroup c.args.place (c.args.group.now ∷ groups)) refl)
 
 pub returns-then-not-have_answers : goal.returns-then-not-have_answers
 returns-then-not-have_answers c = λ groups all e.
     let known = known_by c.args.target.now c.args.kept.now all in
     let answered = answered_by c.args.target.now c.args.kept.now all in
-    refused_goes c.refused.result c.next_group.new.lines.taken _ (found_or_next known c.args.place groups c.next_group.new.lines) c.refused.ensures
+    refused_goes c.refused.result c.next_group.new.lines.taken _
+    (found_or_next known c.args.place groups c.next_group.new.lines) c.refused.ensures
     (c.in_ok-line.ensures known (AtGroup c.args.place (c.args.group.now ∷ groups)) refl
-    ∙ ap (λ b. checks_on known (begun_if b (after_group answered c.args.place c.args.group.now groups c.in_ok-line.line)) c.next_group.new.lines)
+    ∙ ap (λ b. checks_on known (begun_if b (after_group answered c.args.place c.args.group.now groups
+    c.in_ok-line.line)) c.next_group.new.lines)
     (sym c.have_answers.ensures ∙ c.if-not-have_answers.true))
 
 pub returns : goal.returns
@@ -27,6 +30,7 @@ returns c = λ groups all e.
     let answered = answered_by c.args.target.now c.args.kept.now all in
     goes_from c.follow.result _ _ (found_or_next known c.args.place groups c.follow.new.lines)
     (c.in_ok-line.ensures known (AtGroup c.args.place (c.args.group.now ∷ groups)) refl
-    ∙ ap (λ b. checks_on known (begun_if b (after_group answered c.args.place c.args.group.now groups c.in_ok-line.line)) c.next_group.new.lines)
+    ∙ ap (λ b. checks_on known (begun_if b (after_group answered c.args.place c.args.group.now groups
+    c.in_ok-line.line)) c.next_group.new.lines)
     (sym c.have_answers.ensures ∙ c.if-not-have_answers.false))
     (c.follow.ensures groups all e)

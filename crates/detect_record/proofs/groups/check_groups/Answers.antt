@@ -11,7 +11,8 @@ use Rattle.detect_record.proofs.groups.check_groups.Goals as goal
 pub check_group-requires : goal.check_group-requires
 check_group-requires c =
     let next : c.loop-group.walk ≡ c.in-Some.group ∷ c.next.new.self = rw c.in-Some.is at c.in_ok-group.ensures.ok in
-    let short = short_at c.args.walk.now c.in-Some.group c.next.new.self c.loop-group.place (sym c.loop-group.invariant.left ∙ next) c.requires.short in
+    let short = short_at c.args.walk.now c.in-Some.group c.next.new.self c.loop-group.place
+    (sym c.loop-group.invariant.left ∙ next) c.requires.short in
     subst (λ (group : List Member). length group ≤ 256) (sym c.as_slice-group.ensures) short
 
 pub returns-in_err-checked : goal.returns-in_err-checked
@@ -22,11 +23,15 @@ returns-in_err-checked c =
     let later = c.next.new.self in
     let place = c.loop-group.place in
     let next : c.loop-group.walk ≡ c.in-Some.group ∷ later = rw c.in-Some.is at c.in_ok-group.ensures.ok in
-    let right = right_so target kept all c.in-Some.group c.as_slice-group.result.now later place c.are_all_met-all_met.result
+    let right = right_so target kept all c.in-Some.group c.as_slice-group.result.now later place
+    c.are_all_met-all_met.result
     (sym c.loop-group.invariant.left ∙ next) c.as_slice-group.ensures
-    (c.are_all_met-all_met.ensures _ (c.met_in-met.ensures (asked_in target (take place all)) c.loop-group.invariant.met)) in
-    err_answers c.from_residual-in_err-checked.result c.in_err-checked.field-0.0 _ _ _ c.from_residual-in_err-checked.ensures.1
-    (group_line _ (known_by target kept all) place c.loop-group.lines c.loop-group.walk c.in-Some.group c.as_slice-group.result.now later
+    (c.are_all_met-all_met.ensures _ (c.met_in-met.ensures (asked_in target (take place all))
+    c.loop-group.invariant.met)) in
+    err_answers c.from_residual-in_err-checked.result c.in_err-checked.field-0.0 _ _ _
+    c.from_residual-in_err-checked.ensures.1
+    (group_line _ (known_by target kept all) place c.loop-group.lines c.loop-group.walk c.in-Some.group
+    c.as_slice-group.result.now later
     c.loop-group.invariant.goes next c.as_slice-group.ensures)
     (c.in_err-checked.ensures later all right)
 
@@ -38,10 +43,13 @@ returns-in-Some-2 c =
     let later = c.next.new.self in
     let place = c.loop-group.place in
     let next : c.loop-group.walk ≡ c.in-Some.group ∷ later = rw c.in-Some.is at c.in_ok-group.ensures.ok in
-    let right = right_so target kept all c.in-Some.group c.as_slice-group.result.now later place c.are_all_met-all_met.result
+    let right = right_so target kept all c.in-Some.group c.as_slice-group.result.now later place
+    c.are_all_met-all_met.result
     (sym c.loop-group.invariant.left ∙ next) c.as_slice-group.ensures
-    (c.are_all_met-all_met.ensures _ (c.met_in-met.ensures (asked_in target (take place all)) c.loop-group.invariant.met)) in
-    group_line _ (known_by target kept all) place c.loop-group.lines c.loop-group.walk c.in-Some.group c.as_slice-group.result.now later
+    (c.are_all_met-all_met.ensures _ (c.met_in-met.ensures (asked_in target (take place all))
+    c.loop-group.invariant.met)) in
+    group_line _ (known_by target kept all) place c.loop-group.lines c.loop-group.walk c.in-Some.group
+    c.as_slice-group.result.now later
     c.loop-group.invariant.goes next c.as_slice-group.ensures
     ∙ (rw c.in-Some-2.is at c.in_ok-checked.ensures) later all right
 
@@ -56,14 +64,17 @@ loop-group-preserved c =
     let next : c.loop-group.walk ≡ c.in-Some.group ∷ later = rw c.in-Some.is at c.in_ok-group.ensures.ok in
     let at = sym c.loop-group.invariant.left ∙ next in
     let met = c.met_in-met.ensures (asked_in target (take place all)) c.loop-group.invariant.met in
-    let right = right_so target kept all c.in-Some.group slice later place c.are_all_met-all_met.result at c.as_slice-group.ensures (c.are_all_met-all_met.ensures _ met) in
+    let right = right_so target kept all c.in-Some.group slice later place c.are_all_met-all_met.result at
+    c.as_slice-group.ensures (c.are_all_met-all_met.ensures _ met) in
     let more = group_next all c.in-Some.group later place at in
     record {
-      goes = group_line _ (known_by target kept all) place c.loop-group.lines c.loop-group.walk c.in-Some.group slice later c.loop-group.invariant.goes next c.as_slice-group.ensures
+      goes = group_line _ (known_by target kept all) place c.loop-group.lines c.loop-group.walk c.in-Some.group
+          slice later c.loop-group.invariant.goes next c.as_slice-group.ensures
           ∙ (rw c.in_default-2.is at c.in_ok-checked.ensures) later all right;
       left = more.1;
       within = more.2;
-      met = met_so target (keys_of kept) all c.in-Some.group slice later place c.met_in-met.result at c.as_slice-group.ensures met;
+      met = met_so target (keys_of kept) all c.in-Some.group slice later place c.met_in-met.result at
+          c.as_slice-group.ensures met;
     }
 
 pub returns : goal.returns

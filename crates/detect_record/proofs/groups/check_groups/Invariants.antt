@@ -8,7 +8,8 @@ use Rattle.detect_record.proofs.groups.check_groups.Given as goal
 
 abbrev pub invariant-loop-group : goal.invariant-loop-group
 invariant-loop-group l = record {
-  goes : checks (known_by l.target l.kept l.fn.walk) (AtGroup 0 l.fn.walk) l.initial.lines ≡ checks (known_by l.target l.kept l.fn.walk) (AtGroup l.place l.walk) l.lines;
+  goes : checks (known_by l.target l.kept l.fn.walk) (AtGroup 0 l.fn.walk) l.initial.lines
+      ≡ checks (known_by l.target l.kept l.fn.walk) (AtGroup l.place l.walk) l.lines;
   left : l.walk ≡ drop l.place l.fn.walk;
   within : l.place ≤ length l.fn.walk;
   met : IsMet (keys_of l.kept) (asked_in l.target (take l.place l.fn.walk)) l.met;

@@ -12,15 +12,18 @@ returns-in-Trials c = λ groups all e.
     let known = known_by c.args.target.now c.args.kept.now all in
     let answered = answered_by c.args.target.now c.args.kept.now all in
     goes_from c.check_failing.result _ _ (found_or_next known c.args.place groups c.check_failing.new.lines)
-    (ap (λ line. checks_on known (after_group answered c.args.place c.args.group.now groups line) c.args.lines.now) c.in-Trials.is)
+    (ap (λ line. checks_on known (after_group answered c.args.place c.args.group.now groups line)
+    c.args.lines.now) c.in-Trials.is)
     (c.check_failing.ensures c.args.place groups all)
 
 pub returns-in-Chosen : goal.returns-in-Chosen
 returns-in-Chosen c = λ groups all e.
     let known = known_by c.args.target.now c.args.kept.now all in
     let answered = answered_by c.args.target.now c.args.kept.now all in
-    let next = begun true c.args.place (alive_of (kept_says c.args.target.now c.args.kept.now) c.args.group.now) groups c.in-Chosen.count in
+    let next = begun true c.args.place (alive_of (kept_says c.args.target.now c.args.kept.now) c.args.group.now)
+    groups c.in-Chosen.count in
     goes_from c.check_passing.result _ _ (found_or_next known c.args.place groups c.check_passing.new.lines)
-    (ap (λ line. checks_on known (after_group answered c.args.place c.args.group.now groups line) c.args.lines.now) c.in-Chosen.is
+    (ap (λ line. checks_on known (after_group answered c.args.place c.args.group.now groups line)
+    c.args.lines.now) c.in-Chosen.is
     ∙ ap (λ b. checks_on known (begun_if b next) c.args.lines.now) (sym e))
     (c.check_passing.ensures groups all)

@@ -11,7 +11,8 @@ IsSoundRow row = IsSoundAnswer row.key row.probed
 
 pub loop-row-preserved : goal.loop-row-preserved
 loop-row-preserved c =
-    All-more IsSoundRow c.args.rows.now c.loop-row.row-index c.row-item.result c.loop-row-test.true c.loop-row.invariant (subst IsSoundRow c.row-item.is c.see_answer.ensures)
+    All-more IsSoundRow c.args.rows.now c.loop-row.row-index c.row-item.result c.loop-row-test.true
+    c.loop-row.invariant (subst IsSoundRow c.row-item.is c.see_answer.ensures)
 
 pub returns : goal.returns
 returns c = subst (All IsSoundRow) (take_all c.loop-row.row-index c.args.rows.now (omega arith)) c.loop-row.invariant

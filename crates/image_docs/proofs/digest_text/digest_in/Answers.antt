@@ -5,4 +5,5 @@ use Rattle.image_docs.proofs.digest_text.digest_in.Goals as goal
 
 pub returns-in-Some : goal.returns-in-Some
 returns-in-Some c =
-    sym (ap digest_in (sym c.in-Some.ensures.read) ∙ digest_read c.in-Some.digest (sym (ap is_digest c.bytes.ensures) ∙ c.are_sized.ensures))
+    sym (ap digest_in (sym c.in-Some.ensures.read) ∙ digest_read c.in-Some.digest
+    (sym (ap is_digest c.bytes.ensures) ∙ c.are_sized.ensures))

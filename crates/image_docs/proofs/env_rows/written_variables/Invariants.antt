@@ -5,4 +5,5 @@ use Rattle.image_docs.specs.EnvRows.{variable_members}
 use Rattle.image_docs.proofs.env_rows.written_variables.Given as goal
 
 abbrev pub invariant-loop-variable : goal.invariant-loop-variable
-invariant-loop-variable l = map view l.values.items ≡ map (table_data variable_members) (take l.variable-index l.variables)
+invariant-loop-variable l = map view l.values.items ≡ map (table_data variable_members)
+    (take l.variable-index l.variables)

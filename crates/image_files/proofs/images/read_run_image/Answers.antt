@@ -21,18 +21,26 @@ pub returns-in_err-found-clause-step : goal.returns-in_err-found-clause-step
 unfolding reads_run_image
 returns-in_err-found-clause-step g c =
     let exit = err_from_is_err_and c.from_residual-in_err-found.result c.from_residual-in_err-found.ensures.1 in
-    rw (exit.1, exit.2) (document_refused cause_of of_read_fault same_cause table_in (λ path. named c.args.name.now) _ c.in_ok-path.ensures c.in_err-found.ensures.reads c.in_err-found.ensures.frame c.in_err-found.ensures.misused)
+    rw (exit.1, exit.2) (document_refused cause_of of_read_fault same_cause table_in
+    (λ path. named c.args.name.now) _ c.in_ok-path.ensures c.in_err-found.ensures.reads
+    c.in_err-found.ensures.frame c.in_err-found.ensures.misused)
 
 pub returns-in_err-image-clause-step : goal.returns-in_err-image-clause-step
 unfolding reads_run_image
 returns-in_err-image-clause-step g c =
     let exit = err_from_is_err_and c.from_residual-in_err-image.result c.from_residual-in_err-image.ensures.1 in
-    rw (exit.1, exit.2) (document_read cause_of of_read_fault same_cause table_in (λ path. named c.args.name.now) c.in_ok-found.found _ c.in_ok-path.ensures c.in_ok-found.ensures.reads c.in_ok-found.ensures.frame c.in_ok-found.ensures.misused c.in_err-image.ensures.answer c.in_err-image.ensures.cause)
+    rw (exit.1, exit.2) (document_read cause_of of_read_fault same_cause table_in
+    (λ path. named c.args.name.now) c.in_ok-found.found _ c.in_ok-path.ensures c.in_ok-found.ensures.reads
+    c.in_ok-found.ensures.frame c.in_ok-found.ensures.misused c.in_err-image.ensures.answer
+    c.in_err-image.ensures.cause)
 
 pub returns-clause-step : goal.returns-clause-step
 unfolding reads_run_image
 returns-clause-step g c =
-    document_read cause_of of_read_fault same_cause table_in (λ path. named c.args.name.now) c.in_ok-found.found (Ok c.in_ok-image.image) c.in_ok-path.ensures c.in_ok-found.ensures.reads c.in_ok-found.ensures.frame c.in_ok-found.ensures.misused c.in_ok-image.ensures.answer tt
+    document_read cause_of of_read_fault same_cause table_in (λ path. named c.args.name.now) c.in_ok-found.found
+    (Ok c.in_ok-image.image) c.in_ok-path.ensures c.in_ok-found.ensures.reads c.in_ok-found.ensures.frame
+    c.in_ok-found.ensures.misused c.in_ok-image.ensures.answer tt
 
 pub returns-clause-readable : goal.returns-clause-readable
-returns-clause-readable g c = run_image_readable c.in_ok-image.image (subst (λ found. IfSome found (IsRead table_in)) c.in_ok-image.ensures.same c.in_ok-found.ensures.read)
+returns-clause-readable g c = run_image_readable c.in_ok-image.image
+    (subst (λ found. IfSome found (IsRead table_in)) c.in_ok-image.ensures.same c.in_ok-found.ensures.read)

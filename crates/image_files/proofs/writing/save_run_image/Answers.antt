@@ -28,13 +28,35 @@ returns-in_err-document g c =
 pub returns-in_err-write_document : goal.returns-in_err-write_document
 unfolding writes_run_image
 returns-in_err-write_document g c =
-    let exit = err_from_is_err_and c.from_residual-in_err-write_document.result c.from_residual-in_err-write_document.ensures.1 in
-    rw (exit.1, exit.2) (record { step = refused_at g.W.World _ _ _ _ (ReadsAsRunImage c.args.image.now) _ _ c.in_ok-folder.ensures.path (c.as_str.ensures ∙ c.in_ok-document.ensures.name) _ _ (subst (ReadsAsRunImage c.args.image.now) (sym c.as_slice.ensures) c.in_ok-bytes.ensures) c.in_err-write_document.ensures.cause c.in_err-write_document.ensures.err c.in_err-write_document.ensures.runs c.in_err-write_document.ensures.misused (record { ends = write_ends _ _ c.in_err-write_document.ensures.cause; files = c.in_err-write_document.ensures.files; children = c.in_err-write_document.ensures.children }) })
+    let exit = err_from_is_err_and c.from_residual-in_err-write_document.result
+    c.from_residual-in_err-write_document.ensures.1 in
+    rw (exit.1, exit.2) (record {
+      step = refused_at g.W.World _ _ _ _
+          (ReadsAsRunImage c.args.image.now) _ _ c.in_ok-folder.ensures.path
+          (c.as_str.ensures ∙ c.in_ok-document.ensures.name) _ _
+          (subst (ReadsAsRunImage c.args.image.now) (sym c.as_slice.ensures) c.in_ok-bytes.ensures)
+          c.in_err-write_document.ensures.cause c.in_err-write_document.ensures.err
+          c.in_err-write_document.ensures.runs c.in_err-write_document.ensures.misused
+          (record {
+            ends = write_ends _ _ c.in_err-write_document.ensures.cause;
+            files =
+                c.in_err-write_document.ensures.files;
+            children = c.in_err-write_document.ensures.children;
+          });
+    })
 
 pub returns : goal.returns
 unfolding writes_run_image
 returns g c = record {
   step =
-      saved_at g.W.World _ _ _ _ (ReadsAsRunImage c.args.image.now) _ _ c.in_ok-folder.ensures.path (c.as_str.ensures ∙ c.in_ok-document.ensures.name) _
-      (subst (ReadsAsRunImage c.args.image.now) (sym c.as_slice.ensures) c.in_ok-bytes.ensures) c.in_ok-write_document.ensures.ok c.in_ok-write_document.ensures.fit c.in_ok-write_document.ensures.runs c.in_ok-write_document.ensures.misused (record { ends = tt; files = c.in_ok-write_document.ensures.files; children = c.in_ok-write_document.ensures.children });
+      saved_at g.W.World _ _ _ _ (ReadsAsRunImage c.args.image.now) _ _ c.in_ok-folder.ensures.path
+      (c.as_str.ensures ∙ c.in_ok-document.ensures.name) _
+      (subst (ReadsAsRunImage c.args.image.now) (sym c.as_slice.ensures) c.in_ok-bytes.ensures)
+      c.in_ok-write_document.ensures.ok c.in_ok-write_document.ensures.fit c.in_ok-write_document.ensures.runs
+      c.in_ok-write_document.ensures.misused (record {
+        ends = tt;
+        files = c.in_ok-write_document.ensures.files;
+        children =
+            c.in_ok-write_document.ensures.children;
+      });
 }

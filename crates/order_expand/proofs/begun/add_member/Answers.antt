@@ -9,5 +9,6 @@ pub returns-clause-ok : goal.returns-clause-ok
 returns-clause-ok c catalog =
     let begun = c.args.begun.now in
     let groups = expanded (raw_groups c.args.levels catalog) catalog c.args.behind.now in
-    ap (λ (members : List MemberComponent). groups_with catalog members groups begun.later.items) c.in_ok-push.ensures.items
+    ap (λ (members : List MemberComponent). groups_with catalog members groups begun.later.items)
+    c.in_ok-push.ensures.items
     ∙ component_chosen catalog begun.members.items c.args.chosen groups begun.later.items

@@ -14,7 +14,9 @@ returns-in-None-clause-ok c =
     let begun = c.args.begun.now in
     let catalog = c.args.catalog.now in
     let raw = raw_groups c.args.levels catalog in
-    ap (λ (o : Option Descriptor). groups_with catalog begun.members.items (in_front_of raw c.args.entry.now o (expanded raw catalog c.args.behind.now)) begun.later.items) c.in-None.ensures.named
+    ap (λ (o : Option Descriptor). groups_with catalog begun.members.items
+    (in_front_of raw c.args.entry.now o (expanded raw catalog c.args.behind.now)) begun.later.items)
+    c.in-None.ensures.named
 
 pub returns-in_ok-add_member-in-Component-clause-ok : goal.returns-in_ok-add_member-in-Component-clause-ok
 returns-in_ok-add_member-in-Component-clause-ok c =
@@ -24,14 +26,19 @@ returns-in_ok-add_member-in-Component-clause-ok c =
     let entry = c.args.entry.now in
     c.in_ok-add_member-in-Component.ensures.ok catalog
     ∙ ap (λ (groups : List (List Member)). groups_with catalog begun.members.items groups begun.later.items)
-    (component_met raw entry (named catalog entry) (record { descriptor = c.in-Some.found.descriptor; optional = entry.optional }) c.in-Component.clear_env c.in-Component.targets (expanded raw catalog c.args.behind.now) c.in-Some.ensures.named c.in-Component.is refl)
+    (component_met raw entry (named catalog entry)
+    (record { descriptor = c.in-Some.found.descriptor; optional = entry.optional }) c.in-Component.clear_env
+    c.in-Component.targets (expanded raw catalog c.args.behind.now) c.in-Some.ensures.named c.in-Component.is
+    refl)
 
 pub returns-in_ok-add_member-in-Component-clause-steps : goal.returns-in_ok-add_member-in-Component-clause-steps
 returns-in_ok-add_member-in-Component-clause-steps c =
     let catalog = c.args.catalog.now in
     let steps = order_steps c.args.levels catalog in
     let behind = entries_steps steps catalog c.args.behind.now (later_steps catalog c.args.begun.now.later.items) in
-    let met = steps_met steps (named catalog c.args.entry.now) c.in-Some.found.descriptor.now (Component c.in-Component.clear_env c.in-Component.targets) behind c.in-Some.ensures.named c.in-Component.is in
+    let met = steps_met steps (named catalog c.args.entry.now) c.in-Some.found.descriptor.now
+    (Component c.in-Component.clear_env c.in-Component.targets) behind c.in-Some.ensures.named
+    c.in-Component.is in
     omega (arith, met, c.in_ok-add_member-in-Component.ensures.steps catalog)
 
 pub returns-in_ok-open_order-in-Composite-clause-ok : goal.returns-in_ok-open_order-in-Composite-clause-ok
@@ -42,14 +49,16 @@ returns-in_ok-open_order-in-Composite-clause-ok c =
     let entry = c.args.entry.now in
     c.in_ok-open_order-in-Composite.ensures.ok catalog
     ∙ ap (λ (groups : List (List Member)). groups_with catalog begun.members.items groups begun.later.items)
-    (composite_met raw entry (named catalog entry) c.in-Some.found.descriptor.now c.in-Composite.order (expanded raw catalog c.args.behind.now) c.in-Some.ensures.named c.in-Composite.is)
+    (composite_met raw entry (named catalog entry) c.in-Some.found.descriptor.now c.in-Composite.order
+    (expanded raw catalog c.args.behind.now) c.in-Some.ensures.named c.in-Composite.is)
 
 pub returns-in_ok-open_order-in-Composite-clause-steps : goal.returns-in_ok-open_order-in-Composite-clause-steps
 returns-in_ok-open_order-in-Composite-clause-steps c =
     let catalog = c.args.catalog.now in
     let steps = order_steps c.args.levels catalog in
     let behind = entries_steps steps catalog c.args.behind.now (later_steps catalog c.args.begun.now.later.items) in
-    let met = steps_met steps (named catalog c.args.entry.now) c.in-Some.found.descriptor.now (Composite c.in-Composite.order) behind c.in-Some.ensures.named c.in-Composite.is in
+    let met = steps_met steps (named catalog c.args.entry.now) c.in-Some.found.descriptor.now
+    (Composite c.in-Composite.order) behind c.in-Some.ensures.named c.in-Composite.is in
     omega (arith, met, c.in_ok-open_order-in-Composite.ensures.steps catalog)
 
 pub returns-in-Foreign-clause-ok : goal.returns-in-Foreign-clause-ok
@@ -59,4 +68,5 @@ returns-in-Foreign-clause-ok c =
     let raw = raw_groups c.args.levels catalog in
     let entry = c.args.entry.now in
     ap (λ (groups : List (List Member)). groups_with catalog begun.members.items groups begun.later.items)
-    (foreign_met raw entry (named catalog entry) c.in-Some.found.descriptor.now c.in-Foreign.field-0 (expanded raw catalog c.args.behind.now) c.in-Some.ensures.named c.in-Foreign.is)
+    (foreign_met raw entry (named catalog entry) c.in-Some.found.descriptor.now c.in-Foreign.field-0
+    (expanded raw catalog c.args.behind.now) c.in-Some.ensures.named c.in-Foreign.is)

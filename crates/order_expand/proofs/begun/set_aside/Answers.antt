@@ -12,12 +12,15 @@ returns-clause-ok c catalog =
     let begun : Begun = record { members = c.in_ok-members.members; next = c.args.next; later = c.in_ok-later.later } in
     ap (groups_of_waiting catalog) c.in_ok-push.ensures.items
     ∙ (groups_of_waiting-snoc catalog waiting begun
-    ∙ (λ i. groups_with catalog ((c.in_ok-members.ensures.items ∙ c.as_slice.ensures.value) i) (groups_in catalog c.args.next) ((c.in_ok-later.ensures.items ∙ c.as_slice-2.ensures.value) i) ++ groups_of_waiting catalog waiting))
+    ∙ (λ i. groups_with catalog ((c.in_ok-members.ensures.items ∙ c.as_slice.ensures.value) i)
+    (groups_in catalog c.args.next) ((c.in_ok-later.ensures.items ∙ c.as_slice-2.ensures.value) i)
+    ++ groups_of_waiting catalog waiting))
 
 pub returns-clause-steps : goal.returns-clause-steps
 returns-clause-steps c catalog =
     let begun : Begun = record { members = c.in_ok-members.members; next = c.args.next; later = c.in_ok-later.later } in
     let all = ap (steps_of_waiting catalog) c.in_ok-push.ensures.items in
     let one_more = steps_of_waiting-snoc catalog c.args.waiting.now.items begun in
-    let same = ap (λ (later : List Place). place_steps catalog c.args.next (later_steps catalog later)) (c.in_ok-later.ensures.items ∙ c.as_slice-2.ensures.value) in
+    let same = ap (λ (later : List Place). place_steps catalog c.args.next (later_steps catalog later))
+    (c.in_ok-later.ensures.items ∙ c.as_slice-2.ensures.value) in
     omega (arith, all, one_more, same)

@@ -7,5 +7,7 @@ use Rattle.order_expand.proofs.count.level_above.Given as goal
 abbrev pub invariant-loop-descriptor : goal.invariant-loop-descriptor
 invariant-loop-descriptor l = record {
   number : length l.above.items ≡ l.descriptor-index;
-  exact : (levels : ℕ) → l.below ≡ sizes_at levels l.catalog → l.above.items ≡ map (λ descriptor. size_of (raw_groups (suc levels) l.catalog (order_of_body descriptor.body))) (take l.descriptor-index l.descriptor-items);
+  exact : (levels : ℕ) → l.below ≡ sizes_at levels l.catalog
+      → l.above.items ≡ map (λ descriptor. size_of (raw_groups (suc levels) l.catalog
+      (order_of_body descriptor.body))) (take l.descriptor-index l.descriptor-items);
 }

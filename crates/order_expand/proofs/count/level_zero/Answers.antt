@@ -8,4 +8,6 @@ use Rattle.order_expand.proofs.count.level_zero.Goals as goal
 pub returns : goal.returns
 returns c =
     c.loop.invariant
-    ∙ (ap (map (λ (descriptor : Descriptor). size_of [])) (take_all c.loop.index c.descriptors-items.result.now (omega arith) ∙ c.descriptors-items.ensures) ∙ sizes_at-zero c.args.catalog.now)
+    ∙ (ap (map (λ (descriptor : Descriptor). size_of []))
+    (take_all c.loop.index c.descriptors-items.result.now (omega arith) ∙ c.descriptors-items.ensures)
+    ∙ sizes_at-zero c.args.catalog.now)

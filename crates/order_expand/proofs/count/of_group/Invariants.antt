@@ -7,7 +7,8 @@ use Rattle.order_expand.proofs.count.of_group.Given as goal
 abbrev pub invariant-loop-place : goal.invariant-loop-place
 invariant-loop-place l = record {
   within : l.place ≤ length l.entries;
-  behind : (levels : ℕ) → l.below ≡ sizes_at levels l.catalog → l.size ≡ size_of (expanded (raw_groups levels l.catalog) l.catalog (drop l.place l.entries));
+  behind : (levels : ℕ) → l.below ≡ sizes_at levels l.catalog
+      → l.size ≡ size_of (expanded (raw_groups levels l.catalog) l.catalog (drop l.place l.entries));
 }
 
 abbrev pub decreases-loop-place : goal.decreases-loop-place

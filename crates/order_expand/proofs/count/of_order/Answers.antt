@@ -10,4 +10,6 @@ pub returns : goal.returns
 returns c levels e =
     let catalog = c.args.catalog.now in
     c.loop-group.invariant levels e
-    ∙ ap size_of (ap (flat_map (expanded (raw_groups levels catalog) catalog)) (take_all c.loop-group.group-index c.args.order.now (omega arith)) ∙ sym (raw_groups_suc levels catalog c.args.order.now))
+    ∙ ap size_of (ap (flat_map (expanded (raw_groups levels catalog) catalog))
+    (take_all c.loop-group.group-index c.args.order.now (omega arith))
+    ∙ sym (raw_groups_suc levels catalog c.args.order.now))

@@ -7,7 +7,8 @@ use Rattle.order_expand.proofs.fault.entry_fault.Goals as goal
 pub returns-then-has_meant : goal.returns-then-has_meant
 returns-then-has_meant c =
     ap (λ (id : List ℕ). Some (Ambiguous id)) c.in_ok-id.ensures
-    ∙ fault_of_ambiguous c.args.catalog.now c.args.entry.now c.in_default.ensures.named (sym c.has_meant.ensures ∙ c.if-has_meant.true)
+    ∙ fault_of_ambiguous c.args.catalog.now c.args.entry.now c.in_default.ensures.named
+    (sym c.has_meant.ensures ∙ c.if-has_meant.true)
 
 pub returns-else-has_meant : goal.returns-else-has_meant
 returns-else-has_meant c =

@@ -12,6 +12,7 @@ returns-in-Composite c levels e =
     let p = nests_deeper levels c.args.catalog.now in
     c.is_some.ensures
     ∙ (is_some-copied c.deeper_in_order.result
-    ∙ (ap is_some (c.deeper_in_order.ensures levels e ∙ ap (λ (order : List (List Entry)). find p (entries_of order)) c.as_slice.ensures)
+    ∙ (ap is_some (c.deeper_in_order.ensures levels e
+    ∙ ap (λ (order : List (List Entry)). find p (entries_of order)) c.as_slice.ensures)
     ∙ (sym (any_found_in_groups p c.in-Composite.order)
     ∙ ap (λ (body : Body). list_any (list_any p) (order_of_body body)) (sym c.in-Composite.is))))

@@ -15,7 +15,11 @@ invariant-loop-id_folder g l = record {
   files : g.W.World.file_faults l.world ≡ g.W.World.file_faults l.initial.world;
   children : g.W.World.child_faults l.world ≡ g.W.World.child_faults l.initial.world;
   runs : g.W.World.runs l.world ≡ g.W.World.runs l.initial.world;
-  misused : (now : ℕ) → MayMisuse (option_map (λ files. list_all (is_fit_buildpack files l.buildpacks) (drop l.id_folder-index l.id_folders)) (g.W.World.tree l.initial.world)) (g.W.World.misused l.world) now
-      → MayMisuse (option_map (λ files. list_all (is_fit_buildpack files l.buildpacks) l.id_folders) (g.W.World.tree l.initial.world)) (g.W.World.misused l.initial.world) now;
-  leaves : Leaves (g.W.World.tree l.initial.world) l.catalog (λ files. buildpacks_in files l.buildpacks (drop l.id_folder-index l.id_folders)) (λ files. buildpacks_in files l.buildpacks l.id_folders);
+  misused : (now : ℕ) → MayMisuse (option_map (λ files. list_all (is_fit_buildpack files l.buildpacks)
+      (drop l.id_folder-index l.id_folders)) (g.W.World.tree l.initial.world)) (g.W.World.misused l.world) now
+      → MayMisuse (option_map (λ files. list_all (is_fit_buildpack files l.buildpacks) l.id_folders)
+      (g.W.World.tree l.initial.world)) (g.W.World.misused l.initial.world) now;
+  leaves : Leaves (g.W.World.tree l.initial.world) l.catalog
+      (λ files. buildpacks_in files l.buildpacks (drop l.id_folder-index l.id_folders))
+      (λ files. buildpacks_in files l.buildpacks l.id_folders);
 }

@@ -15,34 +15,47 @@ pub returns-in_err-found-clause-reads : goal.returns-in_err-found-clause-reads
 returns-in_err-found-clause-reads g c =
     let path = c.in_ok-path.path in
     let exit = err_from_is_err_and c.from_residual-in_err-found.result c.from_residual-in_err-found.ensures.1 in
-    rw (exit.1, exit.2) (descriptor_refused_from c.args.folder.now c.args.id_folder.now c.args.version.now path c.in_ok-path.ensures.0 _ _
-    (refused_where read_cause _ (λ (files : Tree). document_at files path) (λ (found : Option (List ℕ)) (files : Tree). described path c.args.id_folder.now c.args.version.now found) _ c.in_err-found.ensures.reads))
+    rw (exit.1, exit.2) (descriptor_refused_from c.args.folder.now c.args.id_folder.now c.args.version.now path
+    c.in_ok-path.ensures.0 _ _
+    (refused_where read_cause _ (λ (files : Tree). document_at files path)
+    (λ (found : Option (List ℕ)) (files : Tree). described path c.args.id_folder.now c.args.version.now found)
+    _ c.in_err-found.ensures.reads))
 
 pub returns-in_err-found-clause-misused : goal.returns-in_err-found-clause-misused
-returns-in_err-found-clause-misused g c = descriptor_fits c.args.folder.now c.args.id_folder.now c.args.version.now c.in_ok-path.path c.in_ok-path.ensures.0 _ _ _ c.in_err-found.ensures.misused
+returns-in_err-found-clause-misused g c = descriptor_fits c.args.folder.now c.args.id_folder.now
+    c.args.version.now c.in_ok-path.path c.in_ok-path.ensures.0 _ _ _ c.in_err-found.ensures.misused
 
 pub returns-in_err-descriptor-clause-reads : goal.returns-in_err-descriptor-clause-reads
 returns-in_err-descriptor-clause-reads g c =
     let path = c.in_ok-path.path in
-    let exit = err_from_is_err_and c.from_residual-in_err-descriptor.result c.from_residual-in_err-descriptor.ensures.1 in
-    rw (exit.1, exit.2) (descriptor_refused_from c.args.folder.now c.args.id_folder.now c.args.version.now path c.in_ok-path.ensures.0 _ _
-    (read_then (λ (files : Tree). document_at files path) (described path c.args.id_folder.now c.args.version.now) _ c.in_ok-found.found (Err _) c.in_ok-found.ensures.reads c.in_err-descriptor.ensures.reads))
+    let exit = err_from_is_err_and c.from_residual-in_err-descriptor.result
+    c.from_residual-in_err-descriptor.ensures.1 in
+    rw (exit.1, exit.2) (descriptor_refused_from c.args.folder.now c.args.id_folder.now c.args.version.now path
+    c.in_ok-path.ensures.0 _ _
+    (read_then (λ (files : Tree). document_at files path) (described path c.args.id_folder.now c.args.version.now)
+    _ c.in_ok-found.found (Err _) c.in_ok-found.ensures.reads c.in_err-descriptor.ensures.reads))
 
 pub returns-in_err-descriptor-clause-misused : goal.returns-in_err-descriptor-clause-misused
-returns-in_err-descriptor-clause-misused g c = descriptor_fits c.args.folder.now c.args.id_folder.now c.args.version.now c.in_ok-path.path c.in_ok-path.ensures.0 _ _ _ c.in_ok-found.ensures.misused
+returns-in_err-descriptor-clause-misused g c = descriptor_fits c.args.folder.now c.args.id_folder.now
+    c.args.version.now c.in_ok-path.path c.in_ok-path.ensures.0 _ _ _ c.in_ok-found.ensures.misused
 
 pub returns-clause-reads : goal.returns-clause-reads
 returns-clause-reads g c =
     let path = c.in_ok-path.path in
-    descriptor_from c.args.folder.now c.args.id_folder.now c.args.version.now path c.in_ok-path.ensures.0 _ (Ok c.in_ok-descriptor.descriptor)
-    (read_then (λ (files : Tree). document_at files path) (described path c.args.id_folder.now c.args.version.now) _ c.in_ok-found.found (Ok c.in_ok-descriptor.descriptor) c.in_ok-found.ensures.reads c.in_ok-descriptor.ensures.reads)
+    descriptor_from c.args.folder.now c.args.id_folder.now c.args.version.now path c.in_ok-path.ensures.0 _
+    (Ok c.in_ok-descriptor.descriptor)
+    (read_then (λ (files : Tree). document_at files path) (described path c.args.id_folder.now c.args.version.now)
+    _ c.in_ok-found.found (Ok c.in_ok-descriptor.descriptor) c.in_ok-found.ensures.reads
+    c.in_ok-descriptor.ensures.reads)
 
 pub returns-clause-misused : goal.returns-clause-misused
-returns-clause-misused g c = descriptor_fits c.args.folder.now c.args.id_folder.now c.args.version.now c.in_ok-path.path c.in_ok-path.ensures.0 _ _ _ c.in_ok-found.ensures.misused
+returns-clause-misused g c = descriptor_fits c.args.folder.now c.args.id_folder.now c.args.version.now
+    c.in_ok-path.path c.in_ok-path.ensures.0 _ _ _ c.in_ok-found.ensures.misused
 
 pub returns-in_err-descriptor-clause-frame : goal.returns-in_err-descriptor-clause-frame
 returns-in_err-descriptor-clause-frame g c =
-    let exit = err_from_is_err_and c.from_residual-in_err-descriptor.result c.from_residual-in_err-descriptor.ensures.1 in
+    let exit = err_from_is_err_and c.from_residual-in_err-descriptor.result
+    c.from_residual-in_err-descriptor.ensures.1 in
     let frame = c.in_ok-found.ensures.frame in
     rw (exit.1, exit.2) (record {
       files = frame.files;

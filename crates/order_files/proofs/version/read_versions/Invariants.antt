@@ -17,7 +17,11 @@ invariant-loop-version g l = record {
   files : g.W.World.file_faults l.world ≡ g.W.World.file_faults l.initial.world;
   children : g.W.World.child_faults l.world ≡ g.W.World.child_faults l.initial.world;
   runs : g.W.World.runs l.world ≡ g.W.World.runs l.initial.world;
-  misused : (now : ℕ) → MayMisuse (option_map (λ files. are_fit_versions files l.folder (drop l.version-index l.versions)) (g.W.World.tree l.initial.world)) (g.W.World.misused l.world) now
-      → MayMisuse (option_map (λ files. are_fit_versions files l.folder l.versions) (g.W.World.tree l.initial.world)) (g.W.World.misused l.initial.world) now;
-  leaves : Leaves (g.W.World.tree l.initial.world) l.catalog (λ files. versions_in files l.folder l.id_folder (drop l.version-index l.versions)) (λ files. followed_by (Ok l.initial.catalog) (versions_in files l.folder l.id_folder l.versions));
+  misused : (now : ℕ) → MayMisuse (option_map (λ files. are_fit_versions files l.folder
+      (drop l.version-index l.versions)) (g.W.World.tree l.initial.world)) (g.W.World.misused l.world) now
+      → MayMisuse (option_map (λ files. are_fit_versions files l.folder l.versions)
+      (g.W.World.tree l.initial.world)) (g.W.World.misused l.initial.world) now;
+  leaves : Leaves (g.W.World.tree l.initial.world) l.catalog
+      (λ files. versions_in files l.folder l.id_folder (drop l.version-index l.versions))
+      (λ files. followed_by (Ok l.initial.catalog) (versions_in files l.folder l.id_folder l.versions));
 }

@@ -15,5 +15,6 @@ loop-name-preserved c =
     rw c.in_ok-insert.ensures.keys
     (ap (put_all (map text front)) (insert_put text keys name)
     ∙ (sym (put_all-push (map text front) name.now (map text keys))
-    ∙ (ap (λ names. put_all names (map text keys)) (sym (map-append text front (name ∷ [])) ∙ ap (map text) (sym c.in-Some.ensures.items))
+    ∙ (ap (λ names. put_all names (map text keys))
+    (sym (map-append text front (name ∷ [])) ∙ ap (map text) (sym c.in-Some.ensures.items))
     ∙ c.loop-name.invariant)))

@@ -4,7 +4,8 @@ use Rattle.plan_resolve.proofs.PlanLemmas.{put_all}
 use Rattle.plan_resolve.proofs.plan.ascending.Given as goal
 
 abbrev pub invariant-loop-name : goal.invariant-loop-name
-invariant-loop-name l = put_all (map (λ name. name.now) l.names.items) (map (λ name. name.now) l.set.keys) ≡ ascending (map (λ name. name.now) l.initial.names.items)
+invariant-loop-name l = put_all (map (λ name. name.now) l.names.items) (map (λ name. name.now) l.set.keys)
+    ≡ ascending (map (λ name. name.now) l.initial.names.items)
 
 abbrev pub decreases-loop-name : goal.decreases-loop-name
 decreases-loop-name l = vec_len l.names

@@ -14,7 +14,8 @@ returns-in-Some c =
     let found = c.in-Some.ensures.lookup.3 in
     let at = slice_get_read trial (length trial) place row refl found.0 (found.1 row) in
     let behind = drop c.args.index set in
-    let back : take (length set - c.args.index) behind ≡ behind = take_all (length set - c.args.index) behind (omega (arith, length-drop c.args.index set)) in
+    let back : take (length set - c.args.index) behind ≡ behind = take_all (length set - c.args.index) behind
+    (omega (arith, length-drop c.args.index set)) in
     c.row_holds.ensures
     ∙ (ap (λ n. row_holds trial (take n set) (take (length set - c.args.index) behind) row) (add-one c.args.index)
     ∙ (ap (λ places. row_holds trial (take (suc c.args.index) set) places row) back
@@ -23,4 +24,5 @@ returns-in-Some c =
 pub returns-in-None : goal.returns-in-None
 returns-in-None c =
     let place = get_or c.args.set.now c.args.index 0 in
-    holds_past c.args.trial.now c.args.set.now place (slice_get_past c.args.trial.now place (omega (arith, c.in-None.ensures.lookup.3)))
+    holds_past c.args.trial.now c.args.set.now place
+    (slice_get_past c.args.trial.now place (omega (arith, c.in-None.ensures.lookup.3)))

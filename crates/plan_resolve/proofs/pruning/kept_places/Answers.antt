@@ -12,6 +12,7 @@ returns-then-len-all c =
     let set = c.sweep.new.set.items in
     let len : vec_len c.sweep.new.set ≡ length set = omega arith in
     let same : length set ≡ length c.rounds.set.items = omega arith in
-    rw (c.then_some.ensures, c.is_empty.ensures) (unless_zero (λ places. places.items) c.sweep.new.set (vec_len c.sweep.new.set)
+    rw (c.then_some.ensures, c.is_empty.ensures) (unless_zero (λ places. places.items) c.sweep.new.set
+    (vec_len c.sweep.new.set)
     ∙ (ap (λ n. cond (nat_lt 0 n) (Some set) None) len
     ∙ sym (on_the_way_end trial set c.if-not-sweep.ensures.way (c.if-not-sweep.ensures.closed same))))

@@ -18,23 +18,27 @@ pub loop-number-preserved-in-Some : goal.loop-number-preserved-in-Some
 loop-number-preserved-in-Some c =
     let rows = c.args.rows.now in
     let fail = rw c.in-Some.is at c.in_ok-count.ensures.dead in
-    c.loop-number.invariant ∙ next_fail rows (choices_of rows) c.loop-number.number c.in-Some.count (omega (arith, fail.within, length-choices rows)) fail.each
+    c.loop-number.invariant ∙ next_fail rows (choices_of rows) c.loop-number.number c.in-Some.count
+    (omega (arith, fail.within, length-choices rows)) fail.each
 
 pub failing-requires : goal.failing-requires
 failing-requires c = rw (c.as_slice.ensures.value, c.in_ok-all.ensures) (ascending-numbers (length c.args.rows.now))
 
 pub kept_places-requires : goal.kept_places-requires
-kept_places-requires c = let len = rw c.in_default.is at c.in_ok-count.ensures.len in rw c.rows-trial.ensures (omega (arith, c.requires.len))
+kept_places-requires c = let len = rw c.in_default.is at c.in_ok-count.ensures.len
+    in rw c.rows-trial.ensures (omega (arith, c.requires.len))
 
 pub returns-in-Some-2 : goal.returns-in-Some-2
 returns-in-Some-2 c =
     let rows = c.args.rows.now in
     let trial = c.choose.new.prefix.rows.items in
     let here = rw c.in_default.is at c.in_ok-count.ensures.trial in
-    let kept : Some c.in-Some-2.places.items ≡ kept_of trial = rw (c.in-Some-2.is, c.rows-trial.ensures) at c.in_ok-places.ensures in
+    let kept : Some c.in-Some-2.places.items ≡ kept_of trial = rw
+    (c.in-Some-2.is, c.rows-trial.ensures) at c.in_ok-places.ensures in
     let resolved = rw (c.rows-trial.ensures, c.as_slice-in-Some-2.ensures.value) at c.in_ok-resolved.ensures in
     ap Some resolved
-    ∙ sym (c.loop-number.invariant ∙ next_passes rows (choices_of rows) c.loop-number.number trial c.in-Some-2.places.items here (sym kept))
+    ∙ sym (c.loop-number.invariant ∙ next_passes rows (choices_of rows) c.loop-number.number trial
+    c.in-Some-2.places.items here (sym kept))
 
 pub loop-number-preserved : goal.loop-number-preserved
 loop-number-preserved c =
@@ -48,7 +52,8 @@ loop-number-preserved c =
       | in-Some-failing w ↦
           let within = rw (c.as_slice.ensures.value, all) at w.in-Some-failing.ensures.within in
           let fails = rw (c.rows-trial.ensures, c.as_slice.ensures.value, all) at w.in-Some-failing.ensures.fails in
-          c.loop-number.invariant ∙ next_fails rows (choices_of rows) number trial here (fails_at_once trial w.in-Some-failing.index within fails)
+          c.loop-number.invariant ∙ next_fails rows (choices_of rows) number trial here
+          (fails_at_once trial w.in-Some-failing.index within fails)
       | in_default-failing+in_ok-places+in_default-2 w ↦
           let kept : None ≡ kept_of trial = rw (w.in_default-2.is, c.rows-trial.ensures) at w.in_ok-places.ensures in
           c.loop-number.invariant ∙ next_fails rows (choices_of rows) number trial here (sym kept)

@@ -4,4 +4,5 @@ use denote.Shadow.{shadow}
 use Rattle.scenarios.proofs.documents.put_path.Given as goal
 
 abbrev pub invariant-loop-part : goal.invariant-loop-part
-invariant-loop-part l = (goal.iterator-loop-part).can_next l.part-iterator × (goal.iterator-loop-part).is_finite l.part-iterator × shadow (Utf8 l.front)
+invariant-loop-part l = (goal.iterator-loop-part).can_next l.part-iterator
+    × (goal.iterator-loop-part).is_finite l.part-iterator × shadow (Utf8 l.front)

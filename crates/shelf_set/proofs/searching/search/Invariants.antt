@@ -5,6 +5,10 @@ use Rattle.shelf_set.proofs.searching.search.Given as goal
 
 abbrev pub invariant-loop-asked : goal.invariant-loop-asked
 invariant-loop-asked g l =
-    Searching (map (λ b. state_of ((goal.Shelf-dyn g (b.vtable, b.value)).held b.value) ((goal.Shelf-dyn g (b.vtable, b.value)).rows b.value) ((goal.Shelf-dyn g (b.vtable, b.value)).faults b.value)) l.fn.shelves.items)
-    (map (λ b. state_of ((goal.Shelf-dyn g (b.vtable, b.value)).held b.value) ((goal.Shelf-dyn g (b.vtable, b.value)).rows b.value) ((goal.Shelf-dyn g (b.vtable, b.value)).faults b.value)) l.shelves.items)
+    Searching (map (λ b. state_of ((goal.Shelf-dyn g (b.vtable, b.value)).held b.value)
+    ((goal.Shelf-dyn g (b.vtable, b.value)).rows b.value)
+    ((goal.Shelf-dyn g (b.vtable, b.value)).faults b.value)) l.fn.shelves.items)
+    (map (λ b. state_of ((goal.Shelf-dyn g (b.vtable, b.value)).held b.value)
+    ((goal.Shelf-dyn g (b.vtable, b.value)).rows b.value)
+    ((goal.Shelf-dyn g (b.vtable, b.value)).faults b.value)) l.shelves.items)
     l.fn.numbers.items l.numbers.items l.digest l.at l.asked

@@ -5,5 +5,9 @@ use Rattle.shelf_set.proofs.storing.store.Given as goal
 abbrev pub invariant-loop-tree : goal.invariant-loop-tree
 invariant-loop-tree g l =
     Putting l.trees l.tree-index
-    (state_of ((goal.Shelf-dyn g (l.fn.shelf.vtable, l.fn.shelf.value)).held l.fn.shelf.value) ((goal.Shelf-dyn g (l.fn.shelf.vtable, l.fn.shelf.value)).rows l.fn.shelf.value) ((goal.Shelf-dyn g (l.fn.shelf.vtable, l.fn.shelf.value)).faults l.fn.shelf.value))
-    (state_of ((goal.Shelf-dyn g (l.shelf.vtable, l.shelf.value)).held l.shelf.value) ((goal.Shelf-dyn g (l.shelf.vtable, l.shelf.value)).rows l.shelf.value) ((goal.Shelf-dyn g (l.shelf.vtable, l.shelf.value)).faults l.shelf.value))
+    (state_of ((goal.Shelf-dyn g (l.fn.shelf.vtable, l.fn.shelf.value)).held l.fn.shelf.value)
+    ((goal.Shelf-dyn g (l.fn.shelf.vtable, l.fn.shelf.value)).rows l.fn.shelf.value)
+    ((goal.Shelf-dyn g (l.fn.shelf.vtable, l.fn.shelf.value)).faults l.fn.shelf.value))
+    (state_of ((goal.Shelf-dyn g (l.shelf.vtable, l.shelf.value)).held l.shelf.value)
+    ((goal.Shelf-dyn g (l.shelf.vtable, l.shelf.value)).rows l.shelf.value)
+    ((goal.Shelf-dyn g (l.shelf.vtable, l.shelf.value)).faults l.shelf.value))

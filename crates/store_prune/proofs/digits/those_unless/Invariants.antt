@@ -6,4 +6,5 @@ use Rattle.hex.specs.Hex.{encode_lower}
 use Rattle.store_prune.proofs.digits.those_unless.Given as goal
 
 abbrev pub invariant-loop-digest : goal.invariant-loop-digest
-invariant-loop-digest l = l.found ≡ filter (λ one. not (contains bytes_eq l.named (encode_lower one))) (take l.digest-index l.digests)
+invariant-loop-digest l = l.found ≡ filter (λ one. not (contains bytes_eq l.named (encode_lower one)))
+    (take l.digest-index l.digests)

@@ -12,8 +12,15 @@ returns-in_err-there g c =
 
 pub returns-then-not-there : goal.returns-then-not-there
 unfolding adds_document
-returns-then-not-there g c = record { steps = went _ _ _ _ _ _ _ c.in_ok-there.ensures.steps (nothing_added g.D.TableForm.value_in g.D.NamesTrees.digests_of _ _ _ _ c.if-not-there.true) }
+returns-then-not-there g c = record {
+  steps = went _ _ _ _ _ _ _ c.in_ok-there.ensures.steps
+      (nothing_added g.D.TableForm.value_in g.D.NamesTrees.digests_of _ _ _ _ c.if-not-there.true);
+}
 
 pub returns : goal.returns
 unfolding adds_document
-returns g c = record { steps = went _ _ _ _ _ _ _ c.in_ok-there.ensures.steps (added_there g.D.TableForm.value_in g.D.NamesTrees.digests_of _ _ _ _ _ _ c.if-not-there.false c.add_names_of.ensures.steps) }
+returns g c = record {
+  steps = went _ _ _ _ _ _ _ c.in_ok-there.ensures.steps
+      (added_there g.D.TableForm.value_in g.D.NamesTrees.digests_of _ _ _ _ _ _ c.if-not-there.false
+      c.add_names_of.ensures.steps);
+}

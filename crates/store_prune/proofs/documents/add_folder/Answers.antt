@@ -12,4 +12,8 @@ returns-in_err-names g c =
 
 pub returns : goal.returns
 unfolding adds_folder
-returns g c = record { steps = went _ _ _ _ _ _ _ c.in_ok-names.ensures.steps (names_at g.D.TableForm.value_in g.D.NamesTrees.digests_of _ _ _ _ _ _ _ c.as_slice.ensures c.add_names.ensures.steps) }
+returns g c = record {
+  steps = went _ _ _ _ _ _ _ c.in_ok-names.ensures.steps
+      (names_at g.D.TableForm.value_in g.D.NamesTrees.digests_of _ _ _ _ _ _ _ c.as_slice.ensures
+      c.add_names.ensures.steps);
+}

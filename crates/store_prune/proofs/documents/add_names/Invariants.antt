@@ -10,6 +10,9 @@ use Rattle.store_prune.proofs.documents.add_names.Given as goal
 abbrev pub invariant-loop-name : goal.invariant-loop-name
 invariant-loop-name g l = record {
   names : AreNames (drop l.name-index l.names);
-  left : (result : Result (List (List ℕ)) PruneFault) (new : Seen) → for_each (adds_name g.D.TableForm.value_in g.D.NamesTrees.digests_of l.folder) (drop l.name-index l.names) l.named (seen g.W.World l.world) result new
-      → for_each (adds_name g.D.TableForm.value_in g.D.NamesTrees.digests_of l.folder) l.names l.initial.named (seen g.W.World l.initial.world) result new;
+  left : (result : Result (List (List ℕ)) PruneFault) (new : Seen)
+      → for_each (adds_name g.D.TableForm.value_in g.D.NamesTrees.digests_of l.folder)
+      (drop l.name-index l.names) l.named (seen g.W.World l.world) result new
+      → for_each (adds_name g.D.TableForm.value_in g.D.NamesTrees.digests_of l.folder) l.names l.initial.named
+      (seen g.W.World l.initial.world) result new;
 }

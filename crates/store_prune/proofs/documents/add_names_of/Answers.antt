@@ -19,4 +19,8 @@ returns-in_err-push_all g c =
 
 pub returns : goal.returns
 unfolding adds_where
-returns g c = record { steps = went _ _ _ _ _ _ _ c.in_ok-more.ensures.steps (given _ _ _ _ (ap Ok (sym (c.in_ok-push_all.ensures ∙ ap (λ more. c.args.named ++ more) c.as_slice.ensures)))) }
+returns g c = record {
+  steps = went _ _ _ _ _ _ _ c.in_ok-more.ensures.steps
+      (given _ _ _ _ (ap Ok (sym (c.in_ok-push_all.ensures ∙ ap
+      (λ more. c.args.named ++ more) c.as_slice.ensures))));
+}

@@ -10,8 +10,18 @@ pub returns-in_err-found : goal.returns-in_err-found
 unfolding reads_names
 returns-in_err-found g c =
     let exit = err_from_is_err_and c.from_residual.result c.from_residual.ensures.1 in
-    rw (exit.1, exit.2) (record { steps = document_refused cause_of of_read_fault same_cause g.D.TableForm.value_in (named_by g.D.NamesTrees.digests_of) {path = c.args.path.now} {at = c.args.path.now} _ refl c.in_err-found.ensures.reads c.in_err-found.ensures.frame c.in_err-found.ensures.misused })
+    rw (exit.1, exit.2) (record {
+      steps = document_refused cause_of of_read_fault same_cause
+          g.D.TableForm.value_in (named_by g.D.NamesTrees.digests_of) {path = c.args.path.now}
+          {at = c.args.path.now} _ refl c.in_err-found.ensures.reads c.in_err-found.ensures.frame
+          c.in_err-found.ensures.misused;
+    })
 
 pub returns : goal.returns
 unfolding reads_names
-returns g c = record { steps = document_read cause_of of_read_fault same_cause g.D.TableForm.value_in (named_by g.D.NamesTrees.digests_of) {path = c.args.path.now} {at = c.args.path.now} c.in_ok-found.found c.named_by.result refl c.in_ok-found.ensures.reads c.in_ok-found.ensures.frame c.in_ok-found.ensures.misused c.named_by.ensures.answer c.named_by.ensures.cause }
+returns g c = record {
+  steps = document_read cause_of of_read_fault same_cause g.D.TableForm.value_in
+      (named_by g.D.NamesTrees.digests_of) {path = c.args.path.now} {at = c.args.path.now} c.in_ok-found.found
+      c.named_by.result refl c.in_ok-found.ensures.reads c.in_ok-found.ensures.frame c.in_ok-found.ensures.misused
+      c.named_by.ensures.answer c.named_by.ensures.cause;
+}

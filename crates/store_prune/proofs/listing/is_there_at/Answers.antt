@@ -13,8 +13,17 @@ pub returns-in_err-there : goal.returns-in_err-there
 unfolding looks_for
 returns-in_err-there g c =
     let exit = err_from_is_err_and c.from_residual.result c.from_residual.ensures.1 in
-    rw (exit.1, exit.2) (record { steps = files_refused cause_of of_read_fault same_cause (λ (files : Tree). true) (λ (files : Tree). Ok (is_some (item_at files c.args.path.now))) _ c.in_err-there.ensures.reads c.in_err-there.ensures.frame (allowed_by (λ (files : Tree). true) _ _ _ c.in_err-there.ensures.misused) })
+    rw (exit.1, exit.2) (record {
+      steps = files_refused cause_of of_read_fault same_cause (λ (files : Tree). true)
+          (λ (files : Tree). Ok (is_some (item_at files c.args.path.now))) _ c.in_err-there.ensures.reads
+          c.in_err-there.ensures.frame (allowed_by (λ (files : Tree). true) _ _ _ c.in_err-there.ensures.misused);
+    })
 
 pub returns : goal.returns
 unfolding looks_for
-returns g c = record { steps = files_read cause_of of_read_fault same_cause (λ (files : Tree). true) (λ (files : Tree). Ok (is_some (item_at files c.args.path.now))) c.in_ok-there.there c.in_ok-there.ensures.reads c.in_ok-there.ensures.frame (allowed_by (λ (files : Tree). true) _ _ _ c.in_ok-there.ensures.misused) }
+returns g c = record {
+  steps = files_read cause_of of_read_fault same_cause (λ (files : Tree). true)
+      (λ (files : Tree). Ok (is_some (item_at files c.args.path.now))) c.in_ok-there.there
+      c.in_ok-there.ensures.reads c.in_ok-there.ensures.frame
+      (allowed_by (λ (files : Tree). true) _ _ _ c.in_ok-there.ensures.misused);
+}

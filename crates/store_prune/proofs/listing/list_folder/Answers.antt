@@ -12,8 +12,10 @@ returns-in_err-there-clause-steps g c =
 
 pub returns-then-not-there-clause-steps : goal.returns-then-not-there-clause-steps
 unfolding lists
-returns-then-not-there-clause-steps g c = went _ _ _ _ _ _ _ c.in_ok-there.ensures.steps (nothing_listed _ _ _ _ c.if-not-there.true c.new.ensures)
+returns-then-not-there-clause-steps g c = went _ _ _ _ _ _ _ c.in_ok-there.ensures.steps
+    (nothing_listed _ _ _ _ c.if-not-there.true c.new.ensures)
 
 pub returns-clause-steps : goal.returns-clause-steps
 unfolding lists
-returns-clause-steps g c = went _ _ _ _ _ _ _ c.in_ok-there.ensures.steps (listed_there _ _ _ _ _ c.if-not-there.false c.list_there.ensures.steps)
+returns-clause-steps g c = went _ _ _ _ _ _ _ c.in_ok-there.ensures.steps
+    (listed_there _ _ _ _ _ c.if-not-there.false c.list_there.ensures.steps)

@@ -11,8 +11,12 @@ pub returns-in_err-names-clause-steps : goal.returns-in_err-names-clause-steps
 unfolding lists_where
 returns-in_err-names-clause-steps g c =
     let exit = err_from_is_err_and c.from_residual.result c.from_residual.ensures.1 in
-    rw (exit.1, exit.2) (files_refused cause_of of_read_fault same_cause (λ (files : Tree). can_list files c.args.folder.now) (λ (files : Tree). names_at files c.args.folder.now) _ c.in_err-names.ensures.reads c.in_err-names.ensures.frame c.in_err-names.ensures.misused)
+    rw (exit.1, exit.2) (files_refused cause_of of_read_fault same_cause
+    (λ (files : Tree). can_list files c.args.folder.now) (λ (files : Tree). names_at files c.args.folder.now)
+    _ c.in_err-names.ensures.reads c.in_err-names.ensures.frame c.in_err-names.ensures.misused)
 
 pub returns-clause-steps : goal.returns-clause-steps
 unfolding lists_where
-returns-clause-steps g c = files_read cause_of of_read_fault same_cause (λ (files : Tree). can_list files c.args.folder.now) (λ (files : Tree). names_at files c.args.folder.now) c.in_ok-names.names c.in_ok-names.ensures.reads c.in_ok-names.ensures.frame c.in_ok-names.ensures.misused
+returns-clause-steps g c = files_read cause_of of_read_fault same_cause
+    (λ (files : Tree). can_list files c.args.folder.now) (λ (files : Tree). names_at files c.args.folder.now)
+    c.in_ok-names.names c.in_ok-names.ensures.reads c.in_ok-names.ensures.frame c.in_ok-names.ensures.misused

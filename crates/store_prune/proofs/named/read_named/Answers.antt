@@ -22,10 +22,18 @@ pub returns-in_err-named : goal.returns-in_err-named
 unfolding reads_named
 returns-in_err-named g c =
     let exit = err_from_is_err_and c.from_residual-in_err-named.result c.from_residual-in_err-named.ensures.1 in
-    rw (exit.1, exit.2) (record { steps = ended _ _ _ _ _ (named_at image_table_in digests_of_image _ _ _ _ _ _ c.new-named.ensures (folder_at image_table_in digests_of_image _ _ _ _ _ _ c.in_ok-images.ensures.path c.in_err-named.ensures.steps)) })
+    rw (exit.1, exit.2) (record {
+      steps = ended _ _ _ _ _
+          (named_at image_table_in digests_of_image _ _ _ _ _ _ c.new-named.ensures
+          (folder_at image_table_in digests_of_image _ _ _ _ _ _ c.in_ok-images.ensures.path
+          c.in_err-named.ensures.steps));
+    })
 
 pub returns : goal.returns
 unfolding reads_named
 returns g c = record {
-  steps = went _ _ _ _ _ _ _ (named_at image_table_in digests_of_image _ _ _ _ _ _ c.new-named.ensures (folder_at image_table_in digests_of_image _ _ _ _ _ _ c.in_ok-images.ensures.path c.in_ok-named.ensures.steps)) (folder_at table_in digests_of_run _ _ _ _ _ _ c.in_ok-runs.ensures.path c.add_folder-2.ensures.steps);
+  steps = went _ _ _ _ _ _ _ (named_at image_table_in digests_of_image _ _ _ _ _ _ c.new-named.ensures
+      (folder_at image_table_in digests_of_image _ _ _ _ _ _ c.in_ok-images.ensures.path
+      c.in_ok-named.ensures.steps)) (folder_at table_in digests_of_run _ _ _ _ _ _ c.in_ok-runs.ensures.path
+      c.add_folder-2.ensures.steps);
 }

@@ -17,12 +17,16 @@ returns-in_err-pruned-clause-steps g c =
 pub returns-in_err-remove_trees-clause-steps : goal.returns-in_err-remove_trees-clause-steps
 unfolding prunes
 returns-in_err-remove_trees-clause-steps g c =
-    let exit = err_from_is_err_and c.from_residual-in_err-remove_trees.result c.from_residual-in_err-remove_trees.ensures.1 in
-    rw (exit.1, exit.2) (went _ _ _ _ _ _ _ c.in_ok-pruned.ensures.steps (ended _ _ _ _ _ (trees_at _ _ _ _ _ _ c.as_slice.ensures c.in_err-remove_trees.ensures.steps)))
+    let exit = err_from_is_err_and c.from_residual-in_err-remove_trees.result
+    c.from_residual-in_err-remove_trees.ensures.1 in
+    rw (exit.1, exit.2) (went _ _ _ _ _ _ _ c.in_ok-pruned.ensures.steps
+    (ended _ _ _ _ _ (trees_at _ _ _ _ _ _ c.as_slice.ensures c.in_err-remove_trees.ensures.steps)))
 
 pub returns-clause-steps : goal.returns-clause-steps
 unfolding prunes
-returns-clause-steps g c = went _ _ _ _ _ _ _ c.in_ok-pruned.ensures.steps (went _ _ _ _ _ _ _ (trees_at _ _ _ _ _ _ c.as_slice.ensures c.in_ok-remove_trees.ensures.steps) (yielded PruneFault _ _))
+returns-clause-steps g c = went _ _ _ _ _ _ _ c.in_ok-pruned.ensures.steps
+    (went _ _ _ _ _ _ _ (trees_at _ _ _ _ _ _ c.as_slice.ensures c.in_ok-remove_trees.ensures.steps)
+    (yielded PruneFault _ _))
 
 pub returns-in_err-pruned-clause-removed : goal.returns-in_err-pruned-clause-removed
 returns-in_err-pruned-clause-removed g c = pruned_so c.args.store.now _ _ _ (returns-in_err-pruned-clause-steps g c)
@@ -31,10 +35,12 @@ pub returns-in_err-pruned-clause-kept : goal.returns-in_err-pruned-clause-kept
 returns-in_err-pruned-clause-kept g c = kept_so c.args.store.now _ _ _ (returns-in_err-pruned-clause-steps g c)
 
 pub returns-in_err-remove_trees-clause-removed : goal.returns-in_err-remove_trees-clause-removed
-returns-in_err-remove_trees-clause-removed g c = pruned_so c.args.store.now _ _ _ (returns-in_err-remove_trees-clause-steps g c)
+returns-in_err-remove_trees-clause-removed g c = pruned_so c.args.store.now _ _ _
+    (returns-in_err-remove_trees-clause-steps g c)
 
 pub returns-in_err-remove_trees-clause-kept : goal.returns-in_err-remove_trees-clause-kept
-returns-in_err-remove_trees-clause-kept g c = kept_so c.args.store.now _ _ _ (returns-in_err-remove_trees-clause-steps g c)
+returns-in_err-remove_trees-clause-kept g c = kept_so c.args.store.now _ _ _
+    (returns-in_err-remove_trees-clause-steps g c)
 
 pub returns-clause-removed : goal.returns-clause-removed
 returns-clause-removed g c = pruned_so c.args.store.now _ _ _ (returns-clause-steps g c)
@@ -46,16 +52,20 @@ pub returns-in_err-pruned-clause-named : goal.returns-in_err-pruned-clause-named
 returns-in_err-pruned-clause-named g c = named_stand c.args.store.now _ _ (returns-in_err-pruned-clause-kept g c)
 
 pub returns-in_err-remove_trees-clause-named : goal.returns-in_err-remove_trees-clause-named
-returns-in_err-remove_trees-clause-named g c = named_stand c.args.store.now _ _ (returns-in_err-remove_trees-clause-kept g c)
+returns-in_err-remove_trees-clause-named g c = named_stand c.args.store.now _ _
+    (returns-in_err-remove_trees-clause-kept g c)
 
 pub returns-clause-named : goal.returns-clause-named
 returns-clause-named g c = named_stand c.args.store.now _ _ (returns-clause-kept g c)
 
 pub returns-in_err-pruned-clause-images : goal.returns-in_err-pruned-clause-images
-returns-in_err-pruned-clause-images g c = images_kept c.args.store.now _ _ (g.W.World.standing c.args.world.now) (returns-in_err-pruned-clause-kept g c)
+returns-in_err-pruned-clause-images g c = images_kept c.args.store.now _ _ (g.W.World.standing c.args.world.now)
+    (returns-in_err-pruned-clause-kept g c)
 
 pub returns-in_err-remove_trees-clause-images : goal.returns-in_err-remove_trees-clause-images
-returns-in_err-remove_trees-clause-images g c = images_kept c.args.store.now _ _ (g.W.World.standing c.args.world.now) (returns-in_err-remove_trees-clause-kept g c)
+returns-in_err-remove_trees-clause-images g c = images_kept c.args.store.now _ _
+    (g.W.World.standing c.args.world.now) (returns-in_err-remove_trees-clause-kept g c)
 
 pub returns-clause-images : goal.returns-clause-images
-returns-clause-images g c = images_kept c.args.store.now _ _ (g.W.World.standing c.args.world.now) (returns-clause-kept g c)
+returns-clause-images g c = images_kept c.args.store.now _ _ (g.W.World.standing c.args.world.now)
+    (returns-clause-kept g c)

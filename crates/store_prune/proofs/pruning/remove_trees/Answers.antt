@@ -14,4 +14,7 @@ returns-in_err-paths g c =
 
 pub returns : goal.returns
 unfolding removes_trees
-returns g c = record { steps = went _ _ _ _ _ _ _ (given _ _ _ _ (ap Ok (sym c.in_ok-paths.ensures))) (removed_at _ _ _ _ _ c.as_slice.ensures c.remove_all.ensures.steps) }
+returns g c = record {
+  steps = went _ _ _ _ _ _ _ (given _ _ _ _ (ap Ok (sym c.in_ok-paths.ensures)))
+      (removed_at _ _ _ _ _ c.as_slice.ensures c.remove_all.ensures.steps);
+}

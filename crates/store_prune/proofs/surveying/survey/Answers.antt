@@ -15,14 +15,25 @@ pub returns-in_err-trees : goal.returns-in_err-trees
 unfolding surveys
 returns-in_err-trees g c =
     let exit = err_from_is_err_and c.from_residual-in_err-trees.result c.from_residual-in_err-trees.ensures.1 in
-    rw (exit.1, exit.2) (record { steps = went _ _ _ _ _ _ _ c.in_ok-named.ensures.steps (ended _ _ _ _ _ c.in_err-trees.ensures.steps) })
+    rw (exit.1, exit.2) (record {
+      steps = went _ _ _ _ _ _ _ c.in_ok-named.ensures.steps
+          (ended _ _ _ _ _ c.in_err-trees.ensures.steps);
+    })
 
 pub returns-in_err-pruned : goal.returns-in_err-pruned
 unfolding surveys
 returns-in_err-pruned g c =
     let exit = err_from_is_err_and c.from_residual-in_err-pruned.result c.from_residual-in_err-pruned.ensures.1 in
-    rw (exit.1, exit.2) (record { steps = went _ _ _ _ _ _ _ c.in_ok-named.ensures.steps (went _ _ _ _ _ _ _ c.in_ok-trees.ensures.steps (no_memory _ _ _ Memory refl)) })
+    rw (exit.1, exit.2) (record {
+      steps = went _ _ _ _ _ _ _ c.in_ok-named.ensures.steps
+          (went _ _ _ _ _ _ _ c.in_ok-trees.ensures.steps (no_memory _ _ _ Memory refl));
+    })
 
 pub returns : goal.returns
 unfolding surveys
-returns g c = record { steps = went _ _ _ _ _ _ _ c.in_ok-named.ensures.steps (went _ _ _ _ _ _ _ c.in_ok-trees.ensures.steps (given _ _ _ _ (ap Ok (sym (c.in_ok-pruned.ensures ∙ ap (pruned_of c.in_ok-named.named) c.as_slice.ensures))))) }
+returns g c = record {
+  steps = went _ _ _ _ _ _ _ c.in_ok-named.ensures.steps
+      (went _ _ _ _ _ _ _ c.in_ok-trees.ensures.steps
+      (given _ _ _ _ (ap Ok (sym (c.in_ok-pruned.ensures ∙ ap
+      (pruned_of c.in_ok-named.named) c.as_slice.ensures)))));
+}

@@ -17,14 +17,24 @@ pub returns-in_err-there : goal.returns-in_err-there
 unfolding adds_digest
 returns-in_err-there g c =
     let exit = err_from_is_err_and c.from_residual-in_err-there.result c.from_residual-in_err-there.ensures.1 in
-    rw (exit.1, exit.2) (record { steps = ended _ _ _ _ _ (looked_at _ _ _ _ _ c.in_ok-path.ensures c.in_err-there.ensures.steps) })
+    rw (exit.1, exit.2) (record {
+      steps = ended _ _ _ _ _
+          (looked_at _ _ _ _ _ c.in_ok-path.ensures c.in_err-there.ensures.steps);
+    })
 
 pub returns-in_err-trees : goal.returns-in_err-trees
 unfolding adds_digest
 returns-in_err-trees g c =
     let exit = err_from_is_err_and c.from_residual-in_err-trees.result c.from_residual-in_err-trees.ensures.1 in
-    rw (exit.1, exit.2) (record { steps = went _ _ _ _ _ _ _ (looked_at _ _ _ _ _ c.in_ok-path.ensures c.in_ok-there.ensures.steps) (no_memory _ _ _ Memory refl) })
+    rw (exit.1, exit.2) (record {
+      steps = went _ _ _ _ _ _ _
+          (looked_at _ _ _ _ _ c.in_ok-path.ensures c.in_ok-there.ensures.steps) (no_memory _ _ _ Memory refl);
+    })
 
 pub returns : goal.returns
 unfolding adds_digest
-returns g c = record { steps = went _ _ _ _ _ _ _ (looked_at _ _ _ _ _ c.in_ok-path.ensures c.in_ok-there.ensures.steps) (given _ _ _ _ (ap Ok (sym c.in_ok-trees.ensures))) }
+returns g c = record {
+  steps = went _ _ _ _ _ _ _
+      (looked_at _ _ _ _ _ c.in_ok-path.ensures c.in_ok-there.ensures.steps)
+      (given _ _ _ _ (ap Ok (sym c.in_ok-trees.ensures)));
+}

@@ -15,8 +15,15 @@ pub returns-in_err-names : goal.returns-in_err-names
 unfolding reads_trees
 returns-in_err-names g c =
     let exit = err_from_is_err_and c.from_residual-in_err-names.result c.from_residual-in_err-names.ensures.1 in
-    rw (exit.1, exit.2) (record { steps = ended _ _ _ _ _ (listed_at _ _ _ _ _ c.in_ok-folder.ensures.path c.in_err-names.ensures.steps) })
+    rw (exit.1, exit.2) (record {
+      steps = ended _ _ _ _ _
+          (listed_at _ _ _ _ _ c.in_ok-folder.ensures.path c.in_err-names.ensures.steps);
+    })
 
 pub returns : goal.returns
 unfolding reads_trees
-returns g c = record { steps = went _ _ _ _ _ _ _ (listed_at _ _ _ _ _ c.in_ok-folder.ensures.path c.in_ok-names.ensures.steps) (trees_at _ _ _ _ _ _ _ c.as_slice.ensures c.add_trees.ensures.steps) }
+returns g c = record {
+  steps = went _ _ _ _ _ _ _
+      (listed_at _ _ _ _ _ c.in_ok-folder.ensures.path c.in_ok-names.ensures.steps)
+      (trees_at _ _ _ _ _ _ _ c.as_slice.ensures c.add_trees.ensures.steps);
+}

@@ -19,10 +19,17 @@ unfolding checks_image
 returns-in_err-check_all g c =
     let exit = err_from_is_err_and c.from_residual-in_err-check_all.result c.from_residual-in_err-check_all.ensures.1 in
     let rows = c.in_ok-digests.ensures ∙ ap (λ rows. distinct (map (λ row. row.digest) rows)) c.as_slice.ensures in
-    rw (exit.1, exit.2) (record { steps = went _ _ _ _ _ _ _ (given _ _ _ _ (ap Ok (sym rows))) (ended _ _ _ _ _ (checked_at _ _ _ _ _ _ c.as_slice-found.ensures c.in_err-check_all.ensures.steps)) })
+    rw (exit.1, exit.2) (record {
+      steps = went _ _ _ _ _ _ _ (given _ _ _ _ (ap Ok (sym rows)))
+          (ended _ _ _ _ _ (checked_at _ _ _ _ _ _ c.as_slice-found.ensures c.in_err-check_all.ensures.steps));
+    })
 
 pub returns : goal.returns
 unfolding checks_image
 returns g c =
     let rows = c.in_ok-digests.ensures ∙ ap (λ rows. distinct (map (λ row. row.digest) rows)) c.as_slice.ensures in
-    record { steps = went _ _ _ _ _ _ _ (given _ _ _ _ (ap Ok (sym rows))) (went _ _ _ _ _ _ _ (checked_at _ _ _ _ _ _ c.as_slice-found.ensures c.in_ok-check_all.ensures.steps) (counted _ _ _ (ap length c.as_slice-found.ensures))) }
+    record {
+      steps = went _ _ _ _ _ _ _ (given _ _ _ _ (ap Ok (sym rows)))
+          (went _ _ _ _ _ _ _ (checked_at _ _ _ _ _ _ c.as_slice-found.ensures c.in_ok-check_all.ensures.steps)
+          (counted _ _ _ (ap length c.as_slice-found.ensures)));
+    }

@@ -18,4 +18,5 @@ pub returns-clause-exactly : goal.returns-clause-exactly
 returns-clause-exactly g c = verified_so c.args.store.now c.args.image.now _ _ _ (returns-clause-steps g c)
 
 pub returns-in_err-image-clause-exactly : goal.returns-in_err-image-clause-exactly
-returns-in_err-image-clause-exactly g c = verified_so c.args.store.now c.args.image.now _ _ _ (returns-in_err-image-clause-steps g c)
+returns-in_err-image-clause-exactly g c = verified_so c.args.store.now c.args.image.now _ _ _
+    (returns-in_err-image-clause-steps g c)

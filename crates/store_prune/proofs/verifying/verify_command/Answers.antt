@@ -16,8 +16,14 @@ pub returns-in_err-text : goal.returns-in_err-text
 unfolding verifies_command
 returns-in_err-text g c =
     let exit = err_from_is_err_and c.from_residual-in_err-text.result c.from_residual-in_err-text.ensures.1 in
-    rw (exit.1, exit.2) (record { steps = went _ _ _ _ _ _ _ c.in_ok-count.ensures.steps (no_memory _ _ _ (Store Memory) refl) })
+    rw (exit.1, exit.2) (record {
+      steps = went _ _ _ _ _ _ _ c.in_ok-count.ensures.steps
+          (no_memory _ _ _ (Store Memory) refl);
+    })
 
 pub returns : goal.returns
 unfolding verifies_command
-returns g c = record { steps = went _ _ _ _ _ _ _ c.in_ok-count.ensures.steps (given _ _ _ _ (ap Ok (sym c.in_ok-text.ensures))) }
+returns g c = record {
+  steps = went _ _ _ _ _ _ _ c.in_ok-count.ensures.steps
+      (given _ _ _ _ (ap Ok (sym c.in_ok-text.ensures)));
+}

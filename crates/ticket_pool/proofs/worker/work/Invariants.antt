@@ -6,7 +6,8 @@ use Rattle.ticket_pool.proofs.worker.work.Given as goal
 abbrev pub invariant-draws : goal.invariant-draws
 invariant-draws g l = record {
   of : IsPassOf l.round l.pass;
-  going : Going g.S.Spawner.runs g.S.Spawner.says g.S.Spawner.faults l.jobs l.initial.spawner l.spawner l.list.items (view_of l.pass);
+  going : Going g.S.Spawner.runs g.S.Spawner.says g.S.Spawner.faults l.jobs l.initial.spawner l.spawner
+      l.list.items (view_of l.pass);
   room : length l.jobs ≤ vec_capacity l.list;
 }
 

@@ -8,8 +8,10 @@ use Rattle.tree_canon.proofs.decoder.read.Goals as goal
 pub returns-in_err-step-clause-bad : goal.returns-in_err-step-clause-bad
 returns-in_err-step-clause-bad c state h at reason e =
     let p = err_from_is_err_and c.from_residual.result c.from_residual.ensures.1 in
-    read_stuck c.args.scanner.now c.loop-rest.scanner c.args.building.now c.loop-rest.building c.args.piece.now c.loop-rest.rest.now c.split_at.result.0.now c.split_at.result.1.now at reason
-    c.loop-rest.invariant.read c.split_at.ensures.by_index.0 (λ here reached. c.in_err-step.ensures.bad here reached at reason (cc (p.1, p.2, e))) state h
+    read_stuck c.args.scanner.now c.loop-rest.scanner c.args.building.now c.loop-rest.building c.args.piece.now
+    c.loop-rest.rest.now c.split_at.result.0.now c.split_at.result.1.now at reason
+    c.loop-rest.invariant.read c.split_at.ensures.by_index.0
+    (λ here reached. c.in_err-step.ensures.bad here reached at reason (cc (p.1, p.2, e))) state h
 
 pub loop-rest-preserved : goal.loop-rest-preserved
 loop-rest-preserved c =
@@ -18,14 +20,18 @@ loop-rest-preserved c =
     let same = c.in_ok-close.ensures.place in
     let taken = c.split_at-in-loop-rest.result.0.now in
     let front : take c.in_ok-step.step.used c.split_at.result.0.now ≡ c.split_at-in-loop-rest.result.0.now
-    = taken_is c.in_ok-step.step.used before.rest.now c.split_at.result.0.now c.split_at.result.1.now taken c.split_at.ensures.by_index.0 told.used c.split_at-in-loop-rest.ensures.front in
-    let adds = adds_event before.scanner c.next.new.self before.building c.add.new.self c.in_ok-step.step.event (take c.in_ok-step.step.used c.split_at.result.0.now) taken front told.told c.in_ok-add.ensures in
+    = taken_is c.in_ok-step.step.used before.rest.now c.split_at.result.0.now c.split_at.result.1.now taken
+    c.split_at.ensures.by_index.0 told.used c.split_at-in-loop-rest.ensures.front in
+    let adds = adds_event before.scanner c.next.new.self before.building c.add.new.self c.in_ok-step.step.event
+    (take c.in_ok-step.step.used c.split_at.result.0.now) taken front told.told c.in_ok-add.ensures in
     record {
       partial = beside_partial c.next.new.self c.close.new.scanner same told.partial;
       small = beside_small c.next.new.self c.close.new.scanner same told.small;
       owed = c.in_ok-close.ensures.owed;
-      read = read_more c.args.scanner.now before.scanner c.close.new.scanner c.args.building.now before.building c.close.new.building c.args.piece.now before.rest.now taken c.split_at-in-loop-rest.result.1.now
+      read = read_more c.args.scanner.now before.scanner c.close.new.scanner c.args.building.now before.building
+          c.close.new.building c.args.piece.now before.rest.now taken c.split_at-in-loop-rest.result.1.now
           before.invariant.read c.split_at-in-loop-rest.ensures.by_index.0
-          (λ state h. beside_at c.next.new.self c.close.new.scanner same (run state taken) (subst (λ x. IsAt c.next.new.self (run state x)) front (told.runs state h)))
+          (λ state h. beside_at c.next.new.self c.close.new.scanner same (run state taken)
+          (subst (λ x. IsAt c.next.new.self (run state x)) front (told.runs state h)))
           (λ bytes h. c.in_ok-close.ensures.made (bytes ++ taken) (adds bytes h));
     }

@@ -14,12 +14,19 @@ returns-in_err-tree g c =
 pub returns-in_err-write_tree : goal.returns-in_err-write_tree
 unfolding lays_stored
 returns-in_err-write_tree g c =
-    let exit = err_from_is_err_and c.from_residual-in_err-write_tree.result c.from_residual-in_err-write_tree.ensures.1 in
-    rw (exit.1, exit.2) (record { steps = (went _ _ _ _ _ _ _ c.in_ok-tree.ensures.steps (whole_laid c.args.store.now c.args.digest.now c.args.root.now c.args.place.now _ _ _ (Err _) c.in_err-write_tree.ensures.steps)) })
+    let exit = err_from_is_err_and c.from_residual-in_err-write_tree.result
+    c.from_residual-in_err-write_tree.ensures.1 in
+    rw (exit.1, exit.2) (record {
+      steps = (went _ _ _ _ _ _ _ c.in_ok-tree.ensures.steps
+          (whole_laid c.args.store.now c.args.digest.now c.args.root.now c.args.place.now _ _ _
+          (Err _) c.in_err-write_tree.ensures.steps));
+    })
 
 pub returns : goal.returns
 unfolding lays_stored
 returns g c = record {
   steps =
-      went _ _ _ _ _ _ _ c.in_ok-tree.ensures.steps (whole_laid c.args.store.now c.args.digest.now c.args.root.now c.args.place.now _ _ _ (Ok _) c.in_ok-write_tree.ensures.steps);
+      went _ _ _ _ _ _ _ c.in_ok-tree.ensures.steps
+      (whole_laid c.args.store.now c.args.digest.now c.args.root.now c.args.place.now _ _ _
+      (Ok _) c.in_ok-write_tree.ensures.steps);
 }

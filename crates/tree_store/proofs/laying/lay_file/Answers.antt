@@ -15,16 +15,29 @@ pub returns-in_err-clear-clause-right : goal.returns-in_err-clear-clause-right
 returns-in_err-clear-clause-right g c = λ plain all. c.clear.ensures.right plain
 
 pub returns-in_err-write_file-clause-right : goal.returns-in_err-write_file-clause-right
-returns-in_err-write_file-clause-right g c = λ plain all. c.write_file.ensures.right (can_create_cleared c.args.path.now (g.W.World.tree c.args.world.now) (g.W.World.tree c.clear.new.world) c.in_ok-clear.ensures.ok plain (way_kept c.args.path.now (g.W.World.tree c.args.world.now) (g.W.World.tree c.clear.new.world) plain c.clear.ensures.around.files all)) ∙ c.clear.ensures.right plain
+returns-in_err-write_file-clause-right g c = λ plain all. c.write_file.ensures.right
+    (can_create_cleared c.args.path.now (g.W.World.tree c.args.world.now)
+    (g.W.World.tree c.clear.new.world) c.in_ok-clear.ensures.ok plain
+    (way_kept c.args.path.now (g.W.World.tree c.args.world.now)
+    (g.W.World.tree c.clear.new.world) plain c.clear.ensures.around.files all)) ∙ c.clear.ensures.right plain
 
 pub returns-clause-right : goal.returns-clause-right
-returns-clause-right g c = λ plain all. c.write_file.ensures.right (can_create_cleared c.args.path.now (g.W.World.tree c.args.world.now) (g.W.World.tree c.clear.new.world) c.in_ok-clear.ensures.ok plain (way_kept c.args.path.now (g.W.World.tree c.args.world.now) (g.W.World.tree c.clear.new.world) plain c.clear.ensures.around.files all)) ∙ c.clear.ensures.right plain
+returns-clause-right g c = λ plain all. c.write_file.ensures.right
+    (can_create_cleared c.args.path.now (g.W.World.tree c.args.world.now)
+    (g.W.World.tree c.clear.new.world) c.in_ok-clear.ensures.ok plain
+    (way_kept c.args.path.now (g.W.World.tree c.args.world.now)
+    (g.W.World.tree c.clear.new.world) plain c.clear.ensures.around.files all)) ∙ c.clear.ensures.right plain
 
 pub returns-in_err-clear-clause-partly : goal.returns-in_err-clear-clause-partly
-returns-in_err-clear-clause-partly g c = cleared_partly c.args.path.now (item.File c.args.exec c.args.bytes.now) c.clear.result _ _ refl c.clear.ensures.ok c.clear.ensures.err
+returns-in_err-clear-clause-partly g c = cleared_partly c.args.path.now
+    (item.File c.args.exec c.args.bytes.now) c.clear.result _ _ refl c.clear.ensures.ok c.clear.ensures.err
 
 pub returns-in_err-write_file-clause-partly : goal.returns-in_err-write_file-clause-partly
-returns-in_err-write_file-clause-partly g c = partly_then _ _ _ _ _ (cleared_partly c.args.path.now (item.File c.args.exec c.args.bytes.now) c.clear.result _ _ refl c.clear.ensures.ok c.clear.ensures.err) c.write_file.ensures.partly
+returns-in_err-write_file-clause-partly g c = partly_then _ _ _ _ _
+    (cleared_partly c.args.path.now (item.File c.args.exec c.args.bytes.now) c.clear.result _ _ refl
+    c.clear.ensures.ok c.clear.ensures.err) c.write_file.ensures.partly
 
 pub returns-clause-partly : goal.returns-clause-partly
-returns-clause-partly g c = partly_then _ _ _ _ _ (cleared_partly c.args.path.now (item.File c.args.exec c.args.bytes.now) c.clear.result _ _ refl c.clear.ensures.ok c.clear.ensures.err) c.write_file.ensures.partly
+returns-clause-partly g c = partly_then _ _ _ _ _
+    (cleared_partly c.args.path.now (item.File c.args.exec c.args.bytes.now) c.clear.result _ _ refl
+    c.clear.ensures.ok c.clear.ensures.err) c.write_file.ensures.partly

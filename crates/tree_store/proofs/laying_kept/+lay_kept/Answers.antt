@@ -26,17 +26,20 @@ lay_kept_entries-loop-left-init g t c = record {
   begun = λ all rest count fit. begun_first c.args.path.now c.args.depth all rest c.args.count _ _ count fit;
 }
 
-pub lay_kept_entries-returns-in_err-lay_kept_entry-clause-leaves : goal.lay_kept_entries-returns-in_err-lay_kept_entry-clause-leaves
+pub lay_kept_entries-returns-in_err-lay_kept_entry-clause-leaves :
+    goal.lay_kept_entries-returns-in_err-lay_kept_entry-clause-leaves
 lay_kept_entries-returns-in_err-lay_kept_entry-clause-leaves g t c =
     let exit = err_from_is_err_and c.from_residual.result c.from_residual.ensures.1 in
     rw (exit.1, exit.2) (leaves_then c.loop-left.invariant.leaves c.in_err-lay_kept_entry.ensures.leaves)
 
-pub lay_kept_entries-returns-in_err-lay_kept_entry-clause-lays : goal.lay_kept_entries-returns-in_err-lay_kept_entry-clause-lays
+pub lay_kept_entries-returns-in_err-lay_kept_entry-clause-lays :
+    goal.lay_kept_entries-returns-in_err-lay_kept_entry-clause-lays
 lay_kept_entries-returns-in_err-lay_kept_entry-clause-lays g t c = λ all rest count fit.
     let exit = err_from_is_err_and c.from_residual.result c.from_residual.ensures.1 in
     let h = c.loop-left.invariant.laid all rest count fit in
     let n = next_of c.args.depth h.more c.loop-left.left h.count c.loop-left-test.true h.fit in
-    rw (exit.1, exit.2) (entries_stop c.args.path.now c.args.depth all rest c.loop-left.left _ _ _ _ _ _ _ h n (c.in_err-lay_kept_entry.ensures.lays n.entry (entries_bytes n.others ++ rest) n.name n.node))
+    rw (exit.1, exit.2) (entries_stop c.args.path.now c.args.depth all rest c.loop-left.left _ _ _ _ _ _ _ h n
+    (c.in_err-lay_kept_entry.ensures.lays n.entry (entries_bytes n.others ++ rest) n.name n.node))
 
 pub lay_kept_entries-loop-left-preserved : goal.lay_kept_entries-loop-left-preserved
 lay_kept_entries-loop-left-preserved g t c = record {
@@ -44,22 +47,30 @@ lay_kept_entries-loop-left-preserved g t c = record {
   laid = λ all rest count fit.
       let h = c.loop-left.invariant.laid all rest count fit in
       let n = next_of c.args.depth h.more c.loop-left.left h.count c.loop-left-test.true h.fit in
-      entries_more c.args.path.now c.args.depth all rest c.loop-left.left _ _ _ _ _ _ h n (c.in_ok-lay_kept_entry.ensures.lays n.entry (entries_bytes n.others ++ rest) n.name n.node);
+      entries_more c.args.path.now c.args.depth all rest c.loop-left.left _ _ _ _ _ _ h n
+      (c.in_ok-lay_kept_entry.ensures.lays n.entry (entries_bytes n.others ++ rest) n.name n.node);
   begun = λ all rest count fit.
       let h = c.loop-left.invariant.begun all rest count fit in
       let n = next_of c.args.depth h.more c.loop-left.left h.count c.loop-left-test.true h.fit in
-      begun_next c.args.path.now c.args.depth all rest c.loop-left.left _ _ _ _ _ _ h n (c.in_ok-lay_kept_entry.ensures.lays n.entry (entries_bytes n.others ++ rest) n.name n.node) (c.in_ok-lay_kept_entry.ensures.partly n.entry (entries_bytes n.others ++ rest) n.name n.node);
+      begun_next c.args.path.now c.args.depth all rest c.loop-left.left _ _ _ _ _ _ h n
+      (c.in_ok-lay_kept_entry.ensures.lays n.entry (entries_bytes n.others ++ rest) n.name n.node)
+      (c.in_ok-lay_kept_entry.ensures.partly n.entry (entries_bytes n.others ++ rest) n.name n.node);
 }
 
 pub lay_kept_entries-returns-clause-lays : goal.lay_kept_entries-returns-clause-lays
-lay_kept_entries-returns-clause-lays g t c = λ all rest count fit. entries_done c.args.path.now c.args.depth all rest c.loop-left.left _ _ _ _ (omega (arith, c.loop-left-test.false)) (c.loop-left.invariant.laid all rest count fit)
+lay_kept_entries-returns-clause-lays g t c = λ all rest count fit. entries_done c.args.path.now c.args.depth all
+    rest c.loop-left.left _ _ _ _ (omega (arith, c.loop-left-test.false))
+    (c.loop-left.invariant.laid all rest count fit)
 
 -- ---- an entry
 
-pub lay_kept_entry-returns-then-depth-gt-MAX_DEPTH-clause-leaves : goal.lay_kept_entry-returns-then-depth-gt-MAX_DEPTH-clause-leaves
-lay_kept_entry-returns-then-depth-gt-MAX_DEPTH-clause-leaves g t c = rw c.broken.ensures (leaves_damaged c.args.folder.now _ _ _ _ _)
+pub lay_kept_entry-returns-then-depth-gt-MAX_DEPTH-clause-leaves :
+    goal.lay_kept_entry-returns-then-depth-gt-MAX_DEPTH-clause-leaves
+lay_kept_entry-returns-then-depth-gt-MAX_DEPTH-clause-leaves g t c = rw c.broken.ensures
+    (leaves_damaged c.args.folder.now _ _ _ _ _)
 
-pub lay_kept_entry-returns-then-depth-gt-MAX_DEPTH-clause-lays : goal.lay_kept_entry-returns-then-depth-gt-MAX_DEPTH-clause-lays
+pub lay_kept_entry-returns-then-depth-gt-MAX_DEPTH-clause-lays :
+    goal.lay_kept_entry-returns-then-depth-gt-MAX_DEPTH-clause-lays
 lay_kept_entry-returns-then-depth-gt-MAX_DEPTH-clause-lays g t c = λ entry rest name fit.
     let deep : c.args.depth ≤ 64 = fits_deep entry.node c.args.depth fit in
     let above : 64 < c.args.depth = c.if-depth-gt-MAX_DEPTH.true in
@@ -73,7 +84,10 @@ lay_kept_entry-returns-in_err-name-clause-leaves g t c =
 pub lay_kept_entry-returns-in_err-name-clause-lays : goal.lay_kept_entry-returns-in_err-name-clause-lays
 lay_kept_entry-returns-in_err-name-clause-lays g t c = λ entry rest name fit.
     let exit = err_from_is_err_and c.from_residual.result c.from_residual.ensures.1 in
-    rw (exit.1, exit.2) (lays_bytes (entry_ahead entry rest) (reads_stop (λ read. read ≡ entry.name) (λ done. Unit {0}) (c.in_err-name.ensures.reads entry.name (node_bytes entry.node ++ rest) (way_into c.args.folder.now) name)))
+    rw (exit.1, exit.2) (lays_bytes (entry_ahead entry rest)
+    (reads_stop (λ read. read ≡ entry.name) (λ done. Unit {0})
+    (c.in_err-name.ensures.reads entry.name (node_bytes entry.node ++ rest)
+    (way_into c.args.folder.now) name)))
 
 pub lay_kept_entry-returns-in_err-path-clause-leaves : goal.lay_kept_entry-returns-in_err-path-clause-leaves
 lay_kept_entry-returns-in_err-path-clause-leaves g t c =
@@ -83,7 +97,9 @@ lay_kept_entry-returns-in_err-path-clause-leaves g t c =
 pub lay_kept_entry-returns-in_err-path-clause-lays : goal.lay_kept_entry-returns-in_err-path-clause-lays
 lay_kept_entry-returns-in_err-path-clause-lays g t c = λ entry rest name fit.
     let exit = err_from_is_err_and c.from_residual-in_err-path.result c.from_residual-in_err-path.ensures.1 in
-    rw (exit.1, exit.2) (lays_bytes (entry_ahead entry rest) (lays_behind (λ read. read ≡ entry.name) (c.in_ok-name.ensures.reads entry.name (node_bytes entry.node ++ rest) (way_into c.args.folder.now) name) (λ same. does_memory _ _ _ _ _ _ _ _)))
+    rw (exit.1, exit.2) (lays_bytes (entry_ahead entry rest)
+    (lays_behind (λ read. read ≡ entry.name) (c.in_ok-name.ensures.reads entry.name
+    (node_bytes entry.node ++ rest) (way_into c.args.folder.now) name) (λ same. does_memory _ _ _ _ _ _ _ _)))
 
 pub lay_kept_entry-lay_kept_node-requires : goal.lay_kept_entry-lay_kept_node-requires
 lay_kept_entry-lay_kept_node-requires g t c κs within =
@@ -92,20 +108,39 @@ lay_kept_entry-lay_kept_node-requires g t c κs within =
       (
         within,
         (
-          apart_child c.args.folder.now c.in_ok-name.name _ c.args.source.now.path _ (c.in_ok-path.ensures.0 ∙ ap (joined c.args.folder.now) c.as_str.ensures) c.in_ok-name.ensures.part (c.in_ok-name.ensures.leaves c.args.folder.now).stays c.requires.apart,
-          (omega (arith, c.if-depth-gt-MAX_DEPTH.false), omega (arith, size, c.if-depth-gt-MAX_DEPTH.false, c.requires.short, ap length (c.in_ok-path.ensures.0 ∙ ap (joined c.args.folder.now) c.as_str.ensures), joined_short c.args.folder.now c.in_ok-name.name)),
+          apart_child c.args.folder.now c.in_ok-name.name _ c.args.source.now.path _
+              (c.in_ok-path.ensures.0 ∙ ap (joined c.args.folder.now) c.as_str.ensures) c.in_ok-name.ensures.part
+              (c.in_ok-name.ensures.leaves c.args.folder.now).stays c.requires.apart,
+          (
+            omega (arith, c.if-depth-gt-MAX_DEPTH.false),
+            omega (
+              arith,
+              size,
+              c.if-depth-gt-MAX_DEPTH.false,
+              c.requires.short,
+              ap length
+                  (c.in_ok-path.ensures.0 ∙ ap (joined c.args.folder.now) c.as_str.ensures),
+              joined_short
+                  c.args.folder.now c.in_ok-name.name,
+            ),
+          ),
         ),
       ),
     )
 
 pub lay_kept_entry-returns-clause-leaves : goal.lay_kept_entry-returns-clause-leaves
 lay_kept_entry-returns-clause-leaves g t c = leaves_then (c.in_ok-name.ensures.leaves c.args.folder.now)
-    (leaves_wider c.args.folder.now c.in_ok-name.name _ _ _ _ _ _ (c.in_ok-path.ensures.0 ∙ ap (joined c.args.folder.now) c.as_str.ensures) c.in_ok-name.ensures.part c.lay_kept_node.ensures.leaves)
+    (leaves_wider c.args.folder.now c.in_ok-name.name _ _ _ _ _ _
+    (c.in_ok-path.ensures.0 ∙ ap (joined c.args.folder.now) c.as_str.ensures) c.in_ok-name.ensures.part
+    c.lay_kept_node.ensures.leaves)
 
 pub lay_kept_entry-returns-clause-lays : goal.lay_kept_entry-returns-clause-lays
 lay_kept_entry-returns-clause-lays g t c = λ entry rest name fit.
-    lays_bytes (entry_ahead entry rest) (lays_behind (λ read. read ≡ entry.name) (c.in_ok-name.ensures.reads entry.name (node_bytes entry.node ++ rest) (way_into c.args.folder.now) name)
-    (λ same. entry_child c.args.folder.now _ entry _ rest _ _ _ _ _ (c.in_ok-path.ensures.0 ∙ ap (joined c.args.folder.now) (c.as_str.ensures ∙ same)) c.as_str-folder.ensures.is_path name c.lay_kept_node.ensures.leaves.around
+    lays_bytes (entry_ahead entry rest) (lays_behind (λ read. read ≡ entry.name)
+    (c.in_ok-name.ensures.reads entry.name (node_bytes entry.node ++ rest) (way_into c.args.folder.now) name)
+    (λ same. entry_child c.args.folder.now _ entry _ rest _ _ _ _ _
+    (c.in_ok-path.ensures.0 ∙ ap (joined c.args.folder.now) (c.as_str.ensures ∙ same))
+    c.as_str-folder.ensures.is_path name c.lay_kept_node.ensures.leaves.around
     (c.lay_kept_node.ensures.lays entry.node rest fit)))
 
 -- ---- a folder
@@ -118,35 +153,54 @@ lay_kept_folder-returns-in_err-head-clause-leaves g t c =
 pub lay_kept_folder-returns-in_err-head-clause-lays : goal.lay_kept_folder-returns-in_err-head-clause-lays
 lay_kept_folder-returns-in_err-head-clause-lays g t c = λ all rest fit.
     let exit = err_from_is_err_and c.from_residual.result c.from_residual.ensures.1 in
-    rw (exit.1, exit.2) (reads_stop (λ read. read ≡ to_be_bytes w32 (length all)) (λ done. Unit {0}) (c.in_err-head.ensures.reads (to_be_bytes w32 (length all)) (entries_bytes all ++ rest) (way_to c.args.path.now) refl))
+    rw (exit.1, exit.2) (reads_stop (λ read. read ≡ to_be_bytes w32 (length all)) (λ done. Unit {0})
+    (c.in_err-head.ensures.reads (to_be_bytes w32 (length all)) (entries_bytes all ++ rest)
+    (way_to c.args.path.now) refl))
 
 pub lay_kept_folder-returns-in_err-or_blame-clause-leaves : goal.lay_kept_folder-returns-in_err-or_blame-clause-leaves
 lay_kept_folder-returns-in_err-or_blame-clause-leaves g t c =
     let exit = err_from_is_err_and c.from_residual-in_err-or_blame.result c.from_residual-in_err-or_blame.ensures.1 in
     rw (exit.1, exit.2) (leaves_then (c.in_ok-head.ensures.leaves c.args.path.now)
-    (leaves_laid g.W.World c.args.path.now _ c.lay_folder.result (Err _) _ _ (way_to c.args.path.now) c.lay_folder.ensures.files c.in_err-or_blame.ensures.counts c.in_err-or_blame.ensures.blames c.lay_folder.ensures.children c.lay_folder.ensures.around c.lay_folder.ensures.right))
+    (leaves_laid g.W.World c.args.path.now _ c.lay_folder.result (Err _) _ _
+    (way_to c.args.path.now) c.lay_folder.ensures.files c.in_err-or_blame.ensures.counts
+    c.in_err-or_blame.ensures.blames c.lay_folder.ensures.children c.lay_folder.ensures.around
+    c.lay_folder.ensures.right))
 
 pub lay_kept_folder-returns-in_err-or_blame-clause-lays : goal.lay_kept_folder-returns-in_err-or_blame-clause-lays
 lay_kept_folder-returns-in_err-or_blame-clause-lays g t c = λ all rest fit.
     let exit = err_from_is_err_and c.from_residual-in_err-or_blame.result c.from_residual-in_err-or_blame.ensures.1 in
-    rw (exit.1, exit.2) (lays_behind (λ read. read ≡ to_be_bytes w32 (length all)) (c.in_ok-head.ensures.reads (to_be_bytes w32 (length all)) (entries_bytes all ++ rest) (way_to c.args.path.now) refl)
-    (λ size. lays_stop (does_called c.args.path.now (entries_bytes all ++ rest) _ (folder_laid c.args.path.now) (way_to c.args.path.now) (way_into c.args.path.now) c.lay_folder.result (Err _) _ _
-    (ap (is_within c.args.path.now) (c.in_ok-head.ensures.leaves c.args.path.now).stays ∙ c.requires.apart) c.lay_folder.ensures.ok tt c.in_err-or_blame.ensures.free c.lay_folder.ensures.around c.lay_folder.ensures.right
+    rw (exit.1, exit.2) (lays_behind (λ read. read ≡ to_be_bytes w32 (length all))
+    (c.in_ok-head.ensures.reads (to_be_bytes w32 (length all)) (entries_bytes all ++ rest)
+    (way_to c.args.path.now) refl)
+    (λ size. lays_stop (does_called c.args.path.now (entries_bytes all ++ rest) _ (folder_laid c.args.path.now)
+    (way_to c.args.path.now) (way_into c.args.path.now) c.lay_folder.result (Err _) _ _
+    (ap (is_within c.args.path.now) (c.in_ok-head.ensures.leaves c.args.path.now).stays ∙ c.requires.apart)
+    c.lay_folder.ensures.ok tt c.in_err-or_blame.ensures.free c.lay_folder.ensures.around
+    c.lay_folder.ensures.right
     (λ is are. inside_laid c.args.path.now _ _ is c.lay_folder.ensures.around.files are))))
 
 pub lay_kept_folder-returns-clause-leaves : goal.lay_kept_folder-returns-clause-leaves
 lay_kept_folder-returns-clause-leaves g t c = leaves_then (c.in_ok-head.ensures.leaves c.args.path.now)
-    (leaves_then (leaves_laid g.W.World c.args.path.now _ c.lay_folder.result (Ok tt) _ _ (way_to c.args.path.now) c.lay_folder.ensures.files c.in_ok-or_blame.ensures.counts tt c.lay_folder.ensures.children c.lay_folder.ensures.around c.lay_folder.ensures.right)
+    (leaves_then (leaves_laid g.W.World c.args.path.now _ c.lay_folder.result (Ok tt) _ _
+    (way_to c.args.path.now) c.lay_folder.ensures.files c.in_ok-or_blame.ensures.counts tt
+    c.lay_folder.ensures.children c.lay_folder.ensures.around c.lay_folder.ensures.right)
     c.lay_kept_entries.ensures.leaves)
 
 pub lay_kept_folder-returns-clause-lays : goal.lay_kept_folder-returns-clause-lays
 lay_kept_folder-returns-clause-lays g t c = λ all rest fit.
-    lays_behind (λ read. read ≡ to_be_bytes w32 (length all)) (c.in_ok-head.ensures.reads (to_be_bytes w32 (length all)) (entries_bytes all ++ rest) (way_to c.args.path.now) refl)
+    lays_behind (λ read. read ≡ to_be_bytes w32 (length all))
+    (c.in_ok-head.ensures.reads (to_be_bytes w32 (length all)) (entries_bytes all ++ rest)
+    (way_to c.args.path.now) refl)
     (λ size. lays_as (λ files. sym (laid_folder all c.args.path.now files)) (lays_away (lays_on
-    (does_called c.args.path.now (entries_bytes all ++ rest) _ (folder_laid c.args.path.now) (way_to c.args.path.now) (way_into c.args.path.now) c.lay_folder.result (Ok tt) _ _
-    (ap (is_within c.args.path.now) (c.in_ok-head.ensures.leaves c.args.path.now).stays ∙ c.requires.apart) c.lay_folder.ensures.ok c.in_ok-or_blame.ensures.ok tt c.lay_folder.ensures.around c.lay_folder.ensures.right
+    (does_called c.args.path.now (entries_bytes all ++ rest) _ (folder_laid c.args.path.now)
+    (way_to c.args.path.now) (way_into c.args.path.now) c.lay_folder.result (Ok tt) _ _
+    (ap (is_within c.args.path.now) (c.in_ok-head.ensures.leaves c.args.path.now).stays ∙ c.requires.apart)
+    c.lay_folder.ensures.ok c.in_ok-or_blame.ensures.ok tt c.lay_folder.ensures.around
+    c.lay_folder.ensures.right
     (λ is are. inside_laid c.args.path.now _ _ is c.lay_folder.ensures.around.files are))
-    (c.lay_kept_entries.ensures.lays all rest (count_is all c.args.depth c.in_ok-head.head c.as_slice.result.now c.u32_of-count.result fit c.as_slice.ensures size c.u32_of-count.ensures) (folder_entries all c.args.depth fit)))))
+    (c.lay_kept_entries.ensures.lays all rest (count_is all c.args.depth c.in_ok-head.head c.as_slice.result.now
+    c.u32_of-count.result fit c.as_slice.ensures size c.u32_of-count.ensures)
+    (folder_entries all c.args.depth fit)))))
 
 -- ---- a node
 
@@ -158,115 +212,175 @@ lay_kept_node-returns-in_err-byte-clause-leaves g t c =
 pub lay_kept_node-returns-in_err-byte-clause-lays : goal.lay_kept_node-returns-in_err-byte-clause-lays
 lay_kept_node-returns-in_err-byte-clause-lays g t c = λ node rest fit.
     let exit = err_from_is_err_and c.from_residual.result c.from_residual.ensures.1 in
-    rw (exit.1, exit.2) (node_stops node rest c.args.path.now (way_to c.args.path.now) _ _ _ _ _ (λ byte behind. c.in_err-byte.ensures.reads byte behind (way_to c.args.path.now)))
+    rw (exit.1, exit.2) (node_stops node rest c.args.path.now (way_to c.args.path.now) _ _ _ _ _
+    (λ byte behind. c.in_err-byte.ensures.reads byte behind (way_to c.args.path.now)))
 
 pub lay_kept_node-lay_kept_folder-requires : goal.lay_kept_node-lay_kept_folder-requires
-lay_kept_node-lay_kept_folder-requires g t c κs within = (search rules, (within, (ap (is_within c.args.path.now) (c.in_ok-byte.ensures.leaves c.args.path.now).stays ∙ c.requires.apart, (c.requires.deep, c.requires.short))))
+lay_kept_node-lay_kept_folder-requires g t c κs within = (
+  search rules,
+  (
+    within,
+    (
+      ap (is_within c.args.path.now) (c.in_ok-byte.ensures.leaves c.args.path.now).stays
+          ∙ c.requires.apart,
+      (c.requires.deep, c.requires.short),
+    ),
+  ),
+)
 
 pub lay_kept_node-lay_kept_file-requires : goal.lay_kept_node-lay_kept_file-requires
-lay_kept_node-lay_kept_file-requires g t c = record { apart = ap (is_within c.args.path.now) (c.in_ok-byte.ensures.leaves c.args.path.now).stays ∙ c.requires.apart }
+lay_kept_node-lay_kept_file-requires g t c = record {
+  apart = ap (is_within c.args.path.now) (c.in_ok-byte.ensures.leaves c.args.path.now).stays
+      ∙ c.requires.apart;
+}
 
 pub lay_kept_node-lay_kept_link-requires : goal.lay_kept_node-lay_kept_link-requires
-lay_kept_node-lay_kept_link-requires g t c = record { apart = ap (is_within c.args.path.now) (c.in_ok-byte.ensures.leaves c.args.path.now).stays ∙ c.requires.apart }
+lay_kept_node-lay_kept_link-requires g t c = record {
+  apart = ap (is_within c.args.path.now) (c.in_ok-byte.ensures.leaves c.args.path.now).stays
+      ∙ c.requires.apart;
+}
 
 pub lay_kept_node-returns-in-68-clause-leaves : goal.lay_kept_node-returns-in-68-clause-leaves
-lay_kept_node-returns-in-68-clause-leaves g t c = leaves_then (c.in_ok-byte.ensures.leaves c.args.path.now) c.lay_kept_folder.ensures.leaves
+lay_kept_node-returns-in-68-clause-leaves g t c = leaves_then
+    (c.in_ok-byte.ensures.leaves c.args.path.now) c.lay_kept_folder.ensures.leaves
 
 pub lay_kept_node-returns-in-70-clause-leaves : goal.lay_kept_node-returns-in-70-clause-leaves
-lay_kept_node-returns-in-70-clause-leaves g t c = leaves_then (c.in_ok-byte.ensures.leaves c.args.path.now) c.lay_kept_file.ensures.leaves
+lay_kept_node-returns-in-70-clause-leaves g t c = leaves_then
+    (c.in_ok-byte.ensures.leaves c.args.path.now) c.lay_kept_file.ensures.leaves
 
 pub lay_kept_node-returns-in-76-clause-leaves : goal.lay_kept_node-returns-in-76-clause-leaves
-lay_kept_node-returns-in-76-clause-leaves g t c = leaves_then (c.in_ok-byte.ensures.leaves c.args.path.now) c.lay_kept_link.ensures.leaves
+lay_kept_node-returns-in-76-clause-leaves g t c = leaves_then
+    (c.in_ok-byte.ensures.leaves c.args.path.now) c.lay_kept_link.ensures.leaves
 
 pub lay_kept_node-returns-in_default-clause-leaves : goal.lay_kept_node-returns-in_default-clause-leaves
-lay_kept_node-returns-in_default-clause-leaves g t c = rw c.broken.ensures (leaves_broken c.args.path.now _ _ _ _ c.in_ok-byte.field-0 _ _ _ (c.in_ok-byte.ensures.leaves c.args.path.now))
+lay_kept_node-returns-in_default-clause-leaves g t c = rw c.broken.ensures
+    (leaves_broken c.args.path.now _ _ _ _ c.in_ok-byte.field-0 _ _ _
+    (c.in_ok-byte.ensures.leaves c.args.path.now))
 
 pub lay_kept_node-returns-in-68-clause-lays : goal.lay_kept_node-returns-in-68-clause-lays
-lay_kept_node-returns-in-68-clause-lays g t c = λ node rest fit. node_lays node rest c.args.path.now c.args.depth (way_to c.args.path.now) c.in_ok-byte.field-0 _ _ _ _ _ _ _ fit (λ byte behind. c.in_ok-byte.ensures.reads byte behind (way_to c.args.path.now))
+lay_kept_node-returns-in-68-clause-lays g t c = λ node rest fit. node_lays node rest c.args.path.now c.args.depth
+    (way_to c.args.path.now) c.in_ok-byte.field-0 _ _ _ _ _ _ _ fit
+    (λ byte behind. c.in_ok-byte.ensures.reads byte behind (way_to c.args.path.now))
     (λ all tag fit. c.lay_kept_folder.ensures.lays all rest fit)
     (λ exec bytes tag. lays_never (omega (arith, tag, c.in-68.is)))
     (λ target tag is. lays_never (omega (arith, tag, c.in-68.is)))
 
 pub lay_kept_node-returns-in-70-clause-lays : goal.lay_kept_node-returns-in-70-clause-lays
-lay_kept_node-returns-in-70-clause-lays g t c = λ node rest fit. node_lays node rest c.args.path.now c.args.depth (way_to c.args.path.now) c.in_ok-byte.field-0 _ _ _ _ _ _ _ fit (λ byte behind. c.in_ok-byte.ensures.reads byte behind (way_to c.args.path.now))
+lay_kept_node-returns-in-70-clause-lays g t c = λ node rest fit. node_lays node rest c.args.path.now c.args.depth
+    (way_to c.args.path.now) c.in_ok-byte.field-0 _ _ _ _ _ _ _ fit
+    (λ byte behind. c.in_ok-byte.ensures.reads byte behind (way_to c.args.path.now))
     (λ all tag fit. lays_never (omega (arith, tag, c.in-70.is)))
     (λ exec bytes tag. c.lay_kept_file.ensures.lays exec bytes rest)
     (λ target tag is. lays_never (omega (arith, tag, c.in-70.is)))
 
 pub lay_kept_node-returns-in-76-clause-lays : goal.lay_kept_node-returns-in-76-clause-lays
-lay_kept_node-returns-in-76-clause-lays g t c = λ node rest fit. node_lays node rest c.args.path.now c.args.depth (way_to c.args.path.now) c.in_ok-byte.field-0 _ _ _ _ _ _ _ fit (λ byte behind. c.in_ok-byte.ensures.reads byte behind (way_to c.args.path.now))
+lay_kept_node-returns-in-76-clause-lays g t c = λ node rest fit. node_lays node rest c.args.path.now c.args.depth
+    (way_to c.args.path.now) c.in_ok-byte.field-0 _ _ _ _ _ _ _ fit
+    (λ byte behind. c.in_ok-byte.ensures.reads byte behind (way_to c.args.path.now))
     (λ all tag fit. lays_never (omega (arith, tag, c.in-76.is)))
     (λ exec bytes tag. lays_never (omega (arith, tag, c.in-76.is)))
     (λ target tag is. c.lay_kept_link.ensures.lays target rest is)
 
 pub lay_kept_node-returns-in_default-clause-lays : goal.lay_kept_node-returns-in_default-clause-lays
-lay_kept_node-returns-in_default-clause-lays g t c = λ node rest fit. node_lays node rest c.args.path.now c.args.depth (way_to c.args.path.now) c.in_ok-byte.field-0 _ _ _ _ _ _ _ fit (λ byte behind. c.in_ok-byte.ensures.reads byte behind (way_to c.args.path.now))
+lay_kept_node-returns-in_default-clause-lays g t c = λ node rest fit. node_lays node rest c.args.path.now
+    c.args.depth (way_to c.args.path.now) c.in_ok-byte.field-0 _ _ _ _ _ _ _ fit
+    (λ byte behind. c.in_ok-byte.ensures.reads byte behind (way_to c.args.path.now))
     (λ all tag fit. lays_never (omega (arith, tag)))
     (λ exec bytes tag. lays_never (omega (arith, tag)))
     (λ target tag is. lays_never (omega (arith, tag)))
 
 -- ---- what stands where it was cut off
 
-pub lay_kept_entries-returns-in_err-lay_kept_entry-clause-partly : goal.lay_kept_entries-returns-in_err-lay_kept_entry-clause-partly
+pub lay_kept_entries-returns-in_err-lay_kept_entry-clause-partly :
+    goal.lay_kept_entries-returns-in_err-lay_kept_entry-clause-partly
 lay_kept_entries-returns-in_err-lay_kept_entry-clause-partly g t c = λ all rest count fit.
     let h = c.loop-left.invariant.begun all rest count fit in
     let n = next_of c.args.depth h.more c.loop-left.left h.count c.loop-left-test.true h.fit in
-    begun_part c.args.path.now c.args.depth all rest c.loop-left.left _ _ _ _ _ h n (c.in_err-lay_kept_entry.ensures.partly n.entry (entries_bytes n.others ++ rest) n.name n.node)
+    begun_part c.args.path.now c.args.depth all rest c.loop-left.left _ _ _ _ _ h n
+    (c.in_err-lay_kept_entry.ensures.partly n.entry (entries_bytes n.others ++ rest) n.name n.node)
 
 pub lay_kept_entries-returns-clause-partly : goal.lay_kept_entries-returns-clause-partly
-lay_kept_entries-returns-clause-partly g t c = λ all rest count fit. let h = c.loop-left.invariant.begun all rest count fit in h.partly
+lay_kept_entries-returns-clause-partly g t c = λ all rest count fit. let h = c.loop-left.invariant.begun all rest
+    count fit in h.partly
 
-pub lay_kept_entry-returns-then-depth-gt-MAX_DEPTH-clause-partly : goal.lay_kept_entry-returns-then-depth-gt-MAX_DEPTH-clause-partly
-lay_kept_entry-returns-then-depth-gt-MAX_DEPTH-clause-partly g t c = λ entry rest name fit. record { so = λ ahead are. partly_itself _ _ _ _ refl }
+pub lay_kept_entry-returns-then-depth-gt-MAX_DEPTH-clause-partly :
+    goal.lay_kept_entry-returns-then-depth-gt-MAX_DEPTH-clause-partly
+lay_kept_entry-returns-then-depth-gt-MAX_DEPTH-clause-partly g t c = λ entry rest name fit. record
+    { so = λ ahead are. partly_itself _ _ _ _ refl }
 
 pub lay_kept_entry-returns-in_err-name-clause-partly : goal.lay_kept_entry-returns-in_err-name-clause-partly
-lay_kept_entry-returns-in_err-name-clause-partly g t c = λ entry rest name fit. record { so = λ ahead are. partly_unread _ _ _ _ (λ p. (c.in_err-name.ensures.leaves p).around.files) }
+lay_kept_entry-returns-in_err-name-clause-partly g t c = λ entry rest name fit. record
+    { so = λ ahead are. partly_unread _ _ _ _ (λ p. (c.in_err-name.ensures.leaves p).around.files) }
 
 pub lay_kept_entry-returns-in_err-path-clause-partly : goal.lay_kept_entry-returns-in_err-path-clause-partly
-lay_kept_entry-returns-in_err-path-clause-partly g t c = λ entry rest name fit. record { so = λ ahead are. partly_unread _ _ _ _ (λ p. (c.in_ok-name.ensures.leaves p).around.files) }
+lay_kept_entry-returns-in_err-path-clause-partly g t c = λ entry rest name fit. record
+    { so = λ ahead are. partly_unread _ _ _ _ (λ p. (c.in_ok-name.ensures.leaves p).around.files) }
 
 pub lay_kept_entry-returns-clause-partly : goal.lay_kept_entry-returns-clause-partly
 lay_kept_entry-returns-clause-partly g t c = λ entry rest name fit.
-    part_bytes (entry_ahead entry rest) (part_behind (λ read. read ≡ entry.name) (c.in_ok-name.ensures.reads entry.name (node_bytes entry.node ++ rest) (way_into c.args.folder.now) name)
-    (λ same. entry_parts c.args.folder.now _ entry (node_bytes entry.node ++ rest) _ _ _ (c.in_ok-path.ensures.0 ∙ ap (joined c.args.folder.now) (c.as_str.ensures ∙ same)) c.as_str-folder.ensures.is_path name c.lay_kept_node.ensures.leaves.around
+    part_bytes (entry_ahead entry rest) (part_behind (λ read. read ≡ entry.name)
+    (c.in_ok-name.ensures.reads entry.name (node_bytes entry.node ++ rest) (way_into c.args.folder.now) name)
+    (λ same. entry_parts c.args.folder.now _ entry (node_bytes entry.node ++ rest) _ _ _
+    (c.in_ok-path.ensures.0 ∙ ap (joined c.args.folder.now) (c.as_str.ensures ∙ same))
+    c.as_str-folder.ensures.is_path name c.lay_kept_node.ensures.leaves.around
     (c.lay_kept_node.ensures.partly entry.node rest fit)))
 
 pub lay_kept_folder-returns-in_err-head-clause-partly : goal.lay_kept_folder-returns-in_err-head-clause-partly
-lay_kept_folder-returns-in_err-head-clause-partly g t c = λ all rest fit. record { so = λ ahead are. partly_unread _ _ _ _ (λ p. (c.in_err-head.ensures.leaves p).around.files) }
+lay_kept_folder-returns-in_err-head-clause-partly g t c = λ all rest fit. record
+    { so = λ ahead are. partly_unread _ _ _ _ (λ p. (c.in_err-head.ensures.leaves p).around.files) }
 
 pub lay_kept_folder-returns-in_err-or_blame-clause-partly : goal.lay_kept_folder-returns-in_err-or_blame-clause-partly
-lay_kept_folder-returns-in_err-or_blame-clause-partly g t c = λ all rest fit. record { so = λ ahead are. partly_then _ _ _ _ _ (partly_unread _ _ _ _ (λ p. (c.in_ok-head.ensures.leaves p).around.files)) (folder_partly all c.args.path.now _ _ c.lay_folder.ensures.partly) }
+lay_kept_folder-returns-in_err-or_blame-clause-partly g t c = λ all rest fit. record {
+  so = λ ahead are. partly_then _ _ _ _ _ (partly_unread _ _ _ _
+      (λ p. (c.in_ok-head.ensures.leaves p).around.files))
+      (folder_partly all c.args.path.now _ _ c.lay_folder.ensures.partly);
+}
 
 pub lay_kept_folder-returns-clause-partly : goal.lay_kept_folder-returns-clause-partly
 lay_kept_folder-returns-clause-partly g t c = λ all rest fit.
-    part_behind (λ read. read ≡ to_be_bytes w32 (length all)) (c.in_ok-head.ensures.reads (to_be_bytes w32 (length all)) (entries_bytes all ++ rest) (way_to c.args.path.now) refl)
+    part_behind (λ read. read ≡ to_be_bytes w32 (length all))
+    (c.in_ok-head.ensures.reads (to_be_bytes w32 (length all)) (entries_bytes all ++ rest)
+    (way_to c.args.path.now) refl)
     (λ size. part_after
-    (does_called c.args.path.now (entries_bytes all ++ rest) _ (folder_laid c.args.path.now) (way_to c.args.path.now) (way_into c.args.path.now) c.lay_folder.result (Ok tt) _ _
-    (ap (is_within c.args.path.now) (c.in_ok-head.ensures.leaves c.args.path.now).stays ∙ c.requires.apart) c.lay_folder.ensures.ok c.in_ok-or_blame.ensures.ok tt c.lay_folder.ensures.around c.lay_folder.ensures.right
+    (does_called c.args.path.now (entries_bytes all ++ rest) _ (folder_laid c.args.path.now)
+    (way_to c.args.path.now) (way_into c.args.path.now) c.lay_folder.result (Ok tt) _ _
+    (ap (is_within c.args.path.now) (c.in_ok-head.ensures.leaves c.args.path.now).stays ∙ c.requires.apart)
+    c.lay_folder.ensures.ok c.in_ok-or_blame.ensures.ok tt c.lay_folder.ensures.around
+    c.lay_folder.ensures.right
     (λ is are. inside_laid c.args.path.now _ _ is c.lay_folder.ensures.around.files are))
-    (c.lay_kept_entries.ensures.partly all rest (count_is all c.args.depth c.in_ok-head.head c.as_slice.result.now c.u32_of-count.result fit c.as_slice.ensures size c.u32_of-count.ensures) (folder_entries all c.args.depth fit))
+    (c.lay_kept_entries.ensures.partly all rest (count_is all c.args.depth c.in_ok-head.head c.as_slice.result.now
+    c.u32_of-count.result fit c.as_slice.ensures size c.u32_of-count.ensures)
+    (folder_entries all c.args.depth fit))
     (λ h. partly_then _ _ _ _ _ (folder_partly all c.args.path.now _ _ c.lay_folder.ensures.partly) h))
 
 pub lay_kept_node-returns-in_err-byte-clause-partly : goal.lay_kept_node-returns-in_err-byte-clause-partly
-lay_kept_node-returns-in_err-byte-clause-partly g t c = λ node rest fit. record { so = λ ahead are. partly_unread _ _ _ _ (λ p. (c.in_err-byte.ensures.leaves p).around.files) }
+lay_kept_node-returns-in_err-byte-clause-partly g t c = λ node rest fit. record
+    { so = λ ahead are. partly_unread _ _ _ _ (λ p. (c.in_err-byte.ensures.leaves p).around.files) }
 
 pub lay_kept_node-returns-in_default-clause-partly : goal.lay_kept_node-returns-in_default-clause-partly
-lay_kept_node-returns-in_default-clause-partly g t c = λ node rest fit. record { so = λ ahead are. partly_unread _ _ _ _ (λ p. (c.in_ok-byte.ensures.leaves p).around.files) }
+lay_kept_node-returns-in_default-clause-partly g t c = λ node rest fit. record
+    { so = λ ahead are. partly_unread _ _ _ _ (λ p. (c.in_ok-byte.ensures.leaves p).around.files) }
 
 pub lay_kept_node-returns-in-68-clause-partly : goal.lay_kept_node-returns-in-68-clause-partly
-lay_kept_node-returns-in-68-clause-partly g t c = λ node rest fit. node_parts node rest c.args.path.now c.args.depth (way_to c.args.path.now) c.in_ok-byte.field-0 _ _ _ _ _ fit (λ byte behind. c.in_ok-byte.ensures.reads byte behind (way_to c.args.path.now))
+lay_kept_node-returns-in-68-clause-partly g t c = λ node rest fit. node_parts node rest c.args.path.now
+    c.args.depth (way_to c.args.path.now) c.in_ok-byte.field-0 _ _ _ _ _ fit
+    (λ byte behind. c.in_ok-byte.ensures.reads byte behind (way_to c.args.path.now))
     (λ all tag fit. c.lay_kept_folder.ensures.partly all rest fit)
     (λ exec bytes tag. absurd (omega (arith, tag, c.in-68.is)))
     (λ target tag is. absurd (omega (arith, tag, c.in-68.is)))
 
 pub lay_kept_node-returns-in-70-clause-partly : goal.lay_kept_node-returns-in-70-clause-partly
-lay_kept_node-returns-in-70-clause-partly g t c = λ node rest fit. node_parts node rest c.args.path.now c.args.depth (way_to c.args.path.now) c.in_ok-byte.field-0 _ _ _ _ _ fit (λ byte behind. c.in_ok-byte.ensures.reads byte behind (way_to c.args.path.now))
+lay_kept_node-returns-in-70-clause-partly g t c = λ node rest fit. node_parts node rest c.args.path.now
+    c.args.depth (way_to c.args.path.now) c.in_ok-byte.field-0 _ _ _ _ _ fit
+    (λ byte behind. c.in_ok-byte.ensures.reads byte behind (way_to c.args.path.now))
     (λ all tag fit. absurd (omega (arith, tag, c.in-70.is)))
     (λ exec bytes tag. c.lay_kept_file.ensures.partly exec bytes rest)
     (λ target tag is. absurd (omega (arith, tag, c.in-70.is)))
 
 pub lay_kept_node-returns-in-76-clause-partly : goal.lay_kept_node-returns-in-76-clause-partly
-lay_kept_node-returns-in-76-clause-partly g t c = λ node rest fit. node_parts node rest c.args.path.now c.args.depth (way_to c.args.path.now) c.in_ok-byte.field-0 _ _ _ _ _ fit (λ byte behind. c.in_ok-byte.ensures.reads byte behind (way_to c.args.path.now))
+lay_kept_node-returns-in-76-clause-partly g t c = λ node rest fit. node_parts node rest c.args.path.now
+    c.args.depth (way_to c.args.path.now) c.in_ok-byte.field-0 _ _ _ _ _ fit
+    (λ byte behind. c.in_ok-byte.ensures.reads byte behind (way_to c.args.path.now))
     (λ all tag fit. absurd (omega (arith, tag, c.in-76.is)))
     (λ exec bytes tag. absurd (omega (arith, tag, c.in-76.is)))
     (λ target tag is. c.lay_kept_link.ensures.partly target rest is)

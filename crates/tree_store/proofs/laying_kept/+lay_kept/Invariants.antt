@@ -21,9 +21,14 @@ decreases-lay_kept_entry g l = 4 * (66 - l.depth) + 2
 
 abbrev pub invariant-lay_kept_entries-loop-left : goal.invariant-lay_kept_entries-loop-left
 invariant-lay_kept_entries-loop-left g l = record {
-  leaves : Leaves {A = Unit {0}} l.path l.fn.source (seen g.W.World l.fn.world) (Ok tt) l.source (seen g.W.World l.world);
-  laid : (all : List Named) (rest : List ℕ) → length all ≡ l.count → entries_fit None all l.depth ≡ true → EntriesLeft l.path l.depth all rest l.left l.fn.source (seen g.W.World l.fn.world) l.source (seen g.W.World l.world);
-  begun : (all : List Named) (rest : List ℕ) → length all ≡ l.count → entries_fit None all l.depth ≡ true → EntriesBegun l.path l.depth all rest l.left l.fn.source (seen g.W.World l.fn.world) l.source (seen g.W.World l.world);
+  leaves : Leaves {A = Unit {0}} l.path l.fn.source (seen g.W.World l.fn.world) (Ok tt) l.source
+      (seen g.W.World l.world);
+  laid : (all : List Named) (rest : List ℕ) → length all ≡ l.count → entries_fit None all l.depth ≡ true
+      → EntriesLeft l.path l.depth all rest l.left l.fn.source (seen g.W.World l.fn.world) l.source
+      (seen g.W.World l.world);
+  begun : (all : List Named) (rest : List ℕ) → length all ≡ l.count → entries_fit None all l.depth ≡ true
+      → EntriesBegun l.path l.depth all rest l.left l.fn.source (seen g.W.World l.fn.world) l.source
+      (seen g.W.World l.world);
 }
 
 abbrev pub decreases-lay_kept_entries-loop-left : goal.decreases-lay_kept_entries-loop-left

@@ -6,8 +6,10 @@ use Rattle.tree_store.proofs.laying_kept.lay_kept_contents.Given as goal
 
 abbrev pub invariant-loop-left : goal.invariant-loop-left
 invariant-loop-left g l = record {
-  leaves : Leaves {A = Unit {0}} l.path l.fn.source (seen g.W.World l.fn.world) (Ok tt) l.source (seen g.W.World l.world);
-  laid : (bytes rest : List ℕ) → length bytes ≡ l.len → ContentsLeft l.exec l.path bytes rest l.left l.fn.source (seen g.W.World l.fn.world) l.source (seen g.W.World l.world);
+  leaves : Leaves {A = Unit {0}} l.path l.fn.source (seen g.W.World l.fn.world) (Ok tt) l.source
+      (seen g.W.World l.world);
+  laid : (bytes rest : List ℕ) → length bytes ≡ l.len → ContentsLeft l.exec l.path bytes rest l.left l.fn.source
+      (seen g.W.World l.fn.world) l.source (seen g.W.World l.world);
 }
 
 abbrev pub decreases-loop-left : goal.decreases-loop-left

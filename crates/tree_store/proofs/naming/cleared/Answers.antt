@@ -9,12 +9,17 @@ plain store file at = ap is_root at ∙ new_plain store
 
 pub returns-in-Ok-clause-cleared : goal.returns-in-Ok-clause-cleared
 returns-in-Ok-clause-cleared g c =
-    cleared_gone c.args.fault c.requires c.in-Ok.ensures.frame c.in-Ok.ensures.last c.in-Ok.ensures.ok (c.in-Ok.ensures.right (plain c.args.store.now c.args.file.now c.requires))
+    cleared_gone c.args.fault c.requires c.in-Ok.ensures.frame c.in-Ok.ensures.last c.in-Ok.ensures.ok
+    (c.in-Ok.ensures.right (plain c.args.store.now c.args.file.now c.requires))
 
 pub returns-in-Err-clause-cleared : goal.returns-in-Err-clause-cleared
 returns-in-Err-clause-cleared g c =
-    cleared_later c.args.fault c.in-Err.failed _ c.later.ensures c.in-Err.ensures.free c.requires c.in-Err.ensures.frame (c.in-Err.ensures.right (plain c.args.store.now c.args.file.now c.requires))
+    cleared_later c.args.fault c.in-Err.failed _ c.later.ensures c.in-Err.ensures.free c.requires
+    c.in-Err.ensures.frame (c.in-Err.ensures.right (plain c.args.store.now c.args.file.now c.requires))
 
 pub returns-in-Err-clause-blames : goal.returns-in-Err-clause-blames
 returns-in-Err-clause-blames g c =
-    blames_later (trees_of c.args.store.now) c.args.fault c.in-Err.failed _ c.later.ensures (blames_fault (trees_of c.args.store.now) c.args.file.now c.in-Err.failed (ap (is_within (trees_of c.args.store.now)) c.requires ∙ new_within c.args.store.now) c.in-Err.ensures.blames)
+    blames_later (trees_of c.args.store.now) c.args.fault c.in-Err.failed _ c.later.ensures
+    (blames_fault (trees_of c.args.store.now) c.args.file.now c.in-Err.failed
+    (ap (is_within (trees_of c.args.store.now)) c.requires ∙ new_within c.args.store.now)
+    c.in-Err.ensures.blames)

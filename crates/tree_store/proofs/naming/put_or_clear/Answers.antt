@@ -6,15 +6,19 @@ use Rattle.tree_store.proofs.Settled.{frame_of_put, put_frame, puts_cleared}
 use Rattle.tree_store.proofs.Written.{frame_stop}
 use Rattle.tree_store.proofs.naming.put_or_clear.Goals as goal
 
-blamed : (trees : List ℕ) (fault answered : StoreFault) → BlamesWithin trees fault → BlamesWithin trees answered ⊎ (answered ≡ fault) → BlamesWithin trees answered
+blamed : (trees : List ℕ) (fault answered : StoreFault) → BlamesWithin trees fault → BlamesWithin trees answered
+    ⊎ (answered ≡ fault) → BlamesWithin trees answered
 blamed trees fault answered before (inl h) = h
 blamed trees fault answered before (inr same) = subst (BlamesWithin trees) (sym same) before
 
 pub returns-in-Err-clause-frame : goal.returns-in-Err-clause-frame
-returns-in-Err-clause-frame g c = put_frame (frame_stop {A = Unit {0}} {B = List ℕ} (c.cleared.ensures.cleared.frame _ (frame_of_put c.in-Err.ensures.frame)))
+returns-in-Err-clause-frame g c = put_frame (frame_stop {A = Unit {0}} {B = List ℕ}
+    (c.cleared.ensures.cleared.frame _ (frame_of_put c.in-Err.ensures.frame)))
 
 pub returns-in-Err-clause-blames : goal.returns-in-Err-clause-blames
-returns-in-Err-clause-blames g c = blamed (trees_of c.args.store.now) _ _ c.in-Err.ensures.blames c.cleared.ensures.blames
+returns-in-Err-clause-blames g c = blamed (trees_of c.args.store.now) _ _ c.in-Err.ensures.blames
+    c.cleared.ensures.blames
 
 pub returns-in-Err-clause-puts : goal.returns-in-Err-clause-puts
-returns-in-Err-clause-puts g c = λ before bytes h short. puts_cleared (c.in-Err.ensures.puts before bytes h short) c.cleared.ensures.cleared
+returns-in-Err-clause-puts g c = λ before bytes h short. puts_cleared
+    (c.in-Err.ensures.puts before bytes h short) c.cleared.ensures.cleared

@@ -9,38 +9,65 @@ use Rattle.tree_store.proofs.naming.put_written.Goals as goal
 pub returns-in_err-flush-clause-frame : goal.returns-in_err-flush-clause-frame
 returns-in_err-flush-clause-frame g c =
     let exit = err_from_is_err_and c.from_residual.result c.from_residual.ensures.1 in
-    rw (exit.1, exit.2) (put_frame (frame_stop (leaves_frame (new_path c.args.store.now) c.requires.path (c.in_err-flush.ensures.leaves (trees_of c.args.store.now)))))
+    rw (exit.1, exit.2) (put_frame (frame_stop (leaves_frame (new_path c.args.store.now) c.requires.path
+    (c.in_err-flush.ensures.leaves (trees_of c.args.store.now)))))
 
 pub returns-in_err-flush-clause-blames : goal.returns-in_err-flush-clause-blames
 returns-in_err-flush-clause-blames g c =
     let exit = err_from_is_err_and c.from_residual.result c.from_residual.ensures.1 in
-    rw (exit.1, exit.2) (either_in {A = Unit {0}} (trees_of c.args.store.now) c.args.writer.path (Err _) (ap (is_within (trees_of c.args.store.now)) c.requires.path ∙ new_within c.args.store.now) (c.in_err-flush.ensures.leaves (trees_of c.args.store.now)).blames)
+    rw (exit.1, exit.2) (either_in {A = Unit {0}} (trees_of c.args.store.now) c.args.writer.path (Err _)
+    (ap (is_within (trees_of c.args.store.now)) c.requires.path ∙ new_within c.args.store.now)
+    (c.in_err-flush.ensures.leaves (trees_of c.args.store.now)).blames)
 
 pub returns-in_err-flush-clause-puts : goal.returns-in_err-flush-clause-puts
 returns-in_err-flush-clause-puts g c =
     λ before bytes h short.
     let exit = err_from_is_err_and c.from_residual.result c.from_residual.ensures.1 in
-    rw (exit.1, exit.2) (let x = ((c.in_err-flush.ensures.adds (other_path c.args.store.now)).so c.args.store.now before bytes h (apart_name c.args.store.now)) in record { digest = tt; named = names_free x.refused (same_right before _ _ _ x.right) })
+    rw (exit.1, exit.2) (let x = ((c.in_err-flush.ensures.adds (other_path c.args.store.now)).so c.args.store.now
+    before bytes h (apart_name c.args.store.now)) in record
+    { digest = tt; named = names_free x.refused (same_right before _ _ _ x.right) })
 
 pub returns-in_err-name_file-clause-frame : goal.returns-in_err-name_file-clause-frame
 returns-in_err-name_file-clause-frame g c =
     let exit = err_from_is_err_and c.from_residual-in_err-name_file.result c.from_residual-in_err-name_file.ensures.1 in
-    rw (exit.1, exit.2) (put_frame_then (leaves_frame (new_path c.args.store.now) c.requires.path (c.in_ok-flush.ensures.leaves (trees_of c.args.store.now))) (put_frame_stop c.in_err-name_file.ensures.frame))
+    rw (exit.1, exit.2) (put_frame_then (leaves_frame (new_path c.args.store.now) c.requires.path
+    (c.in_ok-flush.ensures.leaves (trees_of c.args.store.now)))
+    (put_frame_stop c.in_err-name_file.ensures.frame))
 
 pub returns-in_err-name_file-clause-puts : goal.returns-in_err-name_file-clause-puts
 returns-in_err-name_file-clause-puts g c =
-    λ before bytes h short. let x = ((c.in_ok-flush.ensures.adds (other_path c.args.store.now)).so c.args.store.now before bytes h (apart_name c.args.store.now)) in let flushed = is_flushed x.added.1 c.in_ok-flush.ensures.empty x.added.2 in
+    λ before bytes h short. let x = ((c.in_ok-flush.ensures.adds (other_path c.args.store.now)).so
+    c.args.store.now before bytes h (apart_name c.args.store.now))
+    in let flushed = is_flushed x.added.1 c.in_ok-flush.ensures.empty x.added.2 in
     let exit = err_from_is_err_and c.from_residual-in_err-name_file.result c.from_residual-in_err-name_file.ensures.1 in
-    rw (exit.1, exit.2) (record { digest = tt; named = names_from x.right (c.in_err-name_file.ensures.names before bytes (c.end-file.ensures.digest bytes flushed.hashed) short flushed.files flushed.kept) })
+    rw (exit.1, exit.2) (record {
+      digest = tt;
+      named = names_from x.right
+          (c.in_err-name_file.ensures.names before bytes (c.end-file.ensures.digest bytes flushed.hashed) short
+          flushed.files flushed.kept);
+    })
 
 pub returns-clause-frame : goal.returns-clause-frame
 returns-clause-frame g c =
-    put_frame_then (leaves_frame (new_path c.args.store.now) c.requires.path (c.in_ok-flush.ensures.leaves (trees_of c.args.store.now))) (put_frame_value _ c.in_ok-name_file.ensures.frame)
+    put_frame_then (leaves_frame (new_path c.args.store.now) c.requires.path
+    (c.in_ok-flush.ensures.leaves (trees_of c.args.store.now)))
+    (put_frame_value _ c.in_ok-name_file.ensures.frame)
 
 pub returns-clause-puts : goal.returns-clause-puts
 returns-clause-puts g c =
-    λ before bytes h short. let x = ((c.in_ok-flush.ensures.adds (other_path c.args.store.now)).so c.args.store.now before bytes h (apart_name c.args.store.now)) in let flushed = is_flushed x.added.1 c.in_ok-flush.ensures.empty x.added.2 in
-    record { digest = c.end-file.ensures.digest bytes flushed.hashed; named = names_from x.right (c.in_ok-name_file.ensures.names before bytes (c.end-file.ensures.digest bytes flushed.hashed) short flushed.files flushed.kept) }
+    λ before bytes h short. let x = ((c.in_ok-flush.ensures.adds (other_path c.args.store.now)).so
+    c.args.store.now before bytes h (apart_name c.args.store.now))
+    in let flushed = is_flushed x.added.1 c.in_ok-flush.ensures.empty x.added.2 in
+    record {
+      digest = c.end-file.ensures.digest bytes flushed.hashed;
+      named = names_from x.right
+          (c.in_ok-name_file.ensures.names before bytes (c.end-file.ensures.digest bytes flushed.hashed) short
+          flushed.files flushed.kept);
+    }
 
 pub name_file-requires : goal.name_file-requires
-name_file-requires g c = record { store = c.requires.store; file = c.end-file.ensures.path ∙ (c.in_ok-flush.ensures.leaves (trees_of c.args.store.now)).stays ∙ c.requires.path }
+name_file-requires g c = record {
+  store = c.requires.store;
+  file = c.end-file.ensures.path
+      ∙ (c.in_ok-flush.ensures.leaves (trees_of c.args.store.now)).stays ∙ c.requires.path;
+}

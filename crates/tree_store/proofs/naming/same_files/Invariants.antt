@@ -8,11 +8,14 @@ use Rattle.tree_store.proofs.naming.same_files.Given as goal
 
 abbrev pub invariant-loop-number : goal.invariant-loop-number
 invariant-loop-number g l = record {
-  alike : IfSome (g.W.World.tree l.initial.world) (λ files. take (l.number * 65536) (contents files l.path) ≡ take (l.number * 65536) (contents files l.file));
+  alike : IfSome (g.W.World.tree l.initial.world)
+      (λ files. take (l.number * 65536) (contents files l.path)
+      ≡ take (l.number * 65536) (contents files l.file));
   stands : IsFileAfter (g.W.World.tree l.initial.world) l.path l.number;
   tree : g.W.World.tree l.world ≡ g.W.World.tree l.initial.world;
   files : g.W.World.file_faults l.world ≡ g.W.World.file_faults l.initial.world;
   children : g.W.World.child_faults l.world ≡ g.W.World.child_faults l.initial.world;
   runs : g.W.World.runs l.world ≡ g.W.World.runs l.initial.world;
-  misused : MayMisuse (option_map (λ t. is_file (item_at t l.path) && is_file (item_at t l.file)) (g.W.World.tree l.initial.world)) (g.W.World.misused l.initial.world) (g.W.World.misused l.world);
+  misused : MayMisuse (option_map (λ t. is_file (item_at t l.path) && is_file (item_at t l.file))
+      (g.W.World.tree l.initial.world)) (g.W.World.misused l.initial.world) (g.W.World.misused l.world);
 }

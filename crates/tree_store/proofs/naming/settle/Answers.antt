@@ -16,33 +16,53 @@ plain store file at = ap is_root at ∙ new_plain store
 pub returns-in_err-same-clause-frame : goal.returns-in_err-same-clause-frame
 returns-in_err-same-clause-frame g c =
     let exit = err_from_is_err_and c.from_residual.result c.from_residual.ensures.1 in
-    rw (exit.1, exit.2) (frame_stop (frame_read c.args.file.now c.in_err-same.ensures.frame (may_rise _ _ _ c.in_err-same.ensures.misused)))
+    rw (exit.1, exit.2) (frame_stop (frame_read c.args.file.now c.in_err-same.ensures.frame
+    (may_rise _ _ _ c.in_err-same.ensures.misused)))
 
 pub returns-in_err-same-clause-settles : goal.returns-in_err-same-clause-settles
 returns-in_err-same-clause-settles g c =
     λ before store bytes digest_is short at new apart is kept stands.
     let exit = err_from_is_err_and c.from_residual.result c.from_residual.ensures.1 in
-    rw (exit.1, exit.2) (names_free c.in_err-same.ensures.free (compared_right store bytes c.args.path.now c.args.file.now before _ _ _ at new apart kept is stands c.in_err-same.ensures.misused))
+    rw (exit.1, exit.2) (names_free c.in_err-same.ensures.free
+    (compared_right store bytes c.args.path.now c.args.file.now before _ _ _ at new apart kept is stands
+    c.in_err-same.ensures.misused))
 
 pub returns-in_err-remove_new-clause-settles : goal.returns-in_err-remove_new-clause-settles
 returns-in_err-remove_new-clause-settles g c =
     λ before store bytes digest_is short at new apart is kept stands.
-    let exit = err_from_is_err_and c.from_residual-in_err-remove_new.result c.from_residual-in_err-remove_new.ensures.1 in
-    rw (exit.1, exit.2) (names_free c.in_err-remove_new.ensures.free (may_then (option_map (λ t. is_file_or_absent (item_at t (tree_path store (sha256 bytes)))) before) _ (c.in_err-remove_new.ensures.right (plain store c.args.file.now new)) (compared_right store bytes c.args.path.now c.args.file.now before _ _ _ at new apart kept is stands c.in_ok-same.ensures.misused)))
+    let exit = err_from_is_err_and c.from_residual-in_err-remove_new.result
+    c.from_residual-in_err-remove_new.ensures.1 in
+    rw (exit.1, exit.2) (names_free c.in_err-remove_new.ensures.free
+    (may_then (option_map (λ t. is_file_or_absent (item_at t (tree_path store (sha256 bytes)))) before) _
+    (c.in_err-remove_new.ensures.right (plain store c.args.file.now new))
+    (compared_right store bytes c.args.path.now c.args.file.now before _ _ _ at new apart kept is stands
+    c.in_ok-same.ensures.misused)))
 
 pub returns-clause-settles : goal.returns-clause-settles
 returns-clause-settles g c =
-    λ before store bytes digest_is short at new apart is kept stands. names_settled store bytes c.args.path.now c.args.file.now c.args.digest.now before _ _ _ c.or_clash.result c.in_ok-same.same c.args.len c.or_clash.ensures digest_is short at new apart kept is c.in_ok-same.ensures.told c.in_ok-same.ensures.stands (c.in_ok-remove_new.ensures.ok ∙ ap (option_map (without c.args.file.now)) c.in_ok-same.ensures.frame.files)
-    (may_then (option_map (λ t. is_file_or_absent (item_at t (tree_path store (sha256 bytes)))) before) _ (c.in_ok-remove_new.ensures.right (plain store c.args.file.now new)) (compared_right store bytes c.args.path.now c.args.file.now before _ _ _ at new apart kept is stands c.in_ok-same.ensures.misused))
+    λ before store bytes digest_is short at new apart is kept stands. names_settled store bytes c.args.path.now
+    c.args.file.now c.args.digest.now before _ _ _ c.or_clash.result c.in_ok-same.same c.args.len
+    c.or_clash.ensures digest_is short at new apart kept is c.in_ok-same.ensures.told
+    c.in_ok-same.ensures.stands (c.in_ok-remove_new.ensures.ok
+    ∙ ap (option_map (without c.args.file.now)) c.in_ok-same.ensures.frame.files)
+    (may_then (option_map (λ t. is_file_or_absent (item_at t (tree_path store (sha256 bytes)))) before) _
+    (c.in_ok-remove_new.ensures.right (plain store c.args.file.now new))
+    (compared_right store bytes c.args.path.now c.args.file.now before _ _ _ at new apart kept is stands
+    c.in_ok-same.ensures.misused))
 
 pub returns-clause-frame : goal.returns-clause-frame
 returns-clause-frame g c =
-    frame_then (frame_read c.args.file.now c.in_ok-same.ensures.frame (may_rise _ _ _ c.in_ok-same.ensures.misused)) (frame_then c.in_ok-remove_new.ensures.frame (frame_local c.args.file.now _ c.or_clash.result (clash_counts c.in_ok-same.same c.args.digest.now c.or_clash.result c.or_clash.ensures)))
+    frame_then (frame_read c.args.file.now c.in_ok-same.ensures.frame
+    (may_rise _ _ _ c.in_ok-same.ensures.misused))
+    (frame_then c.in_ok-remove_new.ensures.frame (frame_local c.args.file.now _ c.or_clash.result
+    (clash_counts c.in_ok-same.same c.args.digest.now c.or_clash.result c.or_clash.ensures)))
 
 pub returns-in_err-remove_new-clause-frame : goal.returns-in_err-remove_new-clause-frame
 returns-in_err-remove_new-clause-frame g c =
-    let exit = err_from_is_err_and c.from_residual-in_err-remove_new.result c.from_residual-in_err-remove_new.ensures.1 in
-    rw (exit.1, exit.2) (frame_then (frame_read c.args.file.now c.in_ok-same.ensures.frame (may_rise _ _ _ c.in_ok-same.ensures.misused)) (frame_stop c.in_err-remove_new.ensures.frame))
+    let exit = err_from_is_err_and c.from_residual-in_err-remove_new.result
+    c.from_residual-in_err-remove_new.ensures.1 in
+    rw (exit.1, exit.2) (frame_then (frame_read c.args.file.now c.in_ok-same.ensures.frame
+    (may_rise _ _ _ c.in_ok-same.ensures.misused)) (frame_stop c.in_err-remove_new.ensures.frame))
 
 pub returns-clause-blames : goal.returns-clause-blames
 returns-clause-blames g c =
@@ -51,5 +71,6 @@ returns-clause-blames g c =
 pub returns-in_err-remove_new-clause-blames : goal.returns-in_err-remove_new-clause-blames
 returns-in_err-remove_new-clause-blames g c =
     λ folder path file.
-    let exit = err_from_is_err_and c.from_residual-in_err-remove_new.result c.from_residual-in_err-remove_new.ensures.1 in
+    let exit = err_from_is_err_and c.from_residual-in_err-remove_new.result
+    c.from_residual-in_err-remove_new.ensures.1 in
     rw (exit.1, exit.2) (blames_fault folder c.args.file.now _ file c.in_err-remove_new.ensures.blames)

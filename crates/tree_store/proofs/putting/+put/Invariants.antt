@@ -23,6 +23,9 @@ invariant-put_entries-loop-name g l = record {
   within : l.name-index ≤ length l.names;
   names : AreNames (drop l.name-index l.names);
   few : l.so_far ≤ limit;
-  leaves : LeavesNew {A = Unit {0}} l.folder l.initial.writer (seen g.W.World l.initial.world) (Ok tt) l.writer (seen g.W.World l.world);
-  puts : Adds {A = Unit {0}} l.folder (λ before done more. PutSoFar before l.levels l.folder l.names l.name-index l.size l.so_far more) (λ before fault. Unit {0}) l.initial.writer (seen g.W.World l.initial.world) (Ok tt) l.writer (seen g.W.World l.world);
+  leaves : LeavesNew {A = Unit {0}} l.folder l.initial.writer (seen g.W.World l.initial.world) (Ok tt) l.writer
+      (seen g.W.World l.world);
+  puts : Adds {A = Unit {0}} l.folder (λ before done more. PutSoFar before l.levels l.folder l.names l.name-index
+      l.size l.so_far more) (λ before fault. Unit {0}) l.initial.writer (seen g.W.World l.initial.world)
+      (Ok tt) l.writer (seen g.W.World l.world);
 }

@@ -10,7 +10,8 @@ loop-done-init g c =
     record {
       within = c.in_ok-done.ensures.within;
       leaves = leaves_value tt c.in_ok-done.ensures.leaves;
-      puts = λ store before bytes h apart file. added_value tt (λ more part. part) (c.in_ok-done.ensures.puts store before bytes h apart file);
+      puts = λ store before bytes h apart file. added_value tt (λ more part. part)
+          (c.in_ok-done.ensures.puts store before bytes h apart file);
     }
 
 pub loop-done-preserved : goal.loop-done-preserved
@@ -18,7 +19,10 @@ loop-done-preserved g c =
     record {
       within = c.in_ok-next.ensures.within;
       leaves = leaves_then c.loop-done.invariant.leaves (leaves_value tt c.in_ok-next.ensures.leaves);
-      puts = λ store before bytes h apart file. added_then (c.loop-done.invariant.puts store before bytes h apart file) (λ more part held. added_value tt (λ next last. parts_joined part last) (c.in_ok-next.ensures.puts store before _ held apart file));
+      puts = λ store before bytes h apart file. added_then
+          (c.loop-done.invariant.puts store before bytes h apart file)
+          (λ more part held. added_value tt (λ next last. parts_joined part last)
+          (c.in_ok-next.ensures.puts store before _ held apart file));
     }
 
 pub returns-in_err-done-clause-leaves : goal.returns-in_err-done-clause-leaves
@@ -41,7 +45,8 @@ pub returns-in_err-next-clause-puts : goal.returns-in_err-next-clause-puts
 returns-in_err-next-clause-puts g c =
     λ store before bytes h apart file.
     let exit = err_from_is_err_and c.from_residual-in_err-next.result c.from_residual-in_err-next.ensures.1 in
-    rw (exit.1, exit.2) (added_then (c.loop-done.invariant.puts store before bytes h apart file) (λ more part held. added_stop (λ free. free) (c.in_err-next.ensures.puts store before _ held apart file)))
+    rw (exit.1, exit.2) (added_then (c.loop-done.invariant.puts store before bytes h apart file)
+    (λ more part held. added_stop (λ free. free) (c.in_err-next.ensures.puts store before _ held apart file)))
 
 pub returns-clause-leaves : goal.returns-clause-leaves
 returns-clause-leaves g c =
@@ -52,4 +57,6 @@ returns-clause-puts g c =
     λ store before bytes h apart file.
     let end : c.loop-done.done ≡ c.args.len = omega (arith, c.loop-done-test.false, c.loop-done.invariant.within) in
     added_then (c.loop-done.invariant.puts store before bytes h apart file)
-    (λ more part held. added_as (λ done next last. parts_joined (subst (λ n. IsPart before c.args.path.now 0 n more) end part) last) (λ fault free. free) (c.put_end.ensures.puts store before _ held apart file))
+    (λ more part held. added_as (λ done next last. parts_joined
+    (subst (λ n. IsPart before c.args.path.now 0 n more) end part) last) (λ fault free. free)
+    (c.put_end.ensures.puts store before _ held apart file))

@@ -9,9 +9,14 @@ use Rattle.tree_store.proofs.putting.put_contents.Given as goal
 abbrev pub invariant-loop-done : goal.invariant-loop-done
 invariant-loop-done g l = record {
   within : l.done ≤ l.len;
-  leaves : LeavesNew {A = Unit {0}} l.path l.fn.writer (seen g.W.World l.fn.world) (Ok tt) l.writer (seen g.W.World l.world);
-  puts : (store : List ℕ) (before : Option Tree) (bytes : List ℕ) → HasWritten store before l.fn.writer bytes (g.W.World.tree l.fn.world) → AreApart (new_path store) l.path → IfSome before (λ files. HasLength l.len (item_at files l.path))
-      → Added {A = Unit {0}} store before (λ done more. IsPart before l.path 0 l.done more) (λ fault. IfSome before (λ files. IsTrue (is_free fault))) bytes (seen g.W.World l.fn.world) (Ok tt) l.writer (seen g.W.World l.world);
+  leaves : LeavesNew {A = Unit {0}} l.path l.fn.writer (seen g.W.World l.fn.world) (Ok tt) l.writer
+      (seen g.W.World l.world);
+  puts : (store : List ℕ) (before : Option Tree) (bytes : List ℕ)
+      → HasWritten store before l.fn.writer bytes (g.W.World.tree l.fn.world) → AreApart (new_path store) l.path
+      → IfSome before (λ files. HasLength l.len (item_at files l.path))
+      → Added {A = Unit {0}} store before (λ done more. IsPart before l.path 0 l.done more)
+      (λ fault. IfSome before (λ files. IsTrue (is_free fault))) bytes (seen g.W.World l.fn.world)
+      (Ok tt) l.writer (seen g.W.World l.world);
 }
 
 abbrev pub decreases-loop-done : goal.decreases-loop-done

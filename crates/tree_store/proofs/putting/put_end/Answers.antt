@@ -8,7 +8,8 @@ pub returns-then-len-eq0-clause-leaves : goal.returns-then-len-eq0-clause-leaves
 returns-then-len-eq0-clause-leaves g c = leaves_local {A = Unit {0}} c.args.path.now _ _ _ (Ok tt) refl (λ n. refl)
 
 pub returns-then-len-eq0-clause-puts : goal.returns-then-len-eq0-clause-puts
-returns-then-len-eq0-clause-puts g c = λ store before bytes h apart file. added_nothing tt (no_part_more before c.args.path.now c.args.len) h
+returns-then-len-eq0-clause-puts g c = λ store before bytes h apart file. added_nothing tt
+    (no_part_more before c.args.path.now c.args.len) h
 
 pub returns-in_err-put_piece-clause-leaves : goal.returns-in_err-put_piece-clause-leaves
 returns-in_err-put_piece-clause-leaves g c =
@@ -26,4 +27,6 @@ returns-clause-leaves g c = leaves_value tt c.in_ok-put_piece.ensures.leaves
 
 pub returns-clause-puts : goal.returns-clause-puts
 returns-clause-puts g c =
-    λ store before bytes h apart file. added_value tt (λ more part. part_ends c.in_ok-put_piece.ensures.within part) (c.in_ok-put_piece.ensures.puts store before bytes h apart file)
+    λ store before bytes h apart file. added_value tt
+    (λ more part. part_ends c.in_ok-put_piece.ensures.within part)
+    (c.in_ok-put_piece.ensures.puts store before bytes h apart file)

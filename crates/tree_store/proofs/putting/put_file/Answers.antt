@@ -15,7 +15,11 @@ pub returns-in_err-size-clause-puts : goal.returns-in_err-size-clause-puts
 returns-in_err-size-clause-puts g c =
     λ levels some most.
     let exit = err_from_is_err_and c.from_residual.result c.from_residual.ensures.1 in
-    rw (exit.1, exit.2) (record { so = λ store before bytes h apart. added_none (file_refused levels c.args.size c.args.exec c.args.len _ h apart c.requires.kind some c.in_err-size.ensures) refl })
+    rw (exit.1, exit.2) (record {
+      so = λ store before bytes h apart. added_none
+          (file_refused levels c.args.size c.args.exec c.args.len _ h apart c.requires.kind some
+          c.in_err-size.ensures) refl;
+    })
 
 pub returns-in_err-head-clause-leaves : goal.returns-in_err-head-clause-leaves
 returns-in_err-head-clause-leaves g c =
@@ -26,7 +30,10 @@ pub returns-in_err-head-clause-puts : goal.returns-in_err-head-clause-puts
 returns-in_err-head-clause-puts g c =
     λ levels some most.
     let exit = err_from_is_err_and c.from_residual-in_err-head.result c.from_residual-in_err-head.ensures.1 in
-    rw (exit.1, exit.2) (record { so = λ store before bytes h apart. added_none (free_refuses before (λ files. node_at levels files c.args.path.now c.args.size) Memory refl) refl })
+    rw (exit.1, exit.2) (record {
+      so = λ store before bytes h apart. added_none
+          (free_refuses before (λ files. node_at levels files c.args.path.now c.args.size) Memory refl) refl;
+    })
 
 pub returns-in_err-add-clause-leaves : goal.returns-in_err-add-clause-leaves
 returns-in_err-add-clause-leaves g c =
@@ -37,20 +44,31 @@ pub returns-in_err-add-clause-puts : goal.returns-in_err-add-clause-puts
 returns-in_err-add-clause-puts g c =
     λ levels some most.
     let exit = err_from_is_err_and c.from_residual-in_err-add.result c.from_residual-in_err-add.ensures.1 in
-    rw (exit.1, exit.2) (record { so = λ store before bytes h apart. added_stop (λ free. free_refuses before (λ files. node_at levels files c.args.path.now c.args.size) _ free) ((c.in_err-add.ensures.adds c.args.path.now).so store before bytes h apart) })
+    rw (exit.1, exit.2) (record {
+      so = λ store before bytes h apart. added_stop
+          (λ free. free_refuses before (λ files. node_at levels files c.args.path.now c.args.size) _ free)
+          ((c.in_err-add.ensures.adds c.args.path.now).so store before bytes h apart);
+    })
 
 pub returns-in_err-put_contents-clause-leaves : goal.returns-in_err-put_contents-clause-leaves
 returns-in_err-put_contents-clause-leaves g c =
-    let exit = err_from_is_err_and c.from_residual-in_err-put_contents.result c.from_residual-in_err-put_contents.ensures.1 in
-    rw (exit.1, exit.2) (leaves_then (c.in_ok-add.ensures.leaves c.args.path.now) (leaves_stop c.in_err-put_contents.ensures.leaves))
+    let exit = err_from_is_err_and c.from_residual-in_err-put_contents.result
+    c.from_residual-in_err-put_contents.ensures.1 in
+    rw (exit.1, exit.2) (leaves_then (c.in_ok-add.ensures.leaves c.args.path.now)
+    (leaves_stop c.in_err-put_contents.ensures.leaves))
 
 pub returns-in_err-put_contents-clause-puts : goal.returns-in_err-put_contents-clause-puts
 returns-in_err-put_contents-clause-puts g c =
     λ levels some most.
-    let exit = err_from_is_err_and c.from_residual-in_err-put_contents.result c.from_residual-in_err-put_contents.ensures.1 in
+    let exit = err_from_is_err_and c.from_residual-in_err-put_contents.result
+    c.from_residual-in_err-put_contents.ensures.1 in
     rw (exit.1, exit.2) (record {
-      so = λ store before bytes h apart. added_then ((c.in_ok-add.ensures.adds c.args.path.now).so store before bytes h apart)
-          (λ more is held. added_stop (λ free. free_where before (λ files. node_at levels files c.args.path.now c.args.size) _ free) (c.in_err-put_contents.ensures.puts store before _ held apart (has_length c.args.exec c.args.len h apart c.requires.kind)));
+      so = λ store before bytes h apart. added_then
+          ((c.in_ok-add.ensures.adds c.args.path.now).so store before bytes h apart)
+          (λ more is held. added_stop (λ free. free_where before
+          (λ files. node_at levels files c.args.path.now c.args.size) _ free)
+          (c.in_err-put_contents.ensures.puts store before _ held apart
+          (has_length c.args.exec c.args.len h apart c.requires.kind)));
     })
 
 pub returns-clause-leaves : goal.returns-clause-leaves
@@ -60,7 +78,12 @@ returns-clause-leaves g c =
 pub returns-clause-puts : goal.returns-clause-puts
 returns-clause-puts g c =
     λ levels some most. record {
-      so = λ store before bytes h apart. added_then ((c.in_ok-add.ensures.adds c.args.path.now).so store before bytes h apart)
-          (λ more is held. added_value _ (λ next part. node_bytes_as (ap (λ m. m ++ next) (is ∙ c.as_slice.ensures.value ∙ c.in_ok-head.ensures.bytes)) (file_put levels c.args.size c.in_ok-size.size c.args.exec c.args.len next h apart c.requires.kind some most c.in_ok-size.ensures part))
-          (c.in_ok-put_contents.ensures.puts store before _ held apart (has_length c.args.exec c.args.len h apart c.requires.kind)));
+      so = λ store before bytes h apart. added_then
+          ((c.in_ok-add.ensures.adds c.args.path.now).so store before bytes h apart)
+          (λ more is held. added_value _ (λ next part. node_bytes_as
+          (ap (λ m. m ++ next) (is ∙ c.as_slice.ensures.value ∙ c.in_ok-head.ensures.bytes))
+          (file_put levels c.args.size c.in_ok-size.size c.args.exec c.args.len next h apart c.requires.kind
+          some most c.in_ok-size.ensures part))
+          (c.in_ok-put_contents.ensures.puts store before _ held apart
+          (has_length c.args.exec c.args.len h apart c.requires.kind)));
     }

@@ -23,7 +23,11 @@ returns-in_err-add-clause-leaves g c =
 pub returns-in_err-add-clause-puts : goal.returns-in_err-add-clause-puts
 returns-in_err-add-clause-puts g c =
     let exit = err_from_is_err_and c.from_residual-in_err-add.result c.from_residual-in_err-add.ensures.1 in
-    rw (exit.1, exit.2) (record { so = λ store before bytes h apart. added_stop (λ free. free_refuses before (λ files. link_of c.args.path.now c.args.levels c.args.size c.args.target.now) _ free) ((c.in_err-add.ensures.adds c.args.path.now).so store before bytes h apart) })
+    rw (exit.1, exit.2) (record {
+      so = λ store before bytes h apart. added_stop
+          (λ free. free_refuses before (λ files. link_of c.args.path.now c.args.levels c.args.size
+          c.args.target.now) _ free) ((c.in_err-add.ensures.adds c.args.path.now).so store before bytes h apart);
+    })
 
 pub returns-clause-leaves : goal.returns-clause-leaves
 returns-clause-leaves g c =
@@ -31,4 +35,10 @@ returns-clause-leaves g c =
 
 pub returns-clause-puts : goal.returns-clause-puts
 returns-clause-puts g c =
-    record { so = λ store before bytes h apart. added_value _ (λ more is. node_bytes_as (is ∙ c.as_slice.ensures.value ∙ c.in_ok-bytes.ensures.bytes) (link_put c.args.path.now c.args.target.now c.args.levels c.args.size c.in_ok-size.size c.in_ok-size.ensures.reads c.in_ok-size.ensures.fit)) ((c.in_ok-add.ensures.adds c.args.path.now).so store before bytes h apart) }
+    record {
+      so = λ store before bytes h apart. added_value _
+          (λ more is. node_bytes_as (is ∙ c.as_slice.ensures.value ∙ c.in_ok-bytes.ensures.bytes)
+          (link_put c.args.path.now c.args.target.now c.args.levels c.args.size c.in_ok-size.size
+          c.in_ok-size.ensures.reads c.in_ok-size.ensures.fit))
+          ((c.in_ok-add.ensures.adds c.args.path.now).so store before bytes h apart);
+    }

@@ -31,5 +31,6 @@ invariant-read_entries-loop-name g l = record {
   children : g.W.World.child_faults l.world ≡ g.W.World.child_faults l.initial.world;
   runs : g.W.World.runs l.world ≡ g.W.World.runs l.initial.world;
   misused : g.W.World.misused l.world ≡ g.W.World.misused l.initial.world;
-  leaves : Leaves (g.W.World.tree l.initial.world) l.levels l.folder l.entries.items l.so_far (drop l.name-index l.names) l.names l.size;
+  leaves : Leaves (g.W.World.tree l.initial.world) l.levels l.folder l.entries.items l.so_far
+      (drop l.name-index l.names) l.names l.size;
 }

@@ -13,5 +13,6 @@ invariant-loop-number g l = record {
   files : g.W.World.file_faults l.world ≡ g.W.World.file_faults l.initial.world;
   children : g.W.World.child_faults l.world ≡ g.W.World.child_faults l.initial.world;
   runs : g.W.World.runs l.world ≡ g.W.World.runs l.initial.world;
-  misused : MayMisuse (option_map (λ t. is_file (item_at t l.path)) (g.W.World.tree l.initial.world)) (g.W.World.misused l.initial.world) (g.W.World.misused l.world);
+  misused : MayMisuse (option_map (λ t. is_file (item_at t l.path)) (g.W.World.tree l.initial.world))
+      (g.W.World.misused l.initial.world) (g.W.World.misused l.world);
 }

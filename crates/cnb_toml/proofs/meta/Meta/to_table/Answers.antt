@@ -12,7 +12,9 @@ use Rattle.cnb_toml.proofs.meta.Meta.to_table.Goals as goal
 pub returns-in-Table-clause-reads_back : goal.returns-in-Table-clause-reads_back
 returns-in-Table-clause-reads_back c =
     let meta = c.args.self.now in
-    let same = ap (λ entries. put_all (map entry_of entries) no_members) c.as_slice.ensures ∙ sym (ap members_of (ap data_of c.in-Table.is ∙ data_of-Table c.in-Table.entries)) in
-    IfOk-weaker c.write_table.result _ (λ table. IsTrue (is_kept meta) → (path : List ℕ) → meta_in path (table_view table) ≡ Ok meta)
+    let same = ap (λ entries. put_all (map entry_of entries) no_members) c.as_slice.ensures
+    ∙ sym (ap members_of (ap data_of c.in-Table.is ∙ data_of-Table c.in-Table.entries)) in
+    IfOk-weaker c.write_table.result _ (λ table. IsTrue (is_kept meta) → (path : List ℕ)
+    → meta_in path (table_view table) ≡ Ok meta)
     (λ table written kept path. ap (meta_in path) (written ∙ same) ∙ kept_read meta kept path)
     c.write_table.ensures

@@ -6,4 +6,5 @@ use Rattle.cnb_world.specs.Tree.{folders_above}
 use Rattle.cnb_world.proofs.memory.effect.is_above.Given as goal
 
 abbrev pub invariant-loop-place : goal.invariant-loop-place
-invariant-loop-place l = list_any (bytes_eq l.folder) (on_way l.path l.place) ≡ list_any (bytes_eq l.folder) (folders_above l.path)
+invariant-loop-place l = list_any (bytes_eq l.folder) (on_way l.path l.place)
+    ≡ list_any (bytes_eq l.folder) (folders_above l.path)

@@ -9,11 +9,15 @@ returns-in_default t c = sym (nothing_held c.args.puts.now c.args.digest.now c.i
 
 pub returns-then-is_under : goal.returns-then-is_under
 returns-then-is_under t c =
-    sym (held_after_last c.args.puts.now c.in-Some.earlier.now c.in-Some.last.now c.args.digest.now c.in-Some.ensures.cases.0
-    ∙ ap (λ v. cond v (Some c.in-Some.last.now.bytes) (get (held_of c.in-Some.earlier.now) c.args.digest.now)) (sym c.is_under.ensures ∙ c.if-is_under.true))
+    sym (held_after_last c.args.puts.now c.in-Some.earlier.now c.in-Some.last.now c.args.digest.now
+    c.in-Some.ensures.cases.0
+    ∙ ap (λ v. cond v (Some c.in-Some.last.now.bytes) (get (held_of c.in-Some.earlier.now) c.args.digest.now))
+    (sym c.is_under.ensures ∙ c.if-is_under.true))
 
 pub returns : goal.returns
 returns t c =
     c.bytes_under.ensures
-    ∙ sym (held_after_last c.args.puts.now c.in-Some.earlier.now c.in-Some.last.now c.args.digest.now c.in-Some.ensures.cases.0
-    ∙ ap (λ v. cond v (Some c.in-Some.last.now.bytes) (get (held_of c.in-Some.earlier.now) c.args.digest.now)) (sym c.is_under.ensures ∙ c.if-is_under.false))
+    ∙ sym (held_after_last c.args.puts.now c.in-Some.earlier.now c.in-Some.last.now c.args.digest.now
+    c.in-Some.ensures.cases.0
+    ∙ ap (λ v. cond v (Some c.in-Some.last.now.bytes) (get (held_of c.in-Some.earlier.now) c.args.digest.now))
+    (sym c.is_under.ensures ∙ c.if-is_under.false))

@@ -13,7 +13,8 @@ returns-in-Some-get-clause-place c =
 
 pub returns-in-Some-get-clause-named : goal.returns-in-Some-get-clause-named
 returns-in-Some-get-clause-named c =
-    sym (returns-in-Some-get-clause-place c) ∙ named_there c.args.self.now c.args.entry.now c.in-Some.place c.in-Some.ensures
+    sym (returns-in-Some-get-clause-place c) ∙ named_there c.args.self.now c.args.entry.now c.in-Some.place
+    c.in-Some.ensures
 
 pub returns-in-None-get-clause-named : goal.returns-in-None-get-clause-named
 returns-in-None-get-clause-named c =

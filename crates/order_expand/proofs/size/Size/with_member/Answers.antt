@@ -7,4 +7,5 @@ pub returns-then-self-eq0 : goal.returns-then-self-eq0
 returns-then-self-eq0 c groups member e = none_with_member c.args.self groups member e c.if-self-eq0.true
 
 pub returns : goal.returns
-returns c groups member e = some_with_member c.args.self groups member c.min.result e c.if-self-eq0.false (c.min.ensures ∙ ap (λ n. min 257 n) c.saturating_add.ensures)
+returns c groups member e = some_with_member c.args.self groups member c.min.result e c.if-self-eq0.false
+    (c.min.ensures ∙ ap (λ n. min 257 n) c.saturating_add.ensures)

@@ -7,6 +7,7 @@ pub returns : goal.returns
 unfolding listed_groups
 returns c =
     ap (map (distinct same_id))
-    (first_groups c.args.catalog.now c.as_slice.result.now c.new-members.result.items c.new-later.result.items c.new-waiting.result.items
+    (first_groups c.args.catalog.now c.as_slice.result.now c.new-members.result.items c.new-later.result.items
+    c.new-waiting.result.items
     c.new-members.ensures.items c.new-later.ensures.items c.new-waiting.ensures.items
     ∙ ap (raw_groups 17 c.args.catalog.now) c.as_slice.ensures)

@@ -4,4 +4,5 @@ use denote.Shadow.{shadow}
 use Rattle.scenarios.proofs.trees.Trees.put_filled.Given as goal
 
 abbrev pub invariant-loop-piece : goal.invariant-loop-piece
-invariant-loop-piece l = (goal.iterator-loop-piece).can_next l.piece-iterator × (goal.iterator-loop-piece).is_finite l.piece-iterator × shadow (Utf8 l.front)
+invariant-loop-piece l = (goal.iterator-loop-piece).can_next l.piece-iterator
+    × (goal.iterator-loop-piece).is_finite l.piece-iterator × shadow (Utf8 l.front)

@@ -8,7 +8,8 @@ invariant_of-self c =
     let fits : IsBytes c.args.piece.now = λ i. omega (arith, c.type_inv.piece i) in
     let d = c.self.inside in
     let n = c.in-Ok.ensures in
-    keeps_decoding d.scanner d.building d.fault c.args.self.now c.args.piece.now fits c.self.view_is c.in_default.is c.self.invariant c.read.new.scanner c.read.new.building
+    keeps_decoding d.scanner d.building d.fault c.args.self.now c.args.piece.now fits c.self.view_is
+    c.in_default.is c.self.invariant c.read.new.scanner c.read.new.building
     (record { partial = n.partial; small = n.small; owed = n.owed; made = n.made })
 
 pub returns-in-Ok-clause-fed : goal.returns-in-Ok-clause-fed
@@ -16,24 +17,28 @@ returns-in-Ok-clause-fed c =
     let fits : IsBytes c.args.piece.now = λ i. omega (arith, c.type_inv.piece i) in
     let d = c.self.inside in
     let n = c.in-Ok.ensures in
-    feeds_ok d.scanner d.building d.fault c.args.self.now c.args.piece.now fits c.self.view_is c.in_default.is c.self.invariant c.read.new.scanner c.read.new.building
+    feeds_ok d.scanner d.building d.fault c.args.self.now c.args.piece.now fits c.self.view_is c.in_default.is
+    c.self.invariant c.read.new.scanner c.read.new.building
     (record { partial = n.partial; small = n.small; owed = n.owed; made = n.made })
 
 pub returns-in-Ok-clause-divided : goal.returns-in-Ok-clause-divided
 returns-in-Ok-clause-divided c =
     let fits : IsBytes c.args.piece.now = λ i. omega (arith, c.type_inv.piece i) in
     let d = c.self.inside in
-    feeds_divided d.scanner d.building d.fault c.args.self.now c.args.piece.now fits c.self.view_is c.in_default.is c.self.invariant
+    feeds_divided d.scanner d.building d.fault c.args.self.now c.args.piece.now fits c.self.view_is
+    c.in_default.is c.self.invariant
 
 pub returns-in-Err-clause-fed : goal.returns-in-Err-clause-fed
 returns-in-Err-clause-fed c =
     let fits : IsBytes c.args.piece.now = λ i. omega (arith, c.type_inv.piece i) in
     let d = c.self.inside in
-    feeds_err d.scanner d.building d.fault c.args.self.now c.args.piece.now fits c.self.view_is c.in_default.is c.self.invariant c.in-Err.fault
+    feeds_err d.scanner d.building d.fault c.args.self.now c.args.piece.now fits c.self.view_is c.in_default.is
+    c.self.invariant c.in-Err.fault
     (λ state h at reason e. c.in-Err.ensures.bad state h at reason (ap Err e))
 
 pub returns-in-Err-clause-divided : goal.returns-in-Err-clause-divided
 returns-in-Err-clause-divided c =
     let fits : IsBytes c.args.piece.now = λ i. omega (arith, c.type_inv.piece i) in
     let d = c.self.inside in
-    feeds_divided d.scanner d.building d.fault c.args.self.now c.args.piece.now fits c.self.view_is c.in_default.is c.self.invariant
+    feeds_divided d.scanner d.building d.fault c.args.self.now c.args.piece.now fits c.self.view_is
+    c.in_default.is c.self.invariant

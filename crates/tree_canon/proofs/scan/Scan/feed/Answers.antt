@@ -14,4 +14,5 @@ returns-in-Ok c fed scans =
 pub returns-in-Err : goal.returns-in-Err
 returns-in-Err c fed scans =
     let fits : IsBytes c.args.piece.now = λ i. omega (arith, c.type_inv.piece i) in
-    feeds_fault c.args.self.now _ fed c.args.piece.now c.in-Err.fault fits scans c.in_default.is refl (λ state h at reason e. c.in-Err.ensures.bad state h at reason (ap Err e))
+    feeds_fault c.args.self.now _ fed c.args.piece.now c.in-Err.fault fits scans c.in_default.is refl
+    (λ state h at reason e. c.in-Err.ensures.bad state h at reason (ap Err e))

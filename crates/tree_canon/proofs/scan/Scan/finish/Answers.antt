@@ -13,4 +13,6 @@ pub returns-in-End-clause-given : goal.returns-in-End-clause-given
 returns-in-End-clause-given c bytes given h = gives_tree c.args.self bytes given h c.in-End.is
 
 pub returns-clause-ends : goal.returns-clause-ends
-returns-clause-ends c fed scans = scan_ends_short c.args.self fed _ scans c.in_default.is c.in_default-next.not-End (c.saturating_add.ensures ∙ ap (λ n. min (c.args.self.scanner.at + n) 18446744073709551615) c.taken.ensures)
+returns-clause-ends c fed scans = scan_ends_short c.args.self fed _ scans c.in_default.is
+    c.in_default-next.not-End (c.saturating_add.ensures ∙ ap
+    (λ n. min (c.args.self.scanner.at + n) 18446744073709551615) c.taken.ensures)

@@ -12,7 +12,8 @@ invariant-loop-used l = record {
   small : IsSmall l.self;
   owed : l.self.owed ≡ 0;
   runs : (state : State) → IsAt l.fn.self state → IsAt l.self (run state (take l.used l.input));
-  told : (bytes : List ℕ) (given : List Told) → HasTold l.fn.self bytes given → HasTold l.self (bytes ++ take l.used l.input) given;
+  told : (bytes : List ℕ) (given : List Told) → HasTold l.fn.self bytes given
+      → HasTold l.self (bytes ++ take l.used l.input) given;
 }
 
 abbrev pub decreases-loop-used : goal.decreases-loop-used

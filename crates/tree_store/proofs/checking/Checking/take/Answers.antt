@@ -12,5 +12,7 @@ pub returns-in-Err-Bad : goal.returns-in-Err-Bad
 returns-in-Err-Bad c bytes h =
     let known = c.in-Err-Bad.field-0-is in
     let is : c.in-Err-Bad.field-0 ≡ faults.Bad c.in-Err-Bad.field-0-0 c.in-Err-Bad.field-0-1 = cc in
-    checked_broken c.args.self.now _ bytes c.args.piece.now c.in-Err-Bad.field-0-0 c.in-Err-Bad.field-0-1 (c.update.ensures bytes)
-    (λ fed scans. subst (λ (f : DecodeFault). ScanFeeds fed c.args.piece.now (Err f) c.feed.new.self) is (c.in-Err-Bad.ensures fed scans)) h
+    checked_broken c.args.self.now _ bytes c.args.piece.now c.in-Err-Bad.field-0-0 c.in-Err-Bad.field-0-1
+    (c.update.ensures bytes)
+    (λ fed scans. subst (λ (f : DecodeFault). ScanFeeds fed c.args.piece.now (Err f) c.feed.new.self) is
+    (c.in-Err-Bad.ensures fed scans)) h

@@ -8,4 +8,10 @@ pub returns-in-Err-Bad : goal.returns-in-Err-Bad
 returns-in-Err-Bad c =
     let known = c.in-Err-Bad.field-0-is in
     let is : c.in-Err-Bad.field-0 ≡ faults.Bad c.in-Err-Bad.field-0-0 c.in-Err-Bad.field-0-1 = cc in
-    λ bytes taken. (c.update.ensures bytes taken.0, fed_broken c.args.self.now.decoder c.feed.new.self bytes c.args.piece.now c.in-Err-Bad.field-0-0 c.in-Err-Bad.field-0-1 (subst (λ f. Feeds c.args.self.now.decoder c.args.piece.now (Err f) c.feed.new.self) is c.in-Err-Bad.ensures.fed) taken.1)
+    λ bytes taken. (
+      c.update.ensures bytes taken.0,
+      fed_broken c.args.self.now.decoder c.feed.new.self bytes
+          c.args.piece.now c.in-Err-Bad.field-0-0 c.in-Err-Bad.field-0-1
+          (subst (λ f. Feeds c.args.self.now.decoder c.args.piece.now (Err f) c.feed.new.self) is
+          c.in-Err-Bad.ensures.fed) taken.1,
+    )

@@ -12,10 +12,13 @@ returns-in_err-field-clause-leaves g c = λ path.
 pub returns-in_err-field-clause-reads : goal.returns-in_err-field-clause-reads
 returns-in_err-field-clause-reads g c = λ b rest folders.
     let exit = err_from_is_err_and c.from_residual.result c.from_residual.ensures.1 in
-    rw (exit.1, exit.2) (does_stop _ _ (b ∷ rest) rest rest _ _ folders folders folders _ _ _ _ _ (c.in_err-field.ensures.reads (b ∷ []) rest folders refl))
+    rw (exit.1, exit.2) (does_stop _ _ (b ∷ rest) rest rest _ _ folders folders folders _ _ _ _ _
+    (c.in_err-field.ensures.reads (b ∷ []) rest folders refl))
 
 pub returns-clause-leaves : goal.returns-clause-leaves
 returns-clause-leaves g c = λ path. leaves_value path _ _ _ _ _ _ (c.in_ok-field.ensures.leaves path)
 
 pub returns-clause-reads : goal.returns-clause-reads
-returns-clause-reads g c = λ b rest folders. does_value (λ read. read ≡ b ∷ []) (λ read. read ≡ b) _ _ (b ∷ rest) rest _ _ _ _ _ _ _ (λ e. c.first_byte.ensures ∙ ap first_byte (c.as_slice.ensures ∙ e)) (c.in_ok-field.ensures.reads (b ∷ []) rest folders refl)
+returns-clause-reads g c = λ b rest folders. does_value (λ read. read ≡ b ∷ []) (λ read. read ≡ b) _ _
+    (b ∷ rest) rest _ _ _ _ _ _ _ (λ e. c.first_byte.ensures ∙ ap first_byte (c.as_slice.ensures ∙ e))
+    (c.in_ok-field.ensures.reads (b ∷ []) rest folders refl)

@@ -14,13 +14,18 @@ returns-in_err-fill-clause-leaves g c = λ path.
 pub returns-in_err-fill-clause-reads : goal.returns-in_err-fill-clause-reads
 returns-in_err-fill-clause-reads g c = λ field rest folders is.
     let exit = err_from_is_err_and c.from_residual.result c.from_residual.ensures.1 in
-    rw (exit.1, exit.2) (does_stop _ _ (field ++ rest) (field ++ rest) rest _ _ folders folders folders _ _ _ _ _ (c.in_err-fill.ensures.reads (field ++ rest) folders (within field rest c.args.len is)))
+    rw (exit.1, exit.2) (does_stop _ _ (field ++ rest) (field ++ rest) rest _ _ folders folders folders _ _ _ _ _
+    (c.in_err-fill.ensures.reads (field ++ rest) folders (within field rest c.args.len is)))
 
 pub returns-clause-leaves : goal.returns-clause-leaves
-returns-clause-leaves g c = λ path. leaves_on path _ _ _ _ _ _ tt _ (c.in_ok-fill.ensures.leaves path) (leaves_local path _ _ _ _ c.cut.ensures.stays c.cut.ensures.counts (c.cut.ensures.blames path _))
+returns-clause-leaves g c = λ path. leaves_on path _ _ _ _ _ _ tt _ (c.in_ok-fill.ensures.leaves path)
+    (leaves_local path _ _ _ _ c.cut.ensures.stays c.cut.ensures.counts (c.cut.ensures.blames path _))
 
 pub returns-clause-reads : goal.returns-clause-reads
 returns-clause-reads g c = λ field rest folders is.
-    does_on (λ done. Unit {0}) (λ read. read ≡ field) (field ++ rest) (field ++ rest) rest (λ files. files) (λ files. files) folders folders folders _ _ _ _ _ _ tt _
+    does_on (λ done. Unit {0}) (λ read. read ≡ field) (field ++ rest) (field ++ rest) rest (λ files. files)
+    (λ files. files) folders folders folders _ _ _ _ _ _ tt _
     (c.in_ok-fill.ensures.reads (field ++ rest) folders (within field rest c.args.len is))
-    (λ done. does_local (λ read. read ≡ field) (field ++ rest) rest folders _ _ _ _ (c.cut.ensures.value _ field rest is) (c.cut.ensures.ahead _ field rest is) (c.cut.ensures.free _ (field ++ rest)))
+    (λ done. does_local (λ read. read ≡ field) (field ++ rest) rest folders _ _ _ _
+    (c.cut.ensures.value _ field rest is) (c.cut.ensures.ahead _ field rest is)
+    (c.cut.ensures.free _ (field ++ rest)))

@@ -18,15 +18,20 @@ returns-in_err-name-clause-leaves g c = λ path.
 pub returns-in_err-name-clause-reads : goal.returns-in_err-name-clause-reads
 returns-in_err-name-clause-reads g c = λ name rest folders is.
     let exit = err_from_is_err_and c.from_residual.result c.from_residual.ensures.1 in
-    rw (exit.1, exit.2) (reads_stop (λ read. read ≡ name) (λ read. read ≡ name) (c.in_err-name.ensures.reads name rest folders (text_of name is)))
+    rw (exit.1, exit.2) (reads_stop (λ read. read ≡ name) (λ read. read ≡ name)
+    (c.in_err-name.ensures.reads name rest folders (text_of name is)))
 
 pub returns-then-is_part-clause-reads : goal.returns-then-is_part-clause-reads
-returns-then-is_part-clause-reads g c = λ name rest folders is. c.in_ok-name.ensures.reads name rest folders (text_of name is)
+returns-then-is_part-clause-reads g c = λ name rest folders is. c.in_ok-name.ensures.reads name rest folders
+    (text_of name is)
 
 pub returns-else-is_part-clause-leaves : goal.returns-else-is_part-clause-leaves
-returns-else-is_part-clause-leaves g c = λ path. rw c.broken.ensures (leaves_broken path _ _ _ _ c.in_ok-name.name _ _ _ (c.in_ok-name.ensures.leaves path))
+returns-else-is_part-clause-leaves g c = λ path. rw c.broken.ensures
+    (leaves_broken path _ _ _ _ c.in_ok-name.name _ _ _ (c.in_ok-name.ensures.leaves path))
 
 pub returns-else-is_part-clause-reads : goal.returns-else-is_part-clause-reads
 returns-else-is_part-clause-reads g c = λ name rest folders is.
-    reads_on (λ read. read ≡ name) (λ read. read ≡ name) (c.in_ok-name.ensures.reads name rest folders (text_of name is))
-    (λ value. absurd (let no : false ≡ true = c.if-is_part.ensures ∙ ap is_part (c.as_bytes.ensures.value ∙ c.as_str.ensures ∙ value) ∙ name_part name is in cc))
+    reads_on (λ read. read ≡ name) (λ read. read ≡ name)
+    (c.in_ok-name.ensures.reads name rest folders (text_of name is))
+    (λ value. absurd (let no : false ≡ true = c.if-is_part.ensures
+    ∙ ap is_part (c.as_bytes.ensures.value ∙ c.as_str.ensures ∙ value) ∙ name_part name is in cc))

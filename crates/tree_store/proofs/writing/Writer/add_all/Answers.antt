@@ -19,14 +19,17 @@ loop-done-preserved g c =
       leaves = λ path. leaves_then (c.loop-done.invariant.leaves path) (c.in_ok-add.ensures.leaves path);
       adds = λ path. record {
         so = λ store before bytes h apart. added_then ((c.loop-done.invariant.adds path).so store before bytes h apart)
-            (λ some is held. added_as (λ v next e. next_piece some next c.args.bytes.now c.loop-done.done c.piece_end-end.result more is e) (λ fault free. free) ((c.in_ok-add.ensures.adds path).so store before _ held apart));
+            (λ some is held. added_as (λ v next e. next_piece some next c.args.bytes.now c.loop-done.done
+            c.piece_end-end.result more is e) (λ fault free. free)
+            ((c.in_ok-add.ensures.adds path).so store before _ held apart));
       };
     }
 
 pub returns-in_err-add-clause-leaves : goal.returns-in_err-add-clause-leaves
 returns-in_err-add-clause-leaves g c = λ path.
     let exit = err_from_is_err_and c.from_residual.result c.from_residual.ensures.1 in
-    rw (exit.1, exit.2) (leaves_then (c.loop-done.invariant.leaves path) (leaves_stop (c.in_err-add.ensures.leaves path)))
+    rw (exit.1, exit.2) (leaves_then (c.loop-done.invariant.leaves path)
+    (leaves_stop (c.in_err-add.ensures.leaves path)))
 
 pub returns-in_err-add-clause-adds : goal.returns-in_err-add-clause-adds
 returns-in_err-add-clause-adds g c = λ path.
@@ -39,5 +42,7 @@ returns-in_err-add-clause-adds g c = λ path.
 pub returns-clause-adds : goal.returns-clause-adds
 returns-clause-adds g c = λ path. record {
   so = λ store before bytes h apart.
-      added_as (λ v more e. e ∙ take_all c.loop-done.done c.args.bytes.now (omega (arith, c.loop-done-test.false))) (λ fault free. free) ((c.loop-done.invariant.adds path).so store before bytes h apart);
+      added_as (λ v more e. e ∙ take_all c.loop-done.done c.args.bytes.now
+      (omega (arith, c.loop-done-test.false))) (λ fault free. free)
+      ((c.loop-done.invariant.adds path).so store before bytes h apart);
 }

@@ -10,4 +10,6 @@ loop-place-preserved c = record {
 }
 
 pub returns-clause-adds : goal.returns-clause-adds
-returns-clause-adds c = c.loop-place.invariant.adds _ (way_ends (tree_of c.args.self.now.list.items) c.args.folder.now c.args.path.now c.loop-place.place c.loop-place.names.items (omega arith))
+returns-clause-adds c = c.loop-place.invariant.adds _
+    (way_ends (tree_of c.args.self.now.list.items) c.args.folder.now c.args.path.now c.loop-place.place
+    c.loop-place.names.items (omega arith))
