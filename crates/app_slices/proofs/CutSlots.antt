@@ -1,5 +1,7 @@
 -- What the slots have, entry by entry.
-use Rattle.std.proofs.Common.{◌≡◌, ℕ, zero, suc, ◌+◌, ◌<◌, ◌≤◌, ◌==◌, Bool, true, false, cond, List, [], ◌∷◌, ◌++◌, Option, Some, None, refl, sym, ap, ◌∙◌, subst, arith, length, append-nil, append_assoc, map, nat_eq}
+use Rattle.std.proofs.Common.{◌≡◌, ℕ, zero, suc, ◌+◌, ◌<◌, ◌≤◌, ◌==◌, Bool, true, false, cond, List, [], ◌∷◌, ◌++◌}
+use Rattle.std.proofs.Common.{Option, Some, None, refl, sym, ap, ◌∙◌, subst, arith, length, append-nil, append_assoc}
+use Rattle.std.proofs.Common.{map, nat_eq}
 use Rattle.std.specs.Prelude.{nat_lt, IfSome}
 use Rattle.std.specs.BTreeMap.{get, is_at}
 use Rattle.std.specs.Map.{lookup}
@@ -14,7 +16,8 @@ use Rattle.tree_canon.specs.declared.node.Node.TheVariants.{Folder, File, Link}
 use Rattle.tree_canon.specs.Fits.{is_tree}
 use Rattle.app_slices.specs.Slots.{Slices, Slot, below, slot_in, same_slot}
 use Rattle.app_slices.specs.Slices.{folder_part, named, part, tree_of, slices_of}
-use Rattle.app_slices.specs.Cutting.{slot_at, Parts, entries_at, with_more, Adds, AddsSlots, HasSlots, one_at, folders_at, node_at, entry_at, all_at, only_own, folders_of, AreTree}
+use Rattle.app_slices.specs.Cutting.{slot_at, Parts, entries_at, with_more, Adds, AddsSlots, HasSlots, one_at}
+use Rattle.app_slices.specs.Cutting.{folders_at, node_at, entry_at, all_at, only_own, folders_of, AreTree}
 use Rattle.app_slices.proofs.Parts.{entry_part_is, entries_part_is, part_folder, part_file, part_link, part_tree}
 
 -- ---- entries behind others

@@ -1,5 +1,7 @@
 -- Laying the trees of an application one after another leaves what the application leaves.
-use Rattle.std.proofs.Common.{◌≡◌, ℕ, zero, suc, ◌+◌, ◌<◌, ◌≤◌, ◌∙◌, Bool, true, false, cond, not, ◌&&◌, List, [], ◌∷◌, ◌++◌, map, length, Option, Some, None, refl, sym, ap, subst, arith, ◌⊎◌, inl, inr, nat_eq, length-append, append-nil}
+use Rattle.std.proofs.Common.{◌≡◌, ℕ, zero, suc, ◌+◌, ◌<◌, ◌≤◌, ◌∙◌, Bool, true, false, cond, not, ◌&&◌, List, [], ◌∷◌}
+use Rattle.std.proofs.Common.{◌++◌, map, length, Option, Some, None, refl, sym, ap, subst, arith, ◌⊎◌, inl, inr, nat_eq}
+use Rattle.std.proofs.Common.{length-append, append-nil}
 use Rattle.std.specs.Prelude.{ltb}
 use Rattle.std.specs.List.{list_any, starts_with, fold, filter_map, cons_option, range_with_len}
 use Rattle.std.specs.Str.{bytes_eq}
@@ -16,14 +18,18 @@ use Rattle.tree_canon.specs.declared.node.Node.{Node}
 use Rattle.tree_canon.specs.declared.node.Named.{Named}
 use Rattle.tree_canon.specs.declared.node.Node.TheVariants.{Folder}
 use Rattle.tree_canon.specs.Fits.{fits}
-use Rattle.tree_store.specs.Overlay.{Given, folder_at, items_of, items_under, given_at, is_replaced, stands, parts_of, tree_laid}
+use Rattle.tree_store.specs.Overlay.{Given, folder_at, items_of, items_under, given_at, is_replaced, stands, parts_of}
+use Rattle.tree_store.specs.Overlay.{tree_laid}
 use Rattle.tree_store.proofs.Overlays.{IsAway, laid_at, items_in, items_folder, node_away, get-lay}
-use Rattle.tree_store.proofs.Places.{is_at_or_below, or_parts, or_from, below_child, below_length, shorter_away, made_length}
+use Rattle.tree_store.proofs.Places.{is_at_or_below, or_parts, or_from, below_child, below_length, shorter_away}
+use Rattle.tree_store.proofs.Places.{made_length}
 use Rattle.app_slices.specs.Slots.{Slices, Slot, slots, same_slot}
 use Rattle.app_slices.specs.Slices.{folder_part, tree_of, slices_of}
 use Rattle.app_slices.specs.Laying.{LaysAs}
 use Rattle.app_slices.proofs.Parts.{kept, part_folder, folder_entries_fit}
-use Rattle.app_slices.proofs.Sharing.{IsSlotOf, same_itself, SaySame, away_none, away_append, say_first, say_later, folder_elsewhere, SharesItem, SharesGiven, SharesReplaced, Shares, shares_same, part_items, entries_below, node_shares}
+use Rattle.app_slices.proofs.Sharing.{IsSlotOf, same_itself, SaySame, away_none, away_append, say_first, say_later}
+use Rattle.app_slices.proofs.Sharing.{folder_elsewhere, SharesItem, SharesGiven, SharesReplaced, Shares, shares_same}
+use Rattle.app_slices.proofs.Sharing.{part_items, entries_below, node_shares}
 
 -- ---- the slots of slices
 

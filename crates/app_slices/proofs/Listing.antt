@@ -1,5 +1,6 @@
 -- The tree of a slot has the items of the slot and the folders above them.
-use Rattle.std.proofs.Common.{◌≡◌, ◌≢◌, ℕ, suc, ◌∙◌, Bool, true, false, cond, ◌&&◌, ◌||◌, List, [], ◌∷◌, ◌++◌, map, Option, Some, None, is_some, refl, sym, ap, subst, append_assoc, append-nil}
+use Rattle.std.proofs.Common.{◌≡◌, ◌≢◌, ℕ, suc, ◌∙◌, Bool, true, false, cond, ◌&&◌, ◌||◌, List, [], ◌∷◌, ◌++◌, map}
+use Rattle.std.proofs.Common.{Option, Some, None, is_some, refl, sym, ap, subst, append_assoc, append-nil}
 use Rattle.std.specs.Prelude.{IfSome}
 use Rattle.std.specs.List.{filter, flat_map, list_any, starts_with, cons_option, AllByRecursion}
 use Rattle.std.specs.Option.{option_map}
@@ -24,7 +25,8 @@ use Rattle.tree_canon.specs.Names.{is_name, is_below, follows}
 use Rattle.tree_canon.proofs.Nodes.{fits_cons}
 use Rattle.app_slices.specs.Slots.{Slices, Slot, below, slot_in, slot_along, same_slot}
 use Rattle.app_slices.specs.Slices.{folder_part, named, part, tree_of}
-use Rattle.app_slices.specs.Listing.{Listed, Listing, list_step, list_entry_step, listed, listed_entry, is_of, of_slot, listing_of, AreOfSlots}
+use Rattle.app_slices.specs.Listing.{Listed, Listing, list_step, list_entry_step, listed, listed_entry, is_of, of_slot}
+use Rattle.app_slices.specs.Listing.{listing_of, AreOfSlots}
 use Rattle.app_slices.proofs.Parts.{kept, part_folder, part_file, part_link, folder_entries_fit, below_trans}
 
 -- ---- what is listed

@@ -1,5 +1,6 @@
 -- The parts of a node: what they are made of, and that each is a tree.
-use Rattle.std.proofs.Common.{◌≡◌, ℕ, suc, ◌+◌, ◌^◌, ◌≤◌, ◌<◌, ◌∙◌, Bool, true, false, cond, ◌&&◌, List, [], ◌∷◌, map, length, Option, Some, None, refl, sym, ap, subst, arith, length-append}
+use Rattle.std.proofs.Common.{◌≡◌, ℕ, suc, ◌+◌, ◌^◌, ◌≤◌, ◌<◌, ◌∙◌, Bool, true, false, cond, ◌&&◌, List, [], ◌∷◌, map}
+use Rattle.std.proofs.Common.{length, Option, Some, None, refl, sym, ap, subst, arith, length-append}
 use Rattle.std.specs.Prelude.{IfSome, nat_lt, nat_le}
 use Rattle.std.specs.List.{filter_map, cons_option}
 use Rattle.std.specs.Option.{option_map}
@@ -17,11 +18,13 @@ use Rattle.tree_canon.specs.declared.node.Node.TheViews.{roll-Node, roll-Named}
 use Rattle.tree_canon.specs.declared.node.Node.TheFolds.{map-Node, ind-Node, fold-roll-Node, fold_out-Named}
 use Rattle.tree_canon.specs.Fits.{Fitting, fits, entries_fit, name_fits, is_tree}
 use Rattle.tree_canon.specs.Names.{is_name, is_below, follows}
-use Rattle.tree_canon.specs.Spelling.{limit, magic, folder_head, name_bytes, node_bytes, entry_bytes, entries_bytes, spelling_of}
+use Rattle.tree_canon.specs.Spelling.{limit, magic, folder_head, name_bytes, node_bytes, entry_bytes, entries_bytes}
+use Rattle.tree_canon.specs.Spelling.{spelling_of}
 use Rattle.tree_canon.proofs.Equations.{fits_folder, fits_named, node_bytes_folder, entry_bytes_is}
 use Rattle.tree_canon.proofs.Nodes.{fits_cons}
 use Rattle.app_slices.specs.Slots.{Slices, Slot, below, slot_in, same_slot}
-use Rattle.app_slices.specs.Slices.{Part, EntryPart, folder_part, part_step, named, entry_part_step, part, entry_part, entries_part, tree_of}
+use Rattle.app_slices.specs.Slices.{Part, EntryPart, folder_part, part_step, named, entry_part_step, part, entry_part}
+use Rattle.app_slices.specs.Slices.{entries_part, tree_of}
 
 -- ---- what they are made of
 

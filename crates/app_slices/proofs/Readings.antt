@@ -1,11 +1,14 @@
 -- Reading a pattern: what is had so far, and what is left.
-use Rattle.std.proofs.Common.{◌≡◌, ◌≢◌, ℕ, suc, arith, Bool, true, false, ◌++◌, List, [], ◌∷◌, None, Some, refl, sym, ap, ◌∙◌, subst, append_assoc, append-nil, length, ◌==◌}
+use Rattle.std.proofs.Common.{◌≡◌, ◌≢◌, ℕ, suc, arith, Bool, true, false, ◌++◌, List, [], ◌∷◌, None, Some, refl, sym}
+use Rattle.std.proofs.Common.{ap, ◌∙◌, subst, append_assoc, append-nil, length, ◌==◌}
 use Rattle.std.specs.Prelude.{if◌then◌else◌}
 use Rattle.std.proofs.lemmas.Bool.{both_ways, eqb-true, ne_eqb}
 use Rattle.app_slices.specs.declared.item.Range.{Range}
 use Rattle.app_slices.specs.declared.item.Item.{Item}
 use Rattle.app_slices.specs.declared.item.Item.TheVariants.{Star, One, Class, Just}
-use Rattle.app_slices.specs.Spelling.{range_in, AreRanges, IsClass, IsNoClass, is_negated, body_of, Lead, AStar, AOne, AnEscape, AClass, ItSelf, lead_of, IsLed, IsItem, IsNoItem, Spells, IsNoPattern, HasRead, HasRanges}
+use Rattle.app_slices.specs.Spelling.{range_in, AreRanges, IsClass, IsNoClass, is_negated, body_of, Lead, AStar, AOne}
+use Rattle.app_slices.specs.Spelling.{AnEscape, AClass, ItSelf, lead_of, IsLed, IsItem, IsNoItem, Spells, IsNoPattern}
+use Rattle.app_slices.specs.Spelling.{HasRead, HasRanges}
 
 some_same : {A : Type 0} (x y : A) → Some x ≡ Some y → x ≡ y
 some_same x y e = cc

@@ -1,5 +1,7 @@
 -- Matching run by run is matching.
-use Rattle.std.proofs.Common.{◌≡◌, ◌<◌, ◌+◌, ◌⊎◌, ℕ, zero, suc, Bool, true, false, not, ◌&&◌, ◌==◌, ◌++◌, List, [], ◌∷◌, Option, None, Some, refl, sym, ap, ◌∙◌, inl, inr, arith, append_assoc, take, drop, length, slice_get, length-append}
+use Rattle.std.proofs.Common.{◌≡◌, ◌<◌, ◌+◌, ◌⊎◌, ℕ, zero, suc, Bool, true, false, not, ◌&&◌, ◌==◌, ◌++◌, List, [], ◌∷◌}
+use Rattle.std.proofs.Common.{Option, None, Some, refl, sym, ap, ◌∙◌, inl, inr, arith, append_assoc, take, drop, length}
+use Rattle.std.proofs.Common.{slice_get, length-append}
 use Rattle.std.specs.Prelude.{◌||◌, if◌then◌else◌}
 use Rattle.std.specs.List.{list_all}
 use Rattle.std.proofs.lemmas.Bool.{false≢true, and_parts, and_from, eqb-true, eq-eqb, ne_eqb}
@@ -7,7 +9,8 @@ use Rattle.std.proofs.lemmas.List.Folds.{list_all-append}
 use Rattle.app_slices.specs.declared.item.Item.{Item}
 use Rattle.app_slices.specs.declared.item.Item.TheVariants.{Star, One, Class, Just}
 use Rattle.app_slices.specs.Items.{takes, IsOne, Matches}
-use Rattle.app_slices.specs.Matching.{is_star, is_run, behind_run, or_later, behind_first, is_end, ends_with, somewhere, next, matched}
+use Rattle.app_slices.specs.Matching.{is_star, is_run, behind_run, or_later, behind_first, is_end, ends_with, somewhere}
+use Rattle.app_slices.specs.Matching.{next, matched}
 
 -- ---- small facts
 
@@ -48,8 +51,7 @@ one_kind (Class negated ranges) a b ta tb pa = (and_parts _ _ tb).0
 one_kind (Just only) a b ta tb pa = ap (λ c. not (c == 47)) (eqb-true b only tb ∙ sym (eqb-true a only ta)) ∙ pa
 
 -- Where a run stands at the beginning and again behind a part without a slash, what it leaves is a part without a slash
--- and
--- what it leaves behind that.
+-- and what it leaves behind that.
 shift : (run : List Item) (part rest ys zs : List ℕ) → plain part ≡ true → behind_run run (part ++ rest) ≡ Some ys
     → behind_run run rest ≡ Some zs
     → (mid : List ℕ) × (ys ≡ mid ++ zs) × (plain mid ≡ true)
@@ -139,8 +141,7 @@ run_whole (Just only ∷ run) (c ∷ cs) h = and_end (takes (Just only) c) (matc
     (run_whole run cs h)
 
 -- The first place serves: where the run stands there and again later, and what is behind the later place matches, then
--- it does
--- behind the first one, since the star takes what is between.
+-- it does behind the first one, since the star takes what is between.
 first_serves : (run more : List Item) (c : ℕ) (cs ys : List ℕ) → is_run run ≡ true → behind_run run (c ∷ cs) ≡ Some ys
     → (not (c == 47) && somewhere (matched (run ++ Star ∷ more)) cs) ≡ true → somewhere (matched more) ys ≡ true
 first_serves run more c cs ys h at t =

@@ -1,5 +1,7 @@
 -- The parts of a node share what it gives where it is laid, path by path.
-use Rattle.std.proofs.Common.{◌≡◌, ℕ, suc, ◌+◌, ◌<◌, ◌≤◌, ◌∙◌, Bool, true, false, cond, not, ◌&&◌, ◌||◌, List, [], ◌∷◌, ◌++◌, map, length, Option, Some, None, refl, sym, ap, subst, arith, ◌⊎◌, inl, inr, nat_eq, ◌≢◌}
+use Rattle.std.proofs.Common.{◌≡◌, ℕ, suc, ◌+◌, ◌<◌, ◌≤◌, ◌∙◌, Bool, true, false, cond, not, ◌&&◌, ◌||◌, List, [], ◌∷◌}
+use Rattle.std.proofs.Common.{◌++◌, map, length, Option, Some, None, refl, sym, ap, subst, arith, ◌⊎◌, inl, inr, nat_eq}
+use Rattle.std.proofs.Common.{◌≢◌}
 use Rattle.std.specs.List.{starts_with, cons_option}
 use Rattle.std.specs.Option.{option_or, option_map}
 use Rattle.std.specs.Str.{bytes_eq}
@@ -24,7 +26,8 @@ use Rattle.tree_canon.specs.Names.{is_name, is_below, follows}
 use Rattle.tree_canon.proofs.Nodes.{fits_cons}
 use Rattle.tree_store.specs.Overlay.{Given, folder_at, items_of, items_of_entry, given_at, is_replaced}
 use Rattle.tree_store.proofs.Overlays.{IsAway, items_in, items_folder, items_file, items_link, items_entry, node_away}
-use Rattle.tree_store.proofs.Places.{is_at_or_below, below_length, longer_child, shorter_away, name_form, name_in, named as name_is}
+use Rattle.tree_store.proofs.Places.{is_at_or_below, below_length, longer_child, shorter_away, name_form, name_in}
+use Rattle.tree_store.proofs.Places.{named as name_is}
 use Rattle.app_slices.specs.Slots.{Slices, Slot, below, earlier, first_taking, slot_in, same_slot}
 use Rattle.app_slices.specs.Slices.{folder_part, named, part}
 use Rattle.app_slices.proofs.Slots.{taking_within}

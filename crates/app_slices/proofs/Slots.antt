@@ -1,5 +1,7 @@
 -- The slot of a path, found along the way.
-use Rattle.std.proofs.Common.{◌≡◌, ℕ, zero, suc, ◌+◌, ◌<◌, ◌≤◌, Bool, true, false, cond, ◌||◌, List, [], ◌∷◌, ◌++◌, Option, Some, None, refl, sym, ap, subst, ◌∙◌, arith, length, min, chars, append-nil, append_assoc}
+use Rattle.std.proofs.Common.{◌≡◌, ℕ, zero, suc, ◌+◌, ◌<◌, ◌≤◌, Bool, true, false, cond, ◌||◌, List, [], ◌∷◌, ◌++◌}
+use Rattle.std.proofs.Common.{Option, Some, None, refl, sym, ap, subst, ◌∙◌, arith, length, min, chars, append-nil}
+use Rattle.std.proofs.Common.{append_assoc}
 use Rattle.std.specs.Prelude.{ltb}
 use Rattle.std.specs.List.{list_any, slice_get, position, position_from}
 use Rattle.std.proofs.lemmas.List.Folds.{Any-from_list_any, list_any-from_Any, list_any-append}
@@ -7,7 +9,8 @@ use Rattle.std.proofs.lemmas.Iterator.Adapters.{position_from-zero}
 use Rattle.std.proofs.lemmas.Bool.{ltb-true, ltb-false}
 use Rattle.app_slices.specs.declared.item.Item.{Item}
 use Rattle.app_slices.specs.Matching.{matched}
-use Rattle.app_slices.specs.Slots.{Slices, Slot, MatchesSome, IsTakenBy, IsSlot, takes_path, first_taking, earlier, slot_in, slot_along, SlotsAlong}
+use Rattle.app_slices.specs.Slots.{Slices, Slot, MatchesSome, IsTakenBy, IsSlot, takes_path, first_taking, earlier}
+use Rattle.app_slices.specs.Slots.{slot_in, slot_along, SlotsAlong}
 use Rattle.app_slices.proofs.Runs.{matched_is, is_matched}
 
 same_some : {X : Type 0} (x y : X) → Some x ≡ Some y → x ≡ y

@@ -1,5 +1,6 @@
 -- What a Build Plan is read as: at least one alternative, and kept metadata.
-use Rattle.std.proofs.Common.{◌≡◌, ℕ, ◌+◌, ◌<◌, Bool, true, false, cond, List, [], ◌∷◌, length, Option, Some, None, Result, Ok, Err, refl, sym, subst, arith}
+use Rattle.std.proofs.Common.{◌≡◌, ℕ, ◌+◌, ◌<◌, Bool, true, false, cond, List, [], ◌∷◌, length, Option, Some, None}
+use Rattle.std.proofs.Common.{Result, Ok, Err, refl, sym, subst, arith}
 use Rattle.std.specs.Prelude.{codes, nat_lt, IfOk}
 use Rattle.std.specs.Fmt.{decimal}
 use Rattle.std.specs.List.{list_all}
@@ -15,7 +16,8 @@ use Rattle.cnb_toml.specs.Meta.{metadata_in, is_kept}
 use Rattle.cnb_toml.specs.Reading.{◌>>=◌, Answers, under}
 use Rattle.cnb_toml.proofs.Kept.{metadata_kept}
 use Rattle.bp_docs.specs.declared.build_plan.PlanOption.{PlanOption}
-use Rattle.bp_docs.specs.BuildPlan.{most_bytes, provided_in, required_in, option_in, options_in, plan_within_limit, build_plan_in}
+use Rattle.bp_docs.specs.BuildPlan.{most_bytes, provided_in, required_in, option_in, options_in, plan_within_limit}
+use Rattle.bp_docs.specs.BuildPlan.{build_plan_in}
 
 -- ---- what a step that answered came from
 

@@ -4,7 +4,8 @@ ghost use Rattle.std.specs.List.{list_all};
 ghost use Rattle.toml.specs.View.{table_view};
 ghost use Rattle.cnb_toml.specs.Meta.{is_kept};
 ghost use Rattle.cnb_toml.specs.Reading.{Answers};
-ghost use Rattle.bp_docs.specs.BuildPlan.{provided_in, required_in, option_in, options_in, plan_within_limit, build_plan_in};
+ghost use Rattle.bp_docs.specs.BuildPlan.{provided_in, required_in, option_in, options_in, plan_within_limit};
+ghost use Rattle.bp_docs.specs.BuildPlan.{build_plan_in};
 
 use cnb_toml::{Doc, DocFault, Need, TableForm, TableOf, list_at, metadata_at, required_at};
 use cnb_world::{LONGEST_DOCUMENT, List, Memory, Text};

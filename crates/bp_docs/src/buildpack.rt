@@ -2,7 +2,8 @@
 ghost use Rattle.std.specs.Prelude.{◌≡◌};
 ghost use Rattle.toml.specs.View.{table_view};
 ghost use Rattle.cnb_toml.specs.Reading.{Answers};
-ghost use Rattle.bp_docs.specs.Descriptor.{head_in, body_of, known_in, foreign_in, described_by, descriptor_at, descriptor_in};
+ghost use Rattle.bp_docs.specs.Descriptor.{head_in, body_of, known_in, foreign_in, described_by, descriptor_at};
+ghost use Rattle.bp_docs.specs.Descriptor.{descriptor_in};
 
 use crate::descriptor::{Body, Descriptor, Head, Order};
 use crate::order::order_at;

@@ -4,7 +4,8 @@ ghost use Rattle.std.specs.List.{list_any};
 ghost use Rattle.std.specs.Option.{option_copied};
 ghost use Rattle.toml.specs.View.{table_view};
 ghost use Rattle.cnb_toml.specs.Reading.{Answers};
-ghost use Rattle.bp_docs.specs.Targets.{text_or_none, optional_text_of, rule_in, targets_at, is_wanted, rule_fits, fits};
+ghost use Rattle.bp_docs.specs.Targets.{text_or_none, optional_text_of, rule_in, targets_at, is_wanted, rule_fits};
+ghost use Rattle.bp_docs.specs.Targets.{fits};
 
 use crate::descriptor::TargetRule;
 use cnb_toml::{DocFault, Form, TableForm, TableOf, Target, list_at, value_or};

@@ -6,7 +6,8 @@ use Rattle.cnb_world.specs.declared.env.Variable.{Variable}
 use Rattle.run_docs.specs.declared.group.GroupRow.{GroupRow}
 use Rattle.run_docs.specs.declared.plan.PlanEntry.{PlanEntry}
 use Rattle.steps.specs.Counts.{AllCounts}
-use Rattle.steps.proofs.EndLaws.{Obeys, all_link, all_rest, files_among, makes_folder_counts, reads_counts, runs_child_counts, writes_counts}
+use Rattle.steps.proofs.EndLaws.{Obeys, all_link, all_rest, files_among, makes_folder_counts, reads_counts}
+use Rattle.steps.proofs.EndLaws.{runs_child_counts, writes_counts}
 use Rattle.cnb_build.specs.declared.frame.BuildFrame.{BuildFrame}
 use Rattle.cnb_build.specs.Builds.{builds}
 use Rattle.cnb_build.specs.Command.{commands_build}

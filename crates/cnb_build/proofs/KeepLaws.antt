@@ -7,7 +7,8 @@ use Rattle.run_docs.specs.declared.plan.PlanEntry.{PlanEntry}
 use Rattle.steps.specs.Frames.{Keeps, folder_paths, is_free, touched}
 use Rattle.steps.specs.Outside.{Seen}
 use Rattle.steps.proofs.EndLaws.{Rests}
-use Rattle.steps.proofs.FrameLaws.{Preserves, keeps_makes_folder, keeps_reads, keeps_runs_child, keeps_same, keeps_then, keeps_writes}
+use Rattle.steps.proofs.FrameLaws.{Preserves, keeps_makes_folder, keeps_reads, keeps_runs_child, keeps_same, keeps_then}
+use Rattle.steps.proofs.FrameLaws.{keeps_writes}
 use Rattle.cnb_build.specs.declared.fault.BuildFault.{BuildFault}
 use Rattle.cnb_build.specs.declared.frame.BuildFrame.{BuildFrame}
 use Rattle.cnb_build.specs.Builds.{builds}

@@ -23,7 +23,8 @@ use Rattle.cnb_build.specs.declared.fault.BuildFault.{BuildFault}
 use Rattle.cnb_build.specs.declared.frame.BuildFrame.{BuildFrame}
 use Rattle.cnb_build.specs.declared.frame.Built.{Built}
 use Rattle.cnb_build.specs.declared.places.Places.{Places}
-use Rattle.cnb_build.specs.Builds.{builds, builds_at, builds_one, closes, ends_build, nothing_built, prepares, reads_left, runs_build}
+use Rattle.cnb_build.specs.Builds.{builds, builds_at, builds_one, closes, ends_build, nothing_built, prepares}
+use Rattle.cnb_build.specs.Builds.{reads_left, runs_build}
 use Rattle.cnb_build.specs.Command.{commands_build}
 use Rattle.cnb_build.specs.Descriptor.{reads_descriptor}
 use Rattle.cnb_build.specs.Given.{reads_given, reads_needed}

@@ -1,5 +1,6 @@
 -- What follows from the steps of builds: which children ran, and what each left.
-use Rattle.std.proofs.Common.{◌≡◌, ◌∙◌, refl, sym, ap, subst, ℕ, Bool, true, false, cond, List, [], ◌∷◌, ◌++◌, append-nil, append_assoc, suc, Option, Some, None, Result, Ok, Err, inl, inr, ◌⊎◌}
+use Rattle.std.proofs.Common.{◌≡◌, ◌∙◌, refl, sym, ap, subst, ℕ, Bool, true, false, cond, List, [], ◌∷◌, ◌++◌}
+use Rattle.std.proofs.Common.{append-nil, append_assoc, suc, Option, Some, None, Result, Ok, Err, inl, inr, ◌⊎◌}
 use Rattle.std.specs.Prelude.{IfSome, unwrap_or}
 use Rattle.std.specs.Option.{option_map}
 use Rattle.cnb_world.specs.Runs.{Run, is_code}
@@ -31,13 +32,15 @@ use Rattle.cnb_build.specs.declared.fault.BuildFault.{BuildFault}
 use Rattle.cnb_build.specs.declared.frame.BuildFrame.{BuildFrame}
 use Rattle.cnb_build.specs.declared.frame.Built.{Built}
 use Rattle.cnb_build.specs.declared.places.Places.{Places}
-use Rattle.cnb_build.specs.Builds.{builds, builds_at, builds_one, closes, ends_build, nothing_built, prepares, reads_left, runs_build, with_layers}
+use Rattle.cnb_build.specs.Builds.{builds, builds_at, builds_one, closes, ends_build, nothing_built, prepares}
+use Rattle.cnb_build.specs.Builds.{reads_left, runs_build, with_layers}
 use Rattle.cnb_build.specs.Descriptor.{clears_in, reads_descriptor}
 use Rattle.cnb_build.specs.Job.{build_job, files_for}
 use Rattle.layer_paths.specs.Names.{layers_among}
 use Rattle.layer_paths.specs.Paths.{layer_document}
 use Rattle.cnb_build.specs.Layers.{found_with, names_if, reads_layer, reads_layers, reads_names}
-use Rattle.cnb_build.specs.Outcome.{AreRunsOf, IsRunOf, RanAll, RunsBuilds, built_at, clears_at, found_at, layer_at, layers_at, layers_behind, left_at, left_by, names_unless, pending_at, read_as}
+use Rattle.cnb_build.specs.Outcome.{AreRunsOf, IsRunOf, RanAll, RunsBuilds, built_at, clears_at, found_at, layer_at}
+use Rattle.cnb_build.specs.Outcome.{layers_at, layers_behind, left_at, left_by, names_unless, pending_at, read_as}
 use Rattle.cnb_build.specs.Places.{places_of}
 use Rattle.cnb_build.specs.Plan.{pending_after, plan_for}
 use Rattle.cnb_build.specs.Reading.{reads_as, reads_document, value_at}

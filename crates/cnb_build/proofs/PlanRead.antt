@@ -1,5 +1,6 @@
 -- A plan that was read can be written, and so can what is taken from it.
-use Rattle.std.proofs.Common.{◌≡◌, ◌∙◌, refl, sym, ap, subst, ℕ, ◌+◌, Bool, true, false, cond, ◌&&◌, List, [], ◌∷◌, ◌++◌, codes, Option, Some, None, Result, Ok, Err}
+use Rattle.std.proofs.Common.{◌≡◌, ◌∙◌, refl, sym, ap, subst, ℕ, ◌+◌, Bool, true, false, cond, ◌&&◌, List, [], ◌∷◌}
+use Rattle.std.proofs.Common.{◌++◌, codes, Option, Some, None, Result, Ok, Err}
 use Rattle.std.specs.Prelude.{IfOk}
 use Rattle.std.specs.Fmt.{decimal}
 use Rattle.std.specs.List.{list_all}
@@ -22,7 +23,8 @@ use Rattle.cnb_toml.specs.Reading.{◌>>=◌, Answers, under}
 use Rattle.cnb_toml.specs.Rows.{rows_in, rows_of}
 use Rattle.cnb_toml.proofs.Kept.{metadata_kept}
 use Rattle.bp_docs.proofs.BuildPlans.{and_then_ok, ok_is, tables_all, under_was}
-use Rattle.run_docs.specs.Plan.{entries_in, entry_in, entry_of, first_name, is_entry, is_need_of, is_plan_doc, need_in, plan_in, same_name}
+use Rattle.run_docs.specs.Plan.{entries_in, entry_in, entry_of, first_name, is_entry, is_need_of, is_plan_doc, need_in}
+use Rattle.run_docs.specs.Plan.{plan_in, same_name}
 use Rattle.run_docs.specs.declared.plan.PlanEntry.{PlanEntry}
 use Rattle.steps.specs.Causes.{IsAnswer}
 use Rattle.cnb_build.specs.declared.fault.BuildFault.{BuildFault}

@@ -1,5 +1,6 @@
 -- What builds come to: which children ran, what each found, and what each left for those behind it.
-use Rattle.std.specs.Prelude.{ℕ, ◌≡◌, ◌&&◌, ◌++◌, true, false, Bool, List, [], ◌∷◌, length, Option, Result, Ok, Err, IfSome, unwrap_or}
+use Rattle.std.specs.Prelude.{ℕ, ◌≡◌, ◌&&◌, ◌++◌, true, false, Bool, List, [], ◌∷◌, length, Option, Result, Ok, Err}
+use Rattle.std.specs.Prelude.{IfSome, unwrap_or}
 use Rattle.std.specs.Option.{option_map}
 use Rattle.cnb_world.specs.Runs.{Run, is_code}
 use Rattle.cnb_world.specs.Tree.{Tree, folder_made, item_at, kind_of}
@@ -86,8 +87,7 @@ built_at row places built files = pending_at row places built.pending files
 -- ---- children
 
 -- A child of the build of a buildpack, behind others. It found what stood before the build, with the folder of its
--- layers
--- made and its plan written; its environment is made of what it found.
+-- layers made and its plan written; its environment is made of what it found.
 pub record IsRunOf (frame : BuildFrame) (base : List Variable) (row : GroupRow) (places : Places) (built : Built)
     (before : Option Tree) (run : Run) : Type 0 where
   pub clear_env : Bool
@@ -101,8 +101,7 @@ pub record IsRunOf (frame : BuildFrame) (base : List Variable) (row : GroupRow) 
   pub job : run.job ≡ build_job frame places env
 
 -- The children of builds, one for each of the first buildpacks in order. Each but the last ended with 0, and what it
--- left says
--- what is pending, and which layers there are, for those behind it.
+-- left says what is pending, and which layers there are, for those behind it.
 abbrev pub AreRunsOf : BuildFrame → List Variable → List GroupRow → Built → Option Tree → List Run → Type 0
 AreRunsOf frame base rows built before [] = Unit {0}
 AreRunsOf frame base [] built before (run ∷ runs) = ⊥

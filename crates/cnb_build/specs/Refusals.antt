@@ -5,7 +5,8 @@ use Rattle.doc_files.specs.declared.fault.ReadFault.{ReadFault}
 use Rattle.doc_files.specs.declared.fault.ReadFault.TheVariants as read
 use Rattle.steps.specs.Causes.{Cause, FileFailed, ChildFailed, OutOfMemory, Decided}
 use Rattle.cnb_build.specs.declared.fault.BuildFault.{BuildFault}
-use Rattle.cnb_build.specs.declared.fault.BuildFault.TheVariants.{BuildFailed, UnknownUnmet, Api, Document, Limit, Child, File, Memory}
+use Rattle.cnb_build.specs.declared.fault.BuildFault.TheVariants.{BuildFailed, UnknownUnmet, Api, Document, Limit}
+use Rattle.cnb_build.specs.declared.fault.BuildFault.TheVariants.{Child, File, Memory}
 
 abbrev pub cause_of : BuildFault → Cause
 cause_of (BuildFailed id code) = Decided

@@ -1,5 +1,6 @@
 -- The keys of a group that was chosen and written are of their form.
-use Rattle.std.proofs.Common.{◌≡◌, refl, sym, ap, subst, ℕ, Bool, true, false, not, ◌&&◌, List, [], codes, Result, Ok, Err}
+use Rattle.std.proofs.Common.{◌≡◌, refl, sym, ap, subst, ℕ, Bool, true, false, not, ◌&&◌, List, [], codes, Result, Ok}
+use Rattle.std.proofs.Common.{Err}
 use Rattle.std.specs.Prelude.{if◌then◌else◌}
 use Rattle.std.specs.List.{list_all}
 use Rattle.std.specs.Str.{bytes_eq}
@@ -17,7 +18,8 @@ use Rattle.cnb_toml.specs.Reading.{◌>>=◌}
 use Rattle.cnb_toml.specs.Rows.{rows_of}
 use Rattle.cnb_words.specs.declared.choice.ChoiceWords.{ChoiceWords}
 use Rattle.cnb_world.specs.declared.env.Variable.{Variable}
-use Rattle.image_docs.proofs.Answered.{Holds, all_distinct, at_or, at_required, follows, holds_of, in_document, in_name, in_rows}
+use Rattle.image_docs.proofs.Answered.{Holds, all_distinct, at_or, at_required, follows, holds_of, in_document, in_name}
+use Rattle.image_docs.proofs.Answered.{in_rows}
 use Rattle.run_docs.specs.Group as group_doc
 use Rattle.run_docs.specs.Group.{group_in, is_group_doc, is_listed, is_row, row_id}
 use Rattle.run_docs.specs.declared.group.GroupRow.{GroupRow}

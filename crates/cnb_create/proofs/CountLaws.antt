@@ -23,11 +23,14 @@ use Rattle.steps.specs.Causes.{Cause}
 use Rattle.steps.specs.Counts.{AllCounts, FileCounts}
 use Rattle.steps.specs.EitherCounts.{OutsideCounts}
 use Rattle.steps.specs.Outside.{Outside, Seen}
-use Rattle.steps.proofs.EndLaws.{Links, Obeys, Relation, Rests, all_link, all_of_files, all_rest, files_among, files_link, files_rest, obeys_bind, obeys_gives, obeys_told, obeys_yields, reads_counts, writes_counts}
+use Rattle.steps.proofs.EndLaws.{Links, Obeys, Relation, Rests, all_link, all_of_files, all_rest, files_among}
+use Rattle.steps.proofs.EndLaws.{files_link, files_rest, obeys_bind, obeys_gives, obeys_told, obeys_yields}
+use Rattle.steps.proofs.EndLaws.{reads_counts, writes_counts}
 use Rattle.steps.proofs.OutsideLaws.{obeys_over_world, outside_link, outside_rest, world_counts}
 use Rattle.cnb_create.specs.Creates.{builds_group, chooses_group, creates, exports_image, leaves_image, looks_at_images}
 use Rattle.cnb_create.specs.Refusals.{cause_of}
-use Rattle.cnb_create.specs.Surroundings.{Surroundings, caches_beside, outside_of, over_caches, over_outside, over_world}
+use Rattle.cnb_create.specs.Surroundings.{Surroundings, caches_beside, outside_of, over_caches, over_outside}
+use Rattle.cnb_create.specs.Surroundings.{over_world}
 use Rattle.cnb_create.specs.declared.phases.Phases.{Phases}
 use Rattle.cnb_create.specs.declared.refusal.CreateRefusal.TheVariants.{Detect, Restore, Build, Export}
 

@@ -1,5 +1,7 @@
 -- What `create` leaves alone where it is refused: the image's document.
-use Rattle.std.proofs.Common.{◌≡◌, ◌∙◌, refl, sym, ap, subst, ℕ, ◌<◌, Bool, true, false, not, cond, List, [], ◌∷◌, ◌++◌, length, length-append, codes, drop, take, append_assoc, arith, Option, Some, Result, Ok, Err, inl, inr}
+use Rattle.std.proofs.Common.{◌≡◌, ◌∙◌, refl, sym, ap, subst, ℕ, ◌<◌, Bool, true, false, not, cond, List, [], ◌∷◌, ◌++◌}
+use Rattle.std.proofs.Common.{length, length-append, codes, drop, take, append_assoc, arith, Option, Some, Result, Ok}
+use Rattle.std.proofs.Common.{Err, inl, inr}
 use Rattle.std.specs.Prelude.{◌||◌, IsTrue, OnErr}
 use Rattle.std.specs.FinMap.{get, insert}
 use Rattle.std.specs.List.{list_all}
@@ -48,9 +50,11 @@ use Rattle.steps.specs.Causes.{Cause}
 use Rattle.steps.specs.Frames.{Keeps, is_free, standing, touched}
 use Rattle.steps.specs.Outside.{Seen}
 use Rattle.steps.specs.Steps.{LeavesSome, ◌>>=◌, gives, map_err, writes, yields}
-use Rattle.steps.proofs.FrameLaws.{Preserves, keeps_bind, keeps_gives, keeps_reads, keeps_same, keeps_told, keeps_writes, keeps_yields, step_at}
+use Rattle.steps.proofs.FrameLaws.{Preserves, keeps_bind, keeps_gives, keeps_reads, keeps_same, keeps_told}
+use Rattle.steps.proofs.FrameLaws.{keeps_writes, keeps_yields, step_at}
 use Rattle.cnb_create.specs.Apart.{are_apart, are_folders_apart, image_document, is_document_apart, is_image_apart}
-use Rattle.cnb_create.specs.Creates.{build_frame, builds_group, chooses_group, creates, export_frame, exports_image, leaves_image, looks_at_images, phases_of, previous_name}
+use Rattle.cnb_create.specs.Creates.{build_frame, builds_group, chooses_group, creates, export_frame, exports_image}
+use Rattle.cnb_create.specs.Creates.{leaves_image, looks_at_images, phases_of, previous_name}
 use Rattle.cnb_create.specs.Report.{created_text}
 use Rattle.cnb_create.specs.Refusals.{cause_of}
 use Rattle.cnb_create.specs.Surroundings.{Surroundings, over_outside}
@@ -60,7 +64,10 @@ use Rattle.cnb_create.specs.declared.refusal.CreateRefusal.TheVariants.{Build, D
 use Rattle.cnb_create.proofs.ApartLemmas.{folder_not_root, free_document, free_folder, inside_joined, unless_within}
 use Rattle.cnb_create.proofs.ChoiceLaws.{chosen_keyed}
 use Rattle.cnb_create.proofs.ExportLaws.{keeps_exports}
-use Rattle.cnb_create.proofs.KeepLemmas.{KeepsIn, KeepsRefused, all_over_caches, all_over_outside, all_over_world, all_world, at_get, cached_world, in_bind, in_gives, in_told, in_yields, refused_bind, refused_over_caches, refused_where, spawners_in_spawners, spawners_in_world, spawners_world}
+use Rattle.cnb_create.proofs.KeepLemmas.{KeepsIn, KeepsRefused, all_over_caches, all_over_outside, all_over_world}
+use Rattle.cnb_create.proofs.KeepLemmas.{all_world, at_get, cached_world, in_bind, in_gives, in_told, in_yields}
+use Rattle.cnb_create.proofs.KeepLemmas.{refused_bind, refused_over_caches, refused_where, spawners_in_spawners}
+use Rattle.cnb_create.proofs.KeepLemmas.{spawners_in_world, spawners_world}
 use Rattle.cnb_create.proofs.RestoreLaws.{keeps_restores}
 use Rattle.cnb_create.proofs.WorkLemmas.{document_apart, free_in_work, free_plan, no_document_root, no_root_behind}
 

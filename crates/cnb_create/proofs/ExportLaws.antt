@@ -17,26 +17,31 @@ use Rattle.layer_flags.specs.declared.flags.Flags.{Flags}
 use Rattle.cnb_env.specs.Files.{is_absent}
 use Rattle.steps.specs.Outside.{Seen}
 use Rattle.steps.specs.Frames.{standing}
-use Rattle.steps.proofs.FrameLaws.{Preserves, keeps_bind, keeps_gives, keeps_reads, keeps_same, keeps_told, keeps_yields}
+use Rattle.steps.proofs.FrameLaws.{Preserves, keeps_bind, keeps_gives, keeps_reads, keeps_same, keeps_told}
+use Rattle.steps.proofs.FrameLaws.{keeps_yields}
 use Rattle.tree_canon.specs.declared.node.Node.{Node}
 use Rattle.tree_store.specs.Steps.{looks_for_tree}
 use Rattle.tree_store.specs.Writing.{trees_of}
 use Rattle.cnb_create.specs.Apart.{are_apart}
-use Rattle.cnb_layers.specs.Buildpack.{exports_buildpack, exports_documents, exports_layers, exports_store_document, one_default, reads_launch, reads_store_document}
+use Rattle.cnb_layers.specs.Buildpack.{exports_buildpack, exports_documents, exports_layers, exports_store_document}
+use Rattle.cnb_layers.specs.Buildpack.{one_default, reads_launch, reads_store_document}
 use Rattle.cnb_export.specs.Exports.{exports, gains}
 use Rattle.cnb_layers.specs.Gathering.{exports_layer, keeps_found, keeps_layer, keeps_documented, nothing_gathered}
 use Rattle.cnb_export.specs.Images.{reads_layers, reads_previous}
-use Rattle.cnb_layers.specs.Layer.{finds_contents, flags_of, keeps_tree, looks_for_contents, puts_contents, reads_layer, takes_contents, takes_there, takes_whole, there_by}
+use Rattle.cnb_layers.specs.Layer.{finds_contents, flags_of, keeps_tree, looks_for_contents, puts_contents, reads_layer}
+use Rattle.cnb_layers.specs.Layer.{takes_contents, takes_there, takes_whole, there_by}
 use Rattle.layer_paths.specs.Names.{layers_among}
 use Rattle.cnb_layers.specs.Names.{lists_unless, reads_layer_names, reads_names}
 use Rattle.cnb_layers.specs.Patterns.{adds_pattern, adds_slice, reads_pattern, reads_slices}
 use Rattle.cnb_layers.specs.Reading.{reads_as, reads_some}
 use Rattle.cnb_layers.specs.Refusals.{cause_of, of_image_fault}
 use Rattle.cnb_layers.specs.Settling.{checks_reused, decision_of, looks_for_stored, reuses, row_of, settles_by}
-use Rattle.cnb_export.specs.Trees.{cuts_app, puts_app, puts_links, puts_part, puts_parts, puts_process, puts_trees, puts_whole}
+use Rattle.cnb_export.specs.Trees.{cuts_app, puts_app, puts_links, puts_part, puts_parts, puts_process, puts_trees}
+use Rattle.cnb_export.specs.Trees.{puts_whole}
 use Rattle.cnb_layers.specs.declared.frame.ExportFrame.{ExportFrame}
 use Rattle.cnb_layers.specs.declared.fault.ExportFault.TheVariants.{Store}
-use Rattle.cnb_create.proofs.KeepLemmas.{KeepsIn, cached_in_caches, cached_in_world, cached_world, in_bind, in_each, in_yields, keeps_puts, keeps_reads_tree}
+use Rattle.cnb_create.proofs.KeepLemmas.{KeepsIn, cached_in_caches, cached_in_world, cached_world, in_bind, in_each}
+use Rattle.cnb_create.proofs.KeepLemmas.{in_yields, keeps_puts, keeps_reads_tree}
 use Rattle.cnb_create.proofs.PutLemmas.{free_of_trees, keeps_puts_folder}
 
 -- the same of steps that begin with a value, or with two

@@ -1,5 +1,6 @@
 -- From the steps of `create` to its headline.
-use Rattle.std.proofs.Common.{◌≡◌, ◌∙◌, ◌++◌, refl, sym, ap, subst, ℕ, true, map, List, Option, Some, None, Result, Ok, Err, inl, inr}
+use Rattle.std.proofs.Common.{◌≡◌, ◌∙◌, ◌++◌, refl, sym, ap, subst, ℕ, true, map, List, Option, Some, None, Result, Ok}
+use Rattle.std.proofs.Common.{Err, inl, inr}
 use Rattle.std.specs.Prelude.{IfSome}
 use Rattle.cnb_build.specs.Builds.{nothing_built}
 use Rattle.cnb_build.specs.Outcome.{AreRunsOf, RunsBuilds, left_by}
@@ -45,9 +46,11 @@ use Rattle.steps.specs.Outside.{Outside, Seen}
 use Rattle.steps.specs.Results.{and_then}
 use Rattle.steps.specs.Steps.{◌>>=◌, gives, in_spawners, in_world, map_err, reads, yields}
 use Rattle.steps.proofs.StepLemmas.{given}
-use Rattle.cnb_create.specs.Creates.{build_frame, builds_group, chooses_group, creates, export_frame, exports_image, leaves_image}
+use Rattle.cnb_create.specs.Creates.{build_frame, builds_group, chooses_group, creates, export_frame, exports_image}
+use Rattle.cnb_create.specs.Creates.{leaves_image}
 use Rattle.cnb_create.specs.Headline.{ChoosesNone, ComesToImage, MakesImage}
-use Rattle.cnb_create.specs.Surroundings.{Surroundings, caches_beside, outside_of, over_caches, over_outside, over_world}
+use Rattle.cnb_create.specs.Surroundings.{Surroundings, caches_beside, outside_of, over_caches, over_outside}
+use Rattle.cnb_create.specs.Surroundings.{over_world}
 use Rattle.cnb_create.specs.declared.refusal.CreateRefusal.{CreateRefusal}
 use Rattle.cnb_create.specs.declared.refusal.CreateRefusal.TheVariants.{Build, Detect, Export, Memory, Restore}
 

@@ -1,5 +1,6 @@
 -- What putting trees into a store leaves alone: each path that is apart from the folder of the trees' files.
-use Rattle.std.proofs.Common.{◌≡◌, ◌∙◌, refl, ap, ℕ, ◌<◌, Bool, true, false, not, cond, ◌||◌, List, ◌∷◌, length, codes, arith, Option, Some, None, Result, Ok, Err}
+use Rattle.std.proofs.Common.{◌≡◌, ◌∙◌, refl, ap, ℕ, ◌<◌, Bool, true, false, not, cond, ◌||◌, List, ◌∷◌, length, codes}
+use Rattle.std.proofs.Common.{arith, Option, Some, None, Result, Ok, Err}
 use Rattle.std.specs.FinMap.{get, remove}
 use Rattle.std.specs.List.{list_any}
 use Rattle.std.specs.Str.{bytes_eq}
@@ -18,7 +19,8 @@ use Rattle.tree_store.specs.Store.{tree_path}
 use Rattle.tree_store.specs.Writing.{named_or_left, new_path, trees_of}
 use Rattle.tree_store.specs.declared.fault.StoreFault.{StoreFault}
 use Rattle.cnb_create.specs.Apart.{are_apart}
-use Rattle.cnb_create.proofs.ApartLemmas.{Inside, folder_not_root, free_document, free_itself, inside_joined, not_above, not_within}
+use Rattle.cnb_create.proofs.ApartLemmas.{Inside, folder_not_root, free_document, free_itself, inside_joined, not_above}
+use Rattle.cnb_create.proofs.ApartLemmas.{not_within}
 use Rattle.cnb_create.proofs.KeepLemmas.{at_get, kept_around}
 
 not_first : (a b : Bool) → not (a || b) ≡ true → a ≡ false

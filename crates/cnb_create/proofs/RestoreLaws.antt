@@ -7,7 +7,8 @@ use Rattle.layer_flags.specs.declared.restore.RestoreRow.TheVariants as part
 use Rattle.run_docs.specs.declared.group.GroupRow.{GroupRow}
 use Rattle.shelf_set.specs.declared.finding.Found.{Found}
 use Rattle.shelf_set.specs.declared.finding.Found.TheVariants as found
-use Rattle.steps.proofs.FrameLaws.{Preserves, keeps_bind, keeps_makes_folder, keeps_reads, keeps_told, keeps_writes, keeps_yields}
+use Rattle.steps.proofs.FrameLaws.{Preserves, keeps_bind, keeps_makes_folder, keeps_reads, keeps_told, keeps_writes}
+use Rattle.steps.proofs.FrameLaws.{keeps_yields}
 use Rattle.steps.specs.Steps.{writes}
 use Rattle.tree_canon.specs.declared.node.Node.{Node}
 use Rattle.cnb_world.specs.Path.{joined}
@@ -16,13 +17,17 @@ use Rattle.cnb_restore.specs.Layers.{lays_contents, writes_layer, writes_store}
 use Rattle.cnb_restore.specs.Images.{kept_for, store_of}
 use Rattle.layer_paths.specs.Paths.{layers_folder}
 use Rattle.cnb_restore.specs.Restored.{after_search, gathered_first, with_layer}
-use Rattle.cnb_restore.specs.Restores.{listed, prepares_folder, restores, restores_buildpack, restores_contents, restores_document, restores_each, restores_found, restores_group, restores_laid, restores_layer, restores_layers, restores_part, restores_rows}
+use Rattle.cnb_restore.specs.Restores.{listed, prepares_folder, restores, restores_buildpack, restores_contents}
+use Rattle.cnb_restore.specs.Restores.{restores_document, restores_each, restores_found, restores_group, restores_laid}
+use Rattle.cnb_restore.specs.Restores.{restores_layer, restores_layers, restores_part, restores_rows}
 use Rattle.cnb_restore.specs.Rows.{layer_names}
 use Rattle.cnb_restore.specs.declared.restored.Restored.{Restored}
 use Rattle.cnb_restore.specs.declared.sources.Sources.{Sources}
 use Rattle.cnb_create.specs.Apart.{are_apart}
-use Rattle.cnb_create.proofs.ApartLemmas.{Inside, folder_not_root, free_document, free_folder, inside_deeper, inside_joined, not_above, not_within}
-use Rattle.cnb_create.proofs.KeepLemmas.{KeepsIn, cached_in_caches, cached_in_world, cached_world, in_bind, in_each, in_gives, in_yields, keeps_lays, keeps_removes}
+use Rattle.cnb_create.proofs.ApartLemmas.{Inside, folder_not_root, free_document, free_folder, inside_deeper}
+use Rattle.cnb_create.proofs.ApartLemmas.{inside_joined, not_above, not_within}
+use Rattle.cnb_create.proofs.KeepLemmas.{KeepsIn, cached_in_caches, cached_in_world, cached_world, in_bind, in_each}
+use Rattle.cnb_create.proofs.KeepLemmas.{in_gives, in_yields, keeps_lays, keeps_removes}
 
 module _ (layers path : List ℕ) (apart : are_apart layers path ≡ true) (long : 0 < length layers) where
   writes_inside : (folder name : List ℕ) (Says : List ℕ → Type 0) → Inside layers folder

@@ -1,8 +1,9 @@
 -- What stands one or two names below the work folder is no image's document and lies below none, if the work folder
--- isn't the
--- image's store and doesn't lie in it: such a document is at least three names below the work folder, or not below it
--- at all.
-use Rattle.std.proofs.Common.{◌≡◌, ◌∙◌, refl, sym, ap, subst, ℕ, ◌+◌, ◌≤◌, ◌<◌, Bool, true, false, not, cond, ◌&&◌, ◌==◌, List, [], ◌∷◌, ◌++◌, length, length-append, codes, append_assoc, append-nil, arith, inl, inr, ◌⊎◌}
+-- isn't the image's store and doesn't lie in it: such a document is at least three names below the work folder, or not
+-- below it at all.
+use Rattle.std.proofs.Common.{◌≡◌, ◌∙◌, refl, sym, ap, subst, ℕ, ◌+◌, ◌≤◌, ◌<◌, Bool, true, false, not, cond, ◌&&◌}
+use Rattle.std.proofs.Common.{◌==◌, List, [], ◌∷◌, ◌++◌, length, length-append, codes, append_assoc, append-nil, arith}
+use Rattle.std.proofs.Common.{inl, inr, ◌⊎◌}
 use Rattle.std.specs.List.{list_all}
 use Rattle.std.specs.Str.{bytes_eq}
 use Rattle.std.proofs.lemmas.Bool.{and_from, and_parts}
@@ -23,7 +24,8 @@ use Rattle.image_files.specs.Paths.{document_name, image_path, images_folder}
 use Rattle.image_files.proofs.PathLemmas.{document_length}
 use Rattle.steps.specs.Frames.{is_free, touched}
 use Rattle.cnb_create.specs.Apart.{are_apart}
-use Rattle.cnb_create.proofs.ApartLemmas.{Below, Inside, below_below, folder_not_root, inside_below, inside_deeper, inside_joined, never, no_root, one_in_other, under, unless_within, untouched}
+use Rattle.cnb_create.proofs.ApartLemmas.{Below, Inside, below_below, folder_not_root, inside_below, inside_deeper}
+use Rattle.cnb_create.proofs.ApartLemmas.{inside_joined, never, no_root, one_in_other, under, unless_within, untouched}
 
 -- ---- how many folders deep a path is
 

@@ -10,7 +10,8 @@ use Rattle.order_expand.specs.declared.order.OrderFault.{OrderFault}
 use Rattle.order_expand.specs.declared.order.OrderFault.TheVariants as order
 use Rattle.steps.specs.Counts.{FileCounts}
 use Rattle.steps.specs.EitherCounts.{OutsideCounts}
-use Rattle.steps.proofs.EndLaws.{Obeys, files_among, files_link, files_rest, obeys_bind, obeys_gives, obeys_told, obeys_yields, reads_counts, writes_counts}
+use Rattle.steps.proofs.EndLaws.{Obeys, files_among, files_link, files_rest, obeys_bind, obeys_gives, obeys_told}
+use Rattle.steps.proofs.EndLaws.{obeys_yields, reads_counts, writes_counts}
 use Rattle.steps.proofs.OutsideLaws.{obeys_asks, obeys_over_world, outside_link, outside_rest}
 use Rattle.cnb_detect.specs.Choice.{Choice}
 use Rattle.cnb_detect.specs.declared.target.TargetSource.{TargetSource}

@@ -1,5 +1,6 @@
 -- The two documents of a choice: what each write leaves at both paths.
-use Rattle.std.proofs.Common.{◌≡◌, ◌∙◌, refl, ap, ℕ, ◌+◌, ◌<◌, Bool, true, false, cond, List, [], ◌∷◌, ◌++◌, length, length-append, codes, arith, take, Option, Some, None, inl, inr}
+use Rattle.std.proofs.Common.{◌≡◌, ◌∙◌, refl, ap, ℕ, ◌+◌, ◌<◌, Bool, true, false, cond, List, [], ◌∷◌, ◌++◌, length}
+use Rattle.std.proofs.Common.{length-append, codes, arith, take, Option, Some, None, inl, inr}
 use Rattle.std.specs.Option.{option_map}
 use Rattle.std.specs.Str.{bytes_eq}
 use Rattle.std.specs.FinMap.{get}
@@ -9,7 +10,8 @@ use Rattle.cnb_world.specs.Path.{parent_of, beside, is_path, joined}
 use Rattle.cnb_world.specs.Tree.{Tree, item_at, is_root, folder_made}
 use Rattle.cnb_world.specs.Whole.{Progress, Unbegun, FolderMade, PartBeside, written, left_of}
 use Rattle.cnb_world.proofs.Joins.{parent_of_file}
-use Rattle.cnb_world.proofs.Trees.{get-insert_bytes, get-remove_bytes, get-insert_same, get-insert_other, bytes_eq-other}
+use Rattle.cnb_world.proofs.Trees.{get-insert_bytes, get-remove_bytes, get-insert_same, get-insert_other}
+use Rattle.cnb_world.proofs.Trees.{bytes_eq-other}
 use Rattle.cnb_world.proofs.Folders.{get-folder_made_longer}
 use Rattle.doc_files.proofs.Written.{long_by, longer, no_root}
 use Rattle.steps.specs.Frames.{standing, IsOldOrNew}

@@ -1,5 +1,7 @@
 -- Where both documents can be written, the plan can be written after the group.
-use Rattle.std.proofs.Common.{◌≡◌, ◌∙◌, refl, sym, ap, subst, ℕ, ◌+◌, ◌<◌, ◌≤◌, Bool, true, false, cond, not, ◌&&◌, ◌||◌, ◌==◌, List, [], ◌∷◌, ◌++◌, length, length-append, arith, is_some, Option, Some, None}
+use Rattle.std.proofs.Common.{◌≡◌, ◌∙◌, refl, sym, ap, subst, ℕ, ◌+◌, ◌<◌, ◌≤◌, Bool, true, false, cond, not, ◌&&◌}
+use Rattle.std.proofs.Common.{◌||◌, ◌==◌, List, [], ◌∷◌, ◌++◌, length, length-append, arith, is_some, Option, Some}
+use Rattle.std.proofs.Common.{None}
 use Rattle.std.specs.Option.{option_map}
 use Rattle.std.specs.List.{list_all}
 use Rattle.std.specs.Str.{bytes_eq}
@@ -10,7 +12,8 @@ use Rattle.cnb_world.specs.declared.world.Item.{Item}
 use Rattle.cnb_world.specs.declared.world.Item.TheVariants.{Folder}
 use Rattle.cnb_world.specs.Calls.{MayMisuse}
 use Rattle.cnb_world.specs.Path.{parent_of, beside, is_path}
-use Rattle.cnb_world.specs.Tree.{Tree, item_at, is_root, is_folder, is_file_or_absent, folders_from, folders_above, can_make_folder, folder_made}
+use Rattle.cnb_world.specs.Tree.{Tree, item_at, is_root, is_folder, is_file_or_absent, folders_from, folders_above}
+use Rattle.cnb_world.specs.Tree.{can_make_folder, folder_made}
 use Rattle.cnb_world.specs.Whole.{written, can_write}
 use Rattle.cnb_world.proofs.Trees.{get-insert_other, get-remove_bytes}
 use Rattle.cnb_world.proofs.Folders.{get-with_folders}

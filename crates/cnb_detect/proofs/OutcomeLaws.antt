@@ -1,5 +1,6 @@
 -- What `detect` comes to, by what it does.
-use Rattle.std.proofs.Common.{◌≡◌, ◌∙◌, refl, sym, ap, subst, arith, ℕ, true, List, [], Option, Some, None, Result, Ok, Err, inl, inr}
+use Rattle.std.proofs.Common.{◌≡◌, ◌∙◌, refl, sym, ap, subst, arith, ℕ, true, List, [], Option, Some, None, Result, Ok}
+use Rattle.std.proofs.Common.{Err, inl, inr}
 use Rattle.std.specs.Prelude.{IfSome, map}
 use Rattle.std.specs.Option.{option_map}
 use Rattle.cnb_world.specs.Calls.{MayMisuse}
@@ -29,7 +30,8 @@ use Rattle.cnb_detect.specs.declared.target.TargetSource.{TargetSource}
 use Rattle.cnb_detect.specs.Choice.{Choice, choice_of, jobs_of, listed_jobs}
 use Rattle.cnb_detect.specs.Detects.{chooses, detects}
 use Rattle.cnb_detect.specs.Documents.{can_write_choice, group_document, plan_document}
-use Rattle.cnb_detect.specs.Outcome.{ComesTo, IsChoiceWith, KeepsFiles, WritesBoth, detect_choice, outcome_of, prepared_in}
+use Rattle.cnb_detect.specs.Outcome.{ComesTo, IsChoiceWith, KeepsFiles, WritesBoth, detect_choice, outcome_of}
+use Rattle.cnb_detect.specs.Outcome.{prepared_in}
 use Rattle.cnb_detect.specs.Preparation.{is_fit_preparation}
 use Rattle.cnb_detect.specs.Refusals.{cause_of}
 use Rattle.steps.proofs.StepLemmas.{allowed_by}

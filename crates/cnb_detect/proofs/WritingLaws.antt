@@ -1,5 +1,6 @@
 -- What follows from the writing of a choice.
-use Rattle.std.proofs.Common.{◌≡◌, ◌∙◌, refl, sym, ap, subst, ℕ, true, List, Option, Some, None, Result, Ok, Err, inl, inr}
+use Rattle.std.proofs.Common.{◌≡◌, ◌∙◌, refl, sym, ap, subst, ℕ, true, List, Option, Some, None, Result, Ok, Err, inl}
+use Rattle.std.proofs.Common.{inr}
 use Rattle.std.specs.Option.{option_map}
 use Rattle.cnb_world.specs.Calls.{MayMisuse}
 use Rattle.cnb_world.specs.Path.{is_path}
@@ -18,7 +19,8 @@ use Rattle.cnb_detect.specs.declared.refusal.DetectRefusal.TheVariants.{File, Me
 use Rattle.cnb_detect.specs.Choice.{Choice}
 use Rattle.cnb_detect.specs.Documents.{can_write_choice, group_document, plan_document, writes_choice}
 use Rattle.cnb_detect.specs.Refusals.{cause_of}
-use Rattle.cnb_detect.proofs.DocumentLemmas.{first_refused_group, first_refused_plan, second_refused_group, second_refused_plan, both_group, both_plan}
+use Rattle.cnb_detect.proofs.DocumentLemmas.{first_refused_group, first_refused_plan, second_refused_group}
+use Rattle.cnb_detect.proofs.DocumentLemmas.{second_refused_plan, both_group, both_plan}
 use Rattle.cnb_detect.proofs.FitLemmas.{may_write}
 
 -- both documents were written

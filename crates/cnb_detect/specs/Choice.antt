@@ -8,7 +8,8 @@ use Rattle.run_docs.specs.declared.plan.PlanEntry.{PlanEntry}
 use Rattle.order_expand.specs.Groups.{listed_groups}
 use Rattle.detect_core.specs.declared.chosen.Chosen.{Chosen}
 use Rattle.detect_core.specs.Answer.{says, build_plan}
-use Rattle.detect_core.specs.Detection.{Ending, TooManyTrials, FirstTrial, first_trial, asked_members, fitting, has_erred, members_of}
+use Rattle.detect_core.specs.Detection.{Ending, TooManyTrials, FirstTrial, first_trial, asked_members, fitting}
+use Rattle.detect_core.specs.Detection.{has_erred, members_of}
 use Rattle.detect_core.specs.Job.{detect_job}
 use Rattle.detect_core.specs.Search.{group_rows}
 use Rattle.cnb_detect.specs.declared.preparation.Prepared.{Prepared}

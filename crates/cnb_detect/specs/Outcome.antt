@@ -72,8 +72,7 @@ WritesBoth (Ok text) work IsChosen old new =
     × (new ≡ option_map (λ files. written (plan_document work) plan (written (group_document work) group files)) old)
 
 -- What `detect` comes to. The end is that of the choice, by the files and by what the children of this call answered;
--- each of
--- the two documents is the old one or a whole new one that reads as the choice.
+-- each of the two documents is the old one or a whole new one that reads as the choice.
 pub record ComesTo (source : TargetSource) (options : ChoiceWords) (env : List Variable) (old : Outside)
     (end : Result (List ℕ) DetectRefusal) (new : Outside) : Type 0 where
   pub answers : List Ran

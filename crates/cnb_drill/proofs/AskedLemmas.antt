@@ -1,8 +1,10 @@
 -- How many members the drill asks.
-use Rattle.std.proofs.Common.{◌≡◌, ◌∙◌, refl, sym, ap, subst, inl, inr, ℕ, zero, suc, ◌+◌, ◌<◌, Bool, true, false, not, List, [], ◌∷◌, ◌++◌, map, length, arith, append_assoc}
+use Rattle.std.proofs.Common.{◌≡◌, ◌∙◌, refl, sym, ap, subst, inl, inr, ℕ, zero, suc, ◌+◌, ◌<◌, Bool, true, false, not}
+use Rattle.std.proofs.Common.{List, [], ◌∷◌, ◌++◌, map, length, arith, append_assoc}
 use Rattle.std.specs.Prelude.{◌&&◌, ◌||◌, eqb, ◌==◌}
 use Rattle.std.specs.List.{flat_map, list_any, AllByRecursion}
-use Rattle.std.proofs.lemmas.Bool.{cases_Bool, or_left, or_right, eq-eqb, ne_eqb, both_ways, false_from_ne_true, cases_eq}
+use Rattle.std.proofs.lemmas.Bool.{cases_Bool, or_left, or_right, eq-eqb, ne_eqb, both_ways, false_from_ne_true}
+use Rattle.std.proofs.lemmas.Bool.{cases_eq}
 use Rattle.std.proofs.lemmas.Grind.{flat_map-append}
 use Rattle.std.proofs.lemmas.List.{map-append}
 use Rattle.std.proofs.lemmas.List.Folds.{list_any-append}
@@ -17,7 +19,9 @@ use Rattle.cnb_drill.specs.Buildpacks.{eight}
 use Rattle.cnb_drill.specs.Digits.{asked_from}
 use Rattle.cnb_drill.proofs.Digits.{by_eight}
 use Rattle.cnb_drill.proofs.WordLemmas.{words, in_front, before, behind, words_at, AreDigits}
-use Rattle.cnb_drill.proofs.CountLemmas.{one_if, total, total-zero, total-append, total-map, total_each, IsSameness, each_all, each_both, each_weaker, each_append, each_first, each_map, each_flat, Once, length-distinct}
+use Rattle.cnb_drill.proofs.CountLemmas.{one_if, total, total-zero, total-append, total-map, total_each, IsSameness}
+use Rattle.cnb_drill.proofs.CountLemmas.{each_all, each_both, each_weaker, each_append, each_first, each_map, each_flat}
+use Rattle.cnb_drill.proofs.CountLemmas.{Once, length-distinct}
 
 -- ---- members that are the same
 

@@ -4,7 +4,8 @@ use Rattle.std.specs.Prelude.{nat_lt, ◌||◌, None, Ok, Err}
 use Rattle.std.specs.List.{list_any, AllByRecursion}
 use Rattle.std.proofs.lemmas.List.{length-map}
 use Rattle.order_expand.specs.Groups.{listed_groups}
-use Rattle.order_expand.specs.Check.{checked, first_fault, met_entries, first_deep, count_groups, fault_or_deep, deep_or_count}
+use Rattle.order_expand.specs.Check.{checked, first_fault, met_entries, first_deep, count_groups, fault_or_deep}
+use Rattle.order_expand.specs.Check.{deep_or_count}
 use Rattle.order_expand.specs.declared.order.OrderFault.TheVariants.{ManyGroups, LongGroup}
 use Rattle.cnb_drill.proofs.Members.{members}
 use Rattle.cnb_drill.specs.Order.{drill_catalog, drill_order}

@@ -1,5 +1,6 @@
 -- What a detection over the drill's spawners answers, and which children it runs.
-use Rattle.std.proofs.Common.{◌≡◌, ◌∙◌, refl, sym, ap, subst, inl, inr, ℕ, ◌<◌, Bool, List, [], ◌∷◌, ◌++◌, map, length, arith}
+use Rattle.std.proofs.Common.{◌≡◌, ◌∙◌, refl, sym, ap, subst, inl, inr, ℕ, ◌<◌, Bool, List, [], ◌∷◌, ◌++◌, map, length}
+use Rattle.std.proofs.Common.{arith}
 use Rattle.std.specs.Prelude.{Option, Some, None, Result, Ok, Err, IsOk, IsTrue, OnErr}
 use Rattle.std.specs.List.{AllByRecursion}
 use Rattle.std.proofs.lemmas.List.{map-append, length-map}
@@ -23,7 +24,8 @@ use Rattle.detect_core.specs.declared.chosen.DetectEnd.{DetectEnd}
 use Rattle.detect_core.specs.declared.chosen.DetectEnd.TheVariants as end
 use Rattle.detect_core.specs.declared.chosen.DetectFrame.{DetectFrame}
 use Rattle.detect_core.specs.Answer.{build_plan, says}
-use Rattle.detect_core.specs.Detection.{Ending, FirstTrial, first_trial, asked_members, asked_keys, has_erred, members_of, reached}
+use Rattle.detect_core.specs.Detection.{Ending, FirstTrial, first_trial, asked_members, asked_keys, has_erred}
+use Rattle.detect_core.specs.Detection.{members_of, reached}
 use Rattle.detect_core.specs.Job.{detect_job}
 use Rattle.detect_core.specs.Search.{DetectsAs, IsChoice, OnDetected, RunsAsked, end_cause, is_short}
 use Rattle.detect_core.specs.Asking.{unmet}

@@ -1,5 +1,6 @@
 -- A detection over spawners that answer by the drill's replies.
-use Rattle.std.proofs.Common.{◌≡◌, ◌∙◌, refl, sym, ap, subst, ℕ, ◌+◌, ◌/◌, ◌%◌, ◌<◌, Bool, true, false, List, [], ◌∷◌, ◌++◌, map, length, append_assoc}
+use Rattle.std.proofs.Common.{◌≡◌, ◌∙◌, refl, sym, ap, subst, ℕ, ◌+◌, ◌/◌, ◌%◌, ◌<◌, Bool, true, false, List, [], ◌∷◌}
+use Rattle.std.proofs.Common.{◌++◌, map, length, append_assoc}
 use Rattle.std.specs.Prelude.{◌||◌, Option, Some, None}
 use Rattle.std.specs.List.{list_any, AllByRecursion}
 use Rattle.std.proofs.lemmas.Bool.{or_left, or_right}
@@ -103,8 +104,7 @@ each_meets front (m ∷ ms) = (
     front_push (y ∷ xs) x ys = ap (λ zs. y ∷ zs) (front_push xs x ys)
 
 -- Children whose answers are fixed by replies, of which those that were reached ran, in whatever order: the search is
--- that
--- by the replies.
+-- that by the replies.
 pub said_search_by : (replies : List Reply) (groups : List (List Member)) (rans : List Ran)
     → AllByRecursion (λ m. HasReply replies m.key) (flat groups) → AreSaid (Some replies) rans →
     ((key : Key) → list_any (λ ran. same_key key (key_of ran)) rans

@@ -1,5 +1,6 @@
 -- The groups of the drill by lists of digits, what their members' children say, and what the search comes to.
-use Rattle.std.specs.Prelude.{ℕ, ◌+◌, ◌*◌, ◌^◌, ◌<◌, ◌≡◌, ◌==◌, nat_lt, false, List, [], ◌∷◌, ◌++◌, codes, length, map, None, Some, if◌then◌else◌}
+use Rattle.std.specs.Prelude.{ℕ, ◌+◌, ◌*◌, ◌^◌, ◌<◌, ◌≡◌, ◌==◌, nat_lt, false, List, [], ◌∷◌, ◌++◌, codes, length, map}
+use Rattle.std.specs.Prelude.{None, Some, if◌then◌else◌}
 use Rattle.cnb_toml.specs.declared.names.Key.{Key}
 use Rattle.cnb_toml.specs.declared.meta.Meta.TheVariants.{Table}
 use Rattle.cnb_toml.specs.declared.meta.Need.{Need}
@@ -89,8 +90,7 @@ drill_resolved a b c d = record {
 }
 
 -- The first passing trial is number 15 of 16 of the number's group, its plan has four entries, and as many buildpacks
--- are
--- asked as the digits say.
+-- are asked as the digits say.
 pub record IsDrilled (number : ℕ) (say : Member → Verdict) : Type 0 where
   pub first : (a b c d : ℕ) × (digits_of number ≡ a ∷ b ∷ c ∷ d ∷ [])
       × (first_trial say drill_catalog drill_order ≡ Some (FirstTrial number (drill_resolved a b c d)

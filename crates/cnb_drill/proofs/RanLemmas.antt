@@ -1,6 +1,5 @@
 -- A search reads no more than the answers of the members that it reached: where two ways of answering agree on these,
--- they
--- end alike.
+-- they end alike.
 use Rattle.std.proofs.Common.{◌≡◌, ◌∙◌, refl, sym, ap, subst, inl, inr, ℕ, ◌+◌, Bool, true, false, List, [], ◌∷◌, ◌++◌}
 use Rattle.std.specs.Prelude.{◌||◌, Option, Some, None}
 use Rattle.std.specs.List.{list_any}

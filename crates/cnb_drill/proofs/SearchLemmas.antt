@@ -1,8 +1,10 @@
 -- The search over the drill's groups: those before the number's fail, and its trial is the sixteenth of sixteen.
-use Rattle.std.proofs.Common.{◌≡◌, ◌∙◌, refl, sym, ap, inl, inr, ℕ, ◌+◌, ◌<◌, Bool, true, false, cond, List, [], ◌∷◌, ◌++◌, map, length, arith, zero-add}
+use Rattle.std.proofs.Common.{◌≡◌, ◌∙◌, refl, sym, ap, inl, inr, ℕ, ◌+◌, ◌<◌, Bool, true, false, cond, List, [], ◌∷◌}
+use Rattle.std.proofs.Common.{◌++◌, map, length, arith, zero-add}
 use Rattle.std.specs.Prelude.{◌||◌, nat_lt, Some, None}
 use Rattle.std.specs.List.{filter_map, list_all, list_any, cons_option}
-use Rattle.std.proofs.lemmas.Bool.{cases_Bool, and_from, and_parts, and_left, and_right, or_left, eq-eqb, ne_eqb, lt-ltb, ltb-true, false≢true}
+use Rattle.std.proofs.lemmas.Bool.{cases_Bool, and_from, and_parts, and_left, and_right, or_left, eq-eqb, ne_eqb}
+use Rattle.std.proofs.lemmas.Bool.{lt-ltb, ltb-true, false≢true}
 use Rattle.std.proofs.lemmas.List.{map-append, length-map}
 use Rattle.bp_docs.specs.declared.build_plan.PlanOption.{PlanOption}
 use Rattle.order_expand.specs.declared.member.Member.{Member}
@@ -13,9 +15,11 @@ use Rattle.plan_resolve.specs.Trials.{largest}
 use Rattle.detect_core.specs.declared.chosen.Verdict.{Verdict}
 use Rattle.detect_core.specs.declared.chosen.Verdict.TheVariants.{Pass, Fail, Error}
 use Rattle.detect_core.specs.Answer.{is_pass, alive_row, alive_of}
-use Rattle.detect_core.specs.Detection.{Ending, FirstTrial, ending_by, ending_of_rows, ending_at, first_ending, reached, first_trial}
+use Rattle.detect_core.specs.Detection.{Ending, FirstTrial, ending_by, ending_of_rows, ending_at, first_ending, reached}
+use Rattle.detect_core.specs.Detection.{first_trial}
 use Rattle.detect_core.proofs.AnswerLemmas.{or_later, or_reached, first_ending-append, reached-append}
-use Rattle.cnb_drill.proofs.Members.{digit_member, tail_member, members, options_of, tail_options, child_says, AnswersBy, value}
+use Rattle.cnb_drill.proofs.Members.{digit_member, tail_member, members, options_of, tail_options, child_says}
+use Rattle.cnb_drill.proofs.Members.{AnswersBy, value}
 use Rattle.cnb_drill.specs.Order.{drill_catalog, drill_order}
 use Rattle.cnb_drill.proofs.Members.{drill_resolved, group_keys}
 use Rattle.cnb_drill.proofs.WordLemmas.{before, behind, has_smaller, smaller-before, words_at, length-before, AreDigits}

@@ -1,5 +1,6 @@
 -- What the children of the drill's buildpacks answer, by the digits of a number.
-use Rattle.std.specs.Prelude.{ℕ, ℤ, pos, Option, Some, ◌+◌, ◌==◌, nat_lt, List, [], ◌∷◌, ◌++◌, codes, map, if◌then◌else◌}
+use Rattle.std.specs.Prelude.{ℕ, ℤ, pos, Option, Some, ◌+◌, ◌==◌, nat_lt, List, [], ◌∷◌, ◌++◌, codes, map}
+use Rattle.std.specs.Prelude.{if◌then◌else◌}
 use Rattle.cnb_world.specs.declared.child.Reply.{Reply}
 use Rattle.cnb_toml.specs.declared.names.Key.{Key}
 use Rattle.cnb_drill.specs.Buildpacks.{component_key, eight, tail_key}

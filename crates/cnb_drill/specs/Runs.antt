@@ -21,8 +21,7 @@ abbrev pub said_by : List Reply → Member → Verdict
 said_by replies member = answer_or_error build_plan (reply_of replies member.key.id member.key.version)
 
 -- The children that spawners ran between them: exactly those that have to be asked by the replies, each once, and as
--- many
--- as the text tells; where memory ran out some of those that the order lists, each at most once.
+-- many as the text tells; where memory ran out some of those that the order lists, each at most once.
 pub record RunsDrill {A : Type 0} (number : ℕ) (old : List SpawnerSeen) (result : Result A Memory)
     (new : List SpawnerSeen) : Type 0 where
   pub answers : List Ran

@@ -1,5 +1,6 @@
 -- Reading the environment files of a folder.
-use Rattle.std.specs.Prelude.{ℕ, ◌≡◌, ◌⊎◌, IsTrue, Bool, true, false, List, [], ◌∷◌, codes, Option, Some, None, Result, Ok, Err}
+use Rattle.std.specs.Prelude.{ℕ, ◌≡◌, ◌⊎◌, IsTrue, Bool, true, false, List, [], ◌∷◌, codes, Option, Some, None, Result}
+use Rattle.std.specs.Prelude.{Ok, Err}
 use Rattle.cnb_world.specs.Path.{is_part, joined}
 use Rattle.cnb_world.specs.Tree.{Tree, is_folder, item_at}
 use Rattle.cnb_world.specs.declared.world.Item.{Item}

@@ -1,5 +1,6 @@
 -- The environment that layers give (buildpack.md, "Layer Paths"; "Provided by the Buildpacks").
-use Rattle.std.specs.Prelude.{ℕ, ◌≡◌, ◌≤◌, ◌⊎◌, IfSome, IsTrue, Bool, List, [], ◌∷◌, ◌++◌, codes, filter, map, length, if◌then◌else◌, Option, Some, None, Result, Ok, Err}
+use Rattle.std.specs.Prelude.{ℕ, ◌≡◌, ◌≤◌, ◌⊎◌, IfSome, IsTrue, Bool, List, [], ◌∷◌, ◌++◌, codes, filter, map, length}
+use Rattle.std.specs.Prelude.{if◌then◌else◌, Option, Some, None, Result, Ok, Err}
 use Rattle.std.specs.List.{All, IsAmong, join_by, list_all}
 use Rattle.cnb_world.specs.Env.{with_value}
 use Rattle.cnb_world.specs.Path.{is_part, joined}

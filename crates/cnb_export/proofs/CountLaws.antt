@@ -12,8 +12,10 @@ use Rattle.image_files.specs.declared.fault.ImageFault.{ImageFault}
 use Rattle.image_files.specs.declared.fault.ImageFault.TheVariants as image
 use Rattle.image_files.proofs.CountLaws as images
 use Rattle.run_docs.specs.declared.group.GroupRow.{GroupRow}
-use Rattle.shelf_set.proofs.CountLaws.{BesideCaches, beside_link, beside_rest, obeys_in_caches, obeys_in_world, stores_rows_ends}
-use Rattle.steps.proofs.EndLaws.{Links, Obeys, Rests, files_link, files_rest, obeys_bind, obeys_each, obeys_gives, obeys_told, obeys_yields, reads_counts, writes_counts}
+use Rattle.shelf_set.proofs.CountLaws.{BesideCaches, beside_link, beside_rest, obeys_in_caches, obeys_in_world}
+use Rattle.shelf_set.proofs.CountLaws.{stores_rows_ends}
+use Rattle.steps.proofs.EndLaws.{Links, Obeys, Rests, files_link, files_rest, obeys_bind, obeys_each, obeys_gives}
+use Rattle.steps.proofs.EndLaws.{obeys_told, obeys_yields, reads_counts, writes_counts}
 use Rattle.steps.specs.Counts.{FileCounts}
 use Rattle.steps.specs.Outside.{Seen}
 use Rattle.steps.specs.Steps.{map_err}
@@ -28,7 +30,8 @@ use Rattle.cnb_export.specs.Exports.{exports, gains}
 use Rattle.cnb_export.specs.Given.{reads_given, reads_group, reads_needed, refusal_cause}
 use Rattle.cnb_export.specs.Images.{reads_layers, reads_previous}
 use Rattle.cnb_layers.specs.Refusals.{cause_of, of_image_fault}
-use Rattle.cnb_export.specs.Trees.{cuts_app, puts_app, puts_links, puts_part, puts_parts, puts_process, puts_trees, puts_whole}
+use Rattle.cnb_export.specs.Trees.{cuts_app, puts_app, puts_links, puts_part, puts_parts, puts_process, puts_trees}
+use Rattle.cnb_export.specs.Trees.{puts_whole}
 use Rattle.cnb_layers.proofs.CountLaws.{export_group_counts, of_store}
 
 same_cause : (fault : ImageFault) → cause_of (of_image_fault fault) ≡ image_files.cause_of fault

@@ -1,5 +1,6 @@
 -- The image that is made can be read again.
-use Rattle.std.proofs.Common.{◌≡◌, ◌∙◌, ap, append_assoc, refl, ℕ, Bool, true, not, List, [], ◌∷◌, ◌++◌, map, Option, Some, None}
+use Rattle.std.proofs.Common.{◌≡◌, ◌∙◌, ap, append_assoc, refl, ℕ, Bool, true, not, List, [], ◌∷◌, ◌++◌, map, Option}
+use Rattle.std.proofs.Common.{Some, None}
 use Rattle.std.specs.List.{list_all}
 use Rattle.std.proofs.lemmas.Bool.{and_from}
 use Rattle.std.proofs.lemmas.List.Folds.{list_all-append}
@@ -13,7 +14,8 @@ use Rattle.image_docs.specs.RunImage.{is_run_doc}
 use Rattle.image_docs.specs.declared.row.Row.{Row}
 use Rattle.image_docs.specs.declared.run_image.RunDoc.{RunDoc}
 use Rattle.image_files.specs.RunPart.{run_row}
-use Rattle.image_files.proofs.RunPartLaws.{base_readable, env_readable, has_no_run_row, run_env, run_filled, run_rows_ordered, run_rows_sound}
+use Rattle.image_files.proofs.RunPartLaws.{base_readable, env_readable, has_no_run_row, run_env, run_filled}
+use Rattle.image_files.proofs.RunPartLaws.{run_rows_ordered, run_rows_sound}
 use Rattle.run_docs.specs.declared.group.GroupRow.{GroupRow}
 use Rattle.cnb_export.specs.Ascending.{label_key, process_key}
 use Rattle.cnb_export.specs.Image.{image_of}

@@ -1,5 +1,6 @@
 -- The files alone decide what an export makes: each of its steps is decided by them.
-use Rattle.std.proofs.Common.{◌≡◌, ◌∙◌, refl, sym, ap, subst, ℕ, Bool, List, [], ◌∷◌, Option, Some, None, Result, Ok, Err, inl, inr, ◌⊎◌}
+use Rattle.std.proofs.Common.{◌≡◌, ◌∙◌, refl, sym, ap, subst, ℕ, Bool, List, [], ◌∷◌, Option, Some, None, Result, Ok}
+use Rattle.std.proofs.Common.{Err, inl, inr, ◌⊎◌}
 use Rattle.app_slices.specs.Slots.{Slices}
 use Rattle.cnb_toml.specs.declared.process.Process.{Process}
 use Rattle.cnb_world.specs.Tree.{Tree}
@@ -19,12 +20,15 @@ use Rattle.cnb_export.specs.Exports.{exports, gains}
 use Rattle.cnb_export.specs.Images.{reads_layers, reads_previous}
 use Rattle.cnb_export.specs.OneImage.{AreOneImage, IsOneImage}
 use Rattle.cnb_layers.specs.Refusals.{cause_of, of_image_fault}
-use Rattle.cnb_export.specs.Trees.{cuts_app, puts_app, puts_links, puts_part, puts_parts, puts_process, puts_trees, puts_whole}
+use Rattle.cnb_export.specs.Trees.{cuts_app, puts_app, puts_links, puts_part, puts_parts, puts_process, puts_trees}
+use Rattle.cnb_export.specs.Trees.{puts_whole}
 use Rattle.cnb_export.specs.declared.exported.Exported.{Exported}
 use Rattle.cnb_layers.specs.declared.frame.ExportFrame.{ExportFrame}
 use Rattle.cnb_export.specs.declared.exporting.Gained.{Gained}
 use Rattle.cnb_layers.specs.declared.fault.ExportFault.{ExportFault}
-use Rattle.cnb_layers.proofs.DecidedLaws.{AreDecided, always, decided_bind, decided_each, decided_gives, decided_puts, decided_puts_folder, decided_reads, decided_reads_tree, decided_told, decided_yields}
+use Rattle.cnb_layers.proofs.DecidedLaws.{AreDecided, always, decided_bind, decided_each, decided_gives, decided_puts}
+use Rattle.cnb_layers.proofs.DecidedLaws.{decided_puts_folder, decided_reads, decided_reads_tree, decided_told}
+use Rattle.cnb_layers.proofs.DecidedLaws.{decided_yields}
 use Rattle.cnb_layers.proofs.GroupLaws.{of_store, one_group}
 
 -- ---- refusals that are told as an export's

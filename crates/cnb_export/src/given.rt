@@ -6,7 +6,8 @@ ghost use Rattle.run_docs.specs.Group.{group_in};
 ghost use Rattle.steps.specs.Causes.{IsAnswer, IsGivenCause};
 ghost use Rattle.steps.specs.Outside.{seen};
 ghost use Rattle.cnb_layers.specs.Frame.{KeepsLimits};
-ghost use Rattle.cnb_export.specs.Given.{frame_of, needed_at, reads_given, reads_group, reads_needed, refusal_cause, served};
+ghost use Rattle.cnb_export.specs.Given.{frame_of, needed_at, reads_given, reads_group, reads_needed, refusal_cause};
+ghost use Rattle.cnb_export.specs.Given.{served};
 ghost use Rattle.cnb_layers.specs.Refusals.{cause_of};
 
 use crate::refusal::ExportRefusal;

@@ -1,6 +1,7 @@
 // What `export` prints.
 ghost use Rattle.std.specs.Prelude.{◌≡◌, ◌++◌, IfOk, OnOk, string_bytes};
-ghost use Rattle.cnb_export.specs.Report.{dropped_line, dropped_lines, exported_text, image_line, layer_line, layer_lines, word_of};
+ghost use Rattle.cnb_export.specs.Report.{dropped_line, dropped_lines, exported_text, image_line, layer_line};
+ghost use Rattle.cnb_export.specs.Report.{layer_lines, word_of};
 
 use crate::exported::{Exported, ExportedRow};
 use cnb_toml::ImageName;

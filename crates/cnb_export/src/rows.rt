@@ -3,7 +3,8 @@ ghost use Rattle.std.specs.Prelude.{◌≡◌, ◌++◌, ◌∷◌, [], IfOk, Is
 ghost use Rattle.std.specs.List.{list_all};
 ghost use Rattle.cnb_world.specs.Path.{is_path, is_short_path};
 ghost use Rattle.image_docs.specs.Row.{is_row, role_text};
-ghost use Rattle.cnb_export.specs.Rows.{app_row, launcher_row, layer_by, layer_place, layer_row, process_rows, rows_of, version_of};
+ghost use Rattle.cnb_export.specs.Rows.{app_row, launcher_row, layer_by, layer_place, layer_row, process_rows, rows_of};
+ghost use Rattle.cnb_export.specs.Rows.{version_of};
 
 use crate::exported::{Digests, ImageFrame};
 use cnb_layers::{Gathered, ImageLayer};

@@ -5,7 +5,8 @@ ghost use Rattle.steps.specs.Each.{for_each};
 ghost use Rattle.steps.specs.Outside.{seen};
 ghost use Rattle.cnb_layers.specs.Frame.{KeepsLimits};
 ghost use Rattle.cnb_layers.specs.Refusals.{cause_of};
-ghost use Rattle.cnb_export.specs.Trees.{cuts_app, links_tree, puts_app, puts_links, puts_part, puts_parts, puts_process, puts_trees, puts_whole};
+ghost use Rattle.cnb_export.specs.Trees.{cuts_app, links_tree, puts_app, puts_links, puts_part, puts_parts};
+ghost use Rattle.cnb_export.specs.Trees.{puts_process, puts_trees, puts_whole};
 
 use crate::ascending::last_of_each;
 use crate::exported::Digests;

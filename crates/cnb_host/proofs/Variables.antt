@@ -1,5 +1,6 @@
 -- The variables of a command: one more, in front of those that are set.
-use Rattle.std.proofs.Common.{◌≡◌, ℕ, ◌+◌, List, [], ◌∷◌, Bool, true, false, cond, Option, Some, drop, zero, suc, refl, ◌∙◌, ap, add-one, option_map}
+use Rattle.std.proofs.Common.{◌≡◌, ℕ, ◌+◌, List, [], ◌∷◌, Bool, true, false, cond, Option, Some, drop, zero, suc, refl}
+use Rattle.std.proofs.Common.{◌∙◌, ap, add-one, option_map}
 use Rattle.std.specs.List.{slice_get}
 use Rattle.std.specs.Str.{bytes_eq}
 use Rattle.cnb_world.specs.declared.env.Variable.{Variable}

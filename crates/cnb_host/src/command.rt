@@ -1,7 +1,8 @@
 // The commands of children.
 ghost use Rattle.std.specs.Prelude.{◌≡◌, ◌∷◌, [], ℕ, List as Seq, IfOk, OnOk, Some, true, option_map, if◌then◌else◌};
 ghost use Rattle.std.specs.Str.{bytes_eq};
-ghost use Rattle.std.specs.Process.{command_program, command_args, command_var, command_dir, clears_env, SameProgramAndArgs, SameEnv, SameDir};
+ghost use Rattle.std.specs.Process.{command_program, command_args, command_var, command_dir, clears_env};
+ghost use Rattle.std.specs.Process.{SameProgramAndArgs, SameEnv, SameDir};
 ghost use Rattle.cnb_world.specs.Env.{value_of};
 
 use crate::fault::HostFault;

@@ -4,7 +4,8 @@
 // with exactly the variables that it is handed as words: by itself where it hands each on as it is, and by `env` elsewhere.
 ghost use Rattle.std.specs.Prelude.{◌≡◌, ◌++◌, ◌∷◌, [], IfOk, OnOk, codes, map, take};
 ghost use Rattle.std.specs.List.{list_all, list_any};
-ghost use Rattle.cnb_host.specs.Side.{assignment, begins_with_slash, env_words, has_equals, is_handed_on, is_known, is_plain, is_word, is_word_byte, plain_words, program_words, side_words};
+ghost use Rattle.cnb_host.specs.Side.{assignment, begins_with_slash, env_words, has_equals, is_handed_on, is_known};
+ghost use Rattle.cnb_host.specs.Side.{is_plain, is_word, is_word_byte, plain_words, program_words, side_words};
 
 use cnb_world::{ChildJob, Env, List, Memory, Text};
 use std::alloc::Global;

@@ -6,7 +6,8 @@
 // A program that can't be started must be told from one that ends with 126 or 127. So it is looked at before, here and
 // by the shell, which writes a byte before it runs anything. Not told apart is a program for the machine whose own
 // loader is missing.
-ghost use Rattle.std.specs.Prelude.{◌≡◌, ◌≤◌, ◌-◌, ◌++◌, ◌∷◌, [], IfOk, OnOk, OnErr, Some, codes, length, map, take, true, vec_len};
+ghost use Rattle.std.specs.Prelude.{◌≡◌, ◌≤◌, ◌-◌, ◌++◌, ◌∷◌, [], IfOk, OnOk, OnErr, Some, codes, length, map, take};
+ghost use Rattle.std.specs.Prelude.{true, vec_len};
 ghost use Rattle.std.specs.Process.{clears_env, command_args, command_dir, command_program};
 ghost use Rattle.cnb_host.specs.Side.{side_words};
 

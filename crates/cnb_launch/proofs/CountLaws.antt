@@ -16,7 +16,8 @@ use Rattle.image_files.proofs.CountLaws.{image_counts}
 use Rattle.steps.specs.Causes.{Cause}
 use Rattle.steps.specs.Counts.{AllCounts, FileCounts}
 use Rattle.steps.specs.Outside.{Seen}
-use Rattle.steps.proofs.EndLaws.{Obeys, all_link, all_rest, files_among, files_link, files_rest, obeys_bind, obeys_each, obeys_gives, obeys_told, obeys_yields, reads_counts, runs_child_counts}
+use Rattle.steps.proofs.EndLaws.{Obeys, all_link, all_rest, files_among, files_link, files_rest, obeys_bind, obeys_each}
+use Rattle.steps.proofs.EndLaws.{obeys_gives, obeys_told, obeys_yields, reads_counts, runs_child_counts}
 use Rattle.tree_store.proofs.CountLaws.{lay_stored_counts, lay_tree_counts}
 use Rattle.tree_store.specs.Answers as tree_store
 use Rattle.tree_store.specs.declared.fault.StoreFault.{StoreFault}

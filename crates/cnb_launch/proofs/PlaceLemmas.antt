@@ -1,5 +1,6 @@
 -- A place under a root is a path.
-use Rattle.std.proofs.Common.{◌≡◌, ◌∙◌, ℕ, ◌≤◌, Bool, true, false, cond, List, [], ◌∷◌, ◌++◌, ◌&&◌, ◌||◌, ◌==◌, refl, sym, ap, IsTrue, length, length-append, get_or, nat_le, arith, ◌<◌, Option, Some, None}
+use Rattle.std.proofs.Common.{◌≡◌, ◌∙◌, ℕ, ◌≤◌, Bool, true, false, cond, List, [], ◌∷◌, ◌++◌, ◌&&◌, ◌||◌, ◌==◌, refl}
+use Rattle.std.proofs.Common.{sym, ap, IsTrue, length, length-append, get_or, nat_le, arith, ◌<◌, Option, Some, None}
 use Rattle.std.specs.List.{list_all, onto_first}
 use Rattle.std.specs.Str.{bytes_eq}
 use Rattle.std.proofs.lemmas.List.Folds.{list_all-append}

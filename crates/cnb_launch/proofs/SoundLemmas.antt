@@ -1,5 +1,6 @@
 -- A launch document that was read has processes that can be read.
-use Rattle.std.proofs.Common.{◌≡◌, ◌∙◌, refl, sym, ap, ℕ, ◌+◌, Bool, true, false, cond, IsTrue, List, [], ◌∷◌, ◌++◌, codes, Option, Some, None, Result, Ok, Err}
+use Rattle.std.proofs.Common.{◌≡◌, ◌∙◌, refl, sym, ap, ℕ, ◌+◌, Bool, true, false, cond, IsTrue, List, [], ◌∷◌, ◌++◌}
+use Rattle.std.proofs.Common.{codes, Option, Some, None, Result, Ok, Err}
 use Rattle.std.specs.Fmt.{decimal}
 use Rattle.std.specs.List.{list_all}
 use Rattle.std.specs.Str.{bytes_eq}
@@ -12,7 +13,8 @@ use Rattle.cnb_toml.specs.declared.fault.DocFault.TheVariants as fault
 use Rattle.cnb_toml.specs.declared.process.Process.{Process}
 use Rattle.cnb_toml.specs.Distinct.{has_key}
 use Rattle.cnb_toml.specs.Document.{document_in}
-use Rattle.cnb_toml.specs.Fields.{filled, filled_list_at, list_at, optional_at, read_or, required_at, some_of, truth_at, value_or}
+use Rattle.cnb_toml.specs.Fields.{filled, filled_list_at, list_at, optional_at, read_or, required_at, some_of, truth_at}
+use Rattle.cnb_toml.specs.Fields.{value_or}
 use Rattle.cnb_toml.specs.Form.{name_of, or_wrong, table_of, text_of}
 use Rattle.cnb_toml.specs.Keys.{key_in}
 use Rattle.cnb_toml.specs.Names.{is_process_type}

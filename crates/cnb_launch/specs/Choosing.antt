@@ -1,6 +1,5 @@
 -- The process that a call asks for (platform.md, "launcher"; buildpack.md, "launch.toml (TOML)"). That words begin with
--- a
--- process type, and that no word means the default, are this project's own rules.
+-- a process type, and that no word means the default, are this project's own rules.
 use Rattle.std.specs.Prelude.{ℕ, List, [], ◌∷◌, ◌++◌, find, Option, Some, None, Result, Ok, Err}
 use Rattle.std.specs.Str.{bytes_eq}
 use Rattle.cnb_toml.specs.declared.process.Process.{Process}

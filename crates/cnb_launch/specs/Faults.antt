@@ -10,7 +10,9 @@ use Rattle.tree_store.specs.declared.fault.StoreFault.{StoreFault}
 use Rattle.tree_store.specs.declared.fault.StoreFault.TheVariants as store
 use Rattle.steps.specs.Causes.{Cause, ChildFailed, OutOfMemory, Decided}
 use Rattle.cnb_launch.specs.declared.fault.LaunchFault.{LaunchFault}
-use Rattle.cnb_launch.specs.declared.fault.LaunchFault.TheVariants.{NoImage, Exists, ShellProcess, NoProcess, ExecFailed, BadExecOutput, Child, Document, Store, Memory}
+use Rattle.cnb_launch.specs.declared.fault.LaunchFault.TheVariants.{NoImage, Exists, ShellProcess, NoProcess}
+use Rattle.cnb_launch.specs.declared.fault.LaunchFault.TheVariants.{ExecFailed, BadExecOutput, Child, Document, Store}
+use Rattle.cnb_launch.specs.declared.fault.LaunchFault.TheVariants.{Memory}
 
 abbrev pub cause_of : LaunchFault → Cause
 cause_of (NoImage name) = Decided

@@ -1,6 +1,5 @@
 -- What a program in `exec.d` puts out: a TOML table of texts (buildpack.md, "exec.d"). What counts as good is this
--- project's
--- own.
+-- project's own.
 use Rattle.std.specs.Prelude.{ℕ, ◌==◌, ◌&&◌, Bool, not, List, length, nat_lt, if◌then◌else◌, Option, Some, None}
 use Rattle.std.specs.List.{list_any}
 use Rattle.std.specs.Option.{option_and_then}

@@ -65,8 +65,7 @@ prepares_of root call env doc = do
   prepares_in root env chosen sets
 
 -- The document, the process, the layers, their environment files, the names of their programs: all of it is read before
--- the
--- first program runs.
+-- the first program runs.
 unfoldable pub prepares : List ℕ → Call → List Variable → Seen → Result Prepared LaunchFault → Seen → Type 0
 prepares root call env = do
   doc ← map_err of_read_fault (reads read_cause (is_fit_doc root) (launch_doc_under root))

@@ -1,6 +1,5 @@
 -- How an image is laid out under a root (platform.md, "exporter": its layers; the overlay and the document of the
--- launch are
--- this project's own).
+-- launch are this project's own).
 use Rattle.std.specs.Prelude.{ℕ, ◌≡◌, Bool, true, false, List, codes, if◌then◌else◌, Result, Ok, Err}
 use Rattle.cnb_world.specs.Tree.{item_at, kind_of}
 use Rattle.cnb_env.specs.Files.{is_absent}

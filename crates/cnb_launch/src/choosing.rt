@@ -4,7 +4,8 @@ ghost use Rattle.std.specs.List.{list_all};
 ghost use Rattle.std.specs.Option.{option_copied};
 ghost use Rattle.cnb_toml.specs.Process.{is_process};
 ghost use Rattle.steps.specs.Causes.{IsAnswer, IsGivenCause};
-ghost use Rattle.cnb_launch.specs.Choosing.{args_or, by_default, by_words, chosen_by, chosen_in, line_of, of_process, process_of};
+ghost use Rattle.cnb_launch.specs.Choosing.{args_or, by_default, by_words, chosen_by, chosen_in, line_of, of_process};
+ghost use Rattle.cnb_launch.specs.Choosing.{process_of};
 ghost use Rattle.cnb_launch.specs.Faults.{cause_of};
 ghost use Rattle.cnb_launch.specs.Places.{IsShortDir};
 

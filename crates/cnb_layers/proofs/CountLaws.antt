@@ -8,7 +8,8 @@ use Rattle.layer_flags.specs.declared.export.ExportRow.TheVariants as decision
 use Rattle.layer_flags.specs.declared.flags.Flags.{Flags}
 use Rattle.run_docs.specs.declared.group.GroupRow.{GroupRow}
 use Rattle.run_docs.specs.declared.layer.LayerDoc.{LayerDoc}
-use Rattle.steps.proofs.EndLaws.{Obeys, files_link, files_rest, obeys_bind, obeys_each, obeys_gives, obeys_told, obeys_yields, reads_counts}
+use Rattle.steps.proofs.EndLaws.{Obeys, files_link, files_rest, obeys_bind, obeys_each, obeys_gives, obeys_told}
+use Rattle.steps.proofs.EndLaws.{obeys_yields, reads_counts}
 use Rattle.steps.specs.Counts.{FileCounts}
 use Rattle.steps.specs.Outside.{Seen}
 use Rattle.steps.specs.Steps.{map_err}
@@ -19,9 +20,11 @@ use Rattle.tree_store.proofs.CountLaws.{look_for_tree_counts, put_folder_counts,
 use Rattle.cnb_layers.specs.declared.frame.ExportFrame.{ExportFrame}
 use Rattle.cnb_layers.specs.declared.gathered.Gathered.{Gathered}
 use Rattle.cnb_layers.specs.declared.fault.ExportFault.TheVariants.{Store}
-use Rattle.cnb_layers.specs.Buildpack.{exports_buildpack, exports_documents, exports_group, exports_layers, exports_store_document, reads_launch, reads_store_document}
+use Rattle.cnb_layers.specs.Buildpack.{exports_buildpack, exports_documents, exports_group, exports_layers}
+use Rattle.cnb_layers.specs.Buildpack.{exports_store_document, reads_launch, reads_store_document}
 use Rattle.cnb_layers.specs.Gathering.{exports_layer, keeps_found, keeps_layer, keeps_documented}
-use Rattle.cnb_layers.specs.Layer.{finds_contents, flags_of, keeps_tree, looks_for_contents, puts_contents, reads_layer, takes_contents, takes_there, takes_whole}
+use Rattle.cnb_layers.specs.Layer.{finds_contents, flags_of, keeps_tree, looks_for_contents, puts_contents, reads_layer}
+use Rattle.cnb_layers.specs.Layer.{takes_contents, takes_there, takes_whole}
 use Rattle.cnb_layers.specs.Names.{lists_unless, reads_layer_names, reads_names}
 use Rattle.cnb_layers.specs.Reading.{reads_as, reads_some}
 use Rattle.cnb_layers.specs.Refusals.{cause_of}

@@ -1,10 +1,11 @@
 -- What a group left, gathered layer by layer, can be read again once it is an image's or a cache's: no layer and no row
--- of the
--- store stands twice, since no buildpack of a group does.
-use Rattle.std.proofs.Common.{◌≡◌, ◌∙◌, refl, sym, ap, subst, ℕ, Bool, true, false, not, ◌&&◌, ◌||◌, List, [], ◌∷◌, ◌++◌, map, Option, Some, None, Ok}
+-- of the store stands twice, since no buildpack of a group does.
+use Rattle.std.proofs.Common.{◌≡◌, ◌∙◌, refl, sym, ap, subst, ℕ, Bool, true, false, not, ◌&&◌, ◌||◌, List, [], ◌∷◌}
+use Rattle.std.proofs.Common.{◌++◌, map, Option, Some, None, Ok}
 use Rattle.std.specs.List.{list_all, list_any}
 use Rattle.std.specs.Str.{bytes_eq}
-use Rattle.std.proofs.lemmas.Bool.{and_from, and_left, and_parts, and_right, false≢true, not-true, or_from, or_left, or_parts, or_right}
+use Rattle.std.proofs.lemmas.Bool.{and_from, and_left, and_parts, and_right, false≢true, not-true, or_from, or_left}
+use Rattle.std.proofs.lemmas.Bool.{or_parts, or_right}
 use Rattle.std.proofs.lemmas.List.{map-append}
 use Rattle.std.proofs.lemmas.List.Folds.{list_all-append, list_any-append}
 use Rattle.std.proofs.lemmas.Slice.Eq.{bytes_eq-Decides}
@@ -30,14 +31,16 @@ use Rattle.steps.specs.Each.{for_each}
 use Rattle.steps.specs.Outside.{Seen}
 use Rattle.steps.specs.Steps.{◌>>=◌, gives, yields}
 use Rattle.tree_canon.specs.declared.node.Node.{Node}
-use Rattle.cnb_layers.specs.Buildpack.{exports_buildpack, exports_documents, exports_group, exports_layers, exports_store_document, with_documents, with_store_row}
+use Rattle.cnb_layers.specs.Buildpack.{exports_buildpack, exports_documents, exports_group, exports_layers}
+use Rattle.cnb_layers.specs.Buildpack.{exports_store_document, with_documents, with_store_row}
 use Rattle.cnb_layers.specs.Gathering.{exports_layer, layer_of, nothing_gathered, with_image, with_kept, with_row}
 use Rattle.cnb_layers.specs.declared.frame.ExportFrame.{ExportFrame}
 use Rattle.cnb_layers.specs.declared.gathered.Gathered.{Gathered}
 use Rattle.cnb_layers.specs.declared.gathered.ImageLayer.{ImageLayer}
 use Rattle.cnb_layers.specs.declared.gathering.Kept.{Kept}
 use Rattle.cnb_layers.proofs.DistinctLaws.{same_name}
-use Rattle.cnb_layers.proofs.LeftLaws.{IsCached, Keeps, is_store_left, launch_left, layer_exported, names_left, store_left}
+use Rattle.cnb_layers.proofs.LeftLaws.{IsCached, Keeps, is_store_left, launch_left, layer_exported, names_left}
+use Rattle.cnb_layers.proofs.LeftLaws.{store_left}
 
 -- ---- keys that no row has
 

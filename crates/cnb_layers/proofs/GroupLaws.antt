@@ -17,9 +17,11 @@ use Rattle.tree_canon.specs.declared.node.Node.{Node}
 use Rattle.tree_store.specs.Answers as stored
 use Rattle.tree_store.specs.Steps.{looks_for_tree}
 use Rattle.tree_store.specs.declared.fault.StoreFault.{StoreFault}
-use Rattle.cnb_layers.specs.Buildpack.{exports_buildpack, exports_documents, exports_group, exports_layers, exports_store_document, one_default, reads_launch, reads_store_document}
+use Rattle.cnb_layers.specs.Buildpack.{exports_buildpack, exports_documents, exports_group, exports_layers}
+use Rattle.cnb_layers.specs.Buildpack.{exports_store_document, one_default, reads_launch, reads_store_document}
 use Rattle.cnb_layers.specs.Gathering.{exports_layer, keeps_found, keeps_layer, keeps_documented, nothing_gathered}
-use Rattle.cnb_layers.specs.Layer.{finds_contents, flags_of, keeps_tree, looks_for_contents, puts_contents, reads_layer, takes_contents, takes_there, takes_whole, there_by}
+use Rattle.cnb_layers.specs.Layer.{finds_contents, flags_of, keeps_tree, looks_for_contents, puts_contents, reads_layer}
+use Rattle.cnb_layers.specs.Layer.{takes_contents, takes_there, takes_whole, there_by}
 use Rattle.cnb_layers.specs.Names.{lists_unless, reads_layer_names, reads_names}
 use Rattle.cnb_layers.specs.Reading.{reads_as, reads_some}
 use Rattle.cnb_layers.specs.Refusals.{cause_of}
@@ -27,7 +29,9 @@ use Rattle.cnb_layers.specs.Settling.{checks_reused, decision_of, looks_for_stor
 use Rattle.cnb_layers.specs.declared.frame.ExportFrame.{ExportFrame}
 use Rattle.cnb_layers.specs.declared.gathered.Gathered.{Gathered}
 use Rattle.cnb_layers.specs.declared.fault.ExportFault.TheVariants.{Store}
-use Rattle.cnb_layers.proofs.DecidedLaws.{AreDecided, decided_bind, decided_each, decided_gives, decided_puts, decided_puts_folder, decided_reads, decided_reads_tree, decided_told, decided_yields}
+use Rattle.cnb_layers.proofs.DecidedLaws.{AreDecided, decided_bind, decided_each, decided_gives, decided_puts}
+use Rattle.cnb_layers.proofs.DecidedLaws.{decided_puts_folder, decided_reads, decided_reads_tree, decided_told}
+use Rattle.cnb_layers.proofs.DecidedLaws.{decided_yields}
 use Rattle.cnb_layers.proofs.PatternLaws.{decided_slices}
 
 -- ---- refusals that are told as an export's

@@ -1,5 +1,6 @@
 -- What was read of what a buildpack left can be written into an image.
-use Rattle.std.proofs.Common.{◌≡◌, refl, sym, ap, subst, ℕ, Bool, true, false, cond, List, [], length, Option, Some, None, Ok, Err}
+use Rattle.std.proofs.Common.{◌≡◌, refl, sym, ap, subst, ℕ, Bool, true, false, cond, List, [], length, Option, Some}
+use Rattle.std.proofs.Common.{None, Ok, Err}
 use Rattle.std.specs.Prelude.{IfSome, nat_lt, unwrap_or}
 use Rattle.std.specs.List.{filter_map}
 use Rattle.std.specs.Str.{bytes_eq}
@@ -24,8 +25,10 @@ use Rattle.steps.specs.Steps.{◌>>=◌, gives, map_err, yields}
 use Rattle.tree_canon.specs.declared.node.Node.{Node}
 use Rattle.tree_store.specs.Steps.{puts_tree}
 use Rattle.cnb_layers.specs.Buildpack.{defaults_of, one_default, reads_launch, reads_store_document}
-use Rattle.cnb_layers.specs.Gathering.{exports_layer, keeps_found, keeps_layer, keeps_documented, kept_of, kept_with, with_kept}
-use Rattle.cnb_layers.specs.Layer.{finds_contents, flags_of, keeps_tree, puts_contents, reads_layer, takes_contents, takes_there, takes_whole}
+use Rattle.cnb_layers.specs.Gathering.{exports_layer, keeps_found, keeps_layer, keeps_documented, kept_of, kept_with}
+use Rattle.cnb_layers.specs.Gathering.{with_kept}
+use Rattle.cnb_layers.specs.Layer.{finds_contents, flags_of, keeps_tree, puts_contents, reads_layer, takes_contents}
+use Rattle.cnb_layers.specs.Layer.{takes_there, takes_whole}
 use Rattle.cnb_layers.specs.Names.{reads_layer_names}
 use Rattle.cnb_layers.specs.Reading.{reads_as, reads_some}
 use Rattle.cnb_layers.specs.Settling.{decision_of, digest_or, reuses, row_of, settled_as, settles_by}

@@ -8,7 +8,8 @@ use Rattle.steps.specs.Each.{for_each}
 use Rattle.steps.specs.Outside.{Seen}
 use Rattle.steps.specs.Steps.{◌>>=◌, gives, yields}
 use Rattle.tree_canon.specs.declared.node.Node.{Node}
-use Rattle.cnb_layers.specs.Buildpack.{exports_buildpack, exports_documents, exports_group, exports_layers, exports_store_document, with_documents}
+use Rattle.cnb_layers.specs.Buildpack.{exports_buildpack, exports_documents, exports_group, exports_layers}
+use Rattle.cnb_layers.specs.Buildpack.{exports_store_document, with_documents}
 use Rattle.cnb_layers.specs.Gathering.{exports_layer, nothing_gathered, with_kept, with_row, with_tree}
 use Rattle.cnb_layers.specs.declared.frame.ExportFrame.{ExportFrame}
 use Rattle.cnb_layers.specs.declared.gathered.Gathered.{Gathered}

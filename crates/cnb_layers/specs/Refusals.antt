@@ -7,7 +7,8 @@ use Rattle.steps.specs.Causes.{Cause, Decided}
 use Rattle.tree_store.specs.Answers as store
 use Rattle.tree_store.specs.declared.fault.StoreFault.TheVariants as stored
 use Rattle.cnb_layers.specs.declared.fault.ExportFault.{ExportFault}
-use Rattle.cnb_layers.specs.declared.fault.ExportFault.TheVariants.{NoContents, NoPrevious, TwoDefaults, BadPattern, NoImage, Document, Store}
+use Rattle.cnb_layers.specs.declared.fault.ExportFault.TheVariants.{NoContents, NoPrevious, TwoDefaults, BadPattern}
+use Rattle.cnb_layers.specs.declared.fault.ExportFault.TheVariants.{NoImage, Document, Store}
 
 abbrev pub cause_of : ExportFault → Cause
 cause_of (NoContents id layer) = Decided

@@ -1,12 +1,14 @@
 -- What becomes of a layer, by its flags, its contents and the previous image (buildpack.md, "Layer Types"; platform.md,
 -- "exporter").
-use Rattle.std.specs.Prelude.{ℕ, Bool, true, false, ◌&&◌, List, Option, Some, None, Result, Ok, Err, is_some, find, if◌then◌else◌}
+use Rattle.std.specs.Prelude.{ℕ, Bool, true, false, ◌&&◌, List, Option, Some, None, Result, Ok, Err, is_some, find}
+use Rattle.std.specs.Prelude.{if◌then◌else◌}
 use Rattle.std.specs.Option.{option_map}
 use Rattle.std.specs.Str.{bytes_eq}
 use Rattle.layer_flags.specs.Export.{export_table}
 use Rattle.layer_flags.specs.declared.flags.Flags.{Flags}
 use Rattle.layer_flags.specs.declared.export.ExportRow.{ExportRow}
-use Rattle.layer_flags.specs.declared.export.ExportRow.TheVariants.{Skip, Add, Reuse, NoContents as NoContentsRow, NoPrevious as NoPreviousRow}
+use Rattle.layer_flags.specs.declared.export.ExportRow.TheVariants.{Skip, Add, Reuse, NoContents as NoContentsRow}
+use Rattle.layer_flags.specs.declared.export.ExportRow.TheVariants.{NoPrevious as NoPreviousRow}
 use Rattle.image_docs.specs.declared.layer_row.LayerRow.{LayerRow}
 use Rattle.steps.specs.Outside.{Seen}
 use Rattle.steps.specs.Steps.{◌>>=◌, gives, map_err, yields}

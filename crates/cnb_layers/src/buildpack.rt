@@ -3,7 +3,9 @@ ghost use Rattle.std.specs.Prelude.{◌≡◌, ◌++◌, ◌≤◌, [], IfErr, I
 ghost use Rattle.steps.specs.Causes.{IsAnswer, IsGivenCause};
 ghost use Rattle.steps.specs.Each.{for_each};
 ghost use Rattle.steps.specs.Outside.{seen};
-ghost use Rattle.cnb_layers.specs.Buildpack.{defaults_of, exports_buildpack, exports_documents, exports_group, exports_layers, exports_store_document, one_default, reads_launch, reads_store_document, with_documents, with_store_row};
+ghost use Rattle.cnb_layers.specs.Buildpack.{defaults_of, exports_buildpack, exports_documents, exports_group};
+ghost use Rattle.cnb_layers.specs.Buildpack.{exports_layers, exports_store_document, one_default, reads_launch};
+ghost use Rattle.cnb_layers.specs.Buildpack.{reads_store_document, with_documents, with_store_row};
 ghost use Rattle.cnb_layers.specs.Frame.{KeepsLimits};
 ghost use Rattle.cnb_layers.specs.Gathering.{exports_layer};
 ghost use Rattle.cnb_layers.specs.Refusals.{cause_of};

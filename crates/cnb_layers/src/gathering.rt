@@ -1,7 +1,8 @@
 // What a group left, gathered.
 ghost use Rattle.std.specs.Prelude.{◌≡◌, ◌≤◌, IfOk, OnOk, length};
 ghost use Rattle.steps.specs.Outside.{seen};
-ghost use Rattle.cnb_layers.specs.Gathering.{exports_layer, keeps_layer, keeps_documented, kept_of, nothing_gathered, with_image, with_layer, with_row, with_tree};
+ghost use Rattle.cnb_layers.specs.Gathering.{exports_layer, keeps_layer, keeps_documented, kept_of, nothing_gathered};
+ghost use Rattle.cnb_layers.specs.Gathering.{with_image, with_layer, with_row, with_tree};
 
 use crate::fault::ExportFault;
 use crate::frame::BuildpackFrame;

@@ -5,7 +5,8 @@ ghost use Rattle.steps.specs.Causes.{IsAnswer, IsGivenCause};
 ghost use Rattle.steps.specs.Outside.{seen};
 ghost use Rattle.cnb_layers.specs.declared.fault.ExportFault.TheVariants as fault;
 ghost use Rattle.cnb_layers.specs.Refusals.{cause_of};
-ghost use Rattle.cnb_layers.specs.Settling.{checks_reused, decision_of, digest_or, if_stored, is_equal, looks_for_stored, reuses, row_of, settled_as, settles};
+ghost use Rattle.cnb_layers.specs.Settling.{checks_reused, decision_of, digest_or, if_stored, is_equal};
+ghost use Rattle.cnb_layers.specs.Settling.{looks_for_stored, reuses, row_of, settled_as, settles};
 
 use crate::fault::ExportFault;
 use crate::frame::BuildpackFrame;

@@ -1,10 +1,12 @@
 -- Where the files fit `build`, and each child leaves files that fit, it makes no call on a path of the wrong kind.
-use Rattle.std.proofs.Common.{◌≡◌, ◌∙◌, refl, sym, ap, subst, ℕ, Bool, true, false, cond, not, ◌&&◌, List, [], ◌∷◌, ◌++◌, codes, Option, Some, None, Result, Ok, Err, is_some}
+use Rattle.std.proofs.Common.{◌≡◌, ◌∙◌, refl, sym, ap, subst, ℕ, Bool, true, false, cond, not, ◌&&◌, List, [], ◌∷◌}
+use Rattle.std.proofs.Common.{◌++◌, codes, Option, Some, None, Result, Ok, Err, is_some}
 use Rattle.std.specs.Prelude.{IfSome, IsTrue, if◌then◌else◌}
 use Rattle.std.specs.List.{AllByRecursion, filter, filter_map, list_all}
 use Rattle.std.specs.Str.{bytes_eq}
 use Rattle.std.proofs.lemmas.Bool.{and_from, and_parts}
-use Rattle.cnb_build.specs.Builds.{builds, builds_at, builds_one, closes, ends_build, nothing_built, prepares, reads_left, runs_build, with_layers}
+use Rattle.cnb_build.specs.Builds.{builds, builds_at, builds_one, closes, ends_build, nothing_built, prepares}
+use Rattle.cnb_build.specs.Builds.{reads_left, runs_build, with_layers}
 use Rattle.cnb_build.specs.Command.{commands_build}
 use Rattle.cnb_build.specs.Descriptor.{reads_descriptor}
 use Rattle.cnb_build.specs.Given.{documents_of, frame_of, known_apis, needed, reads_given, reads_needed}
@@ -64,9 +66,11 @@ use Rattle.steps.specs.Results as results
 use Rattle.steps.specs.Results.{with_fault}
 use Rattle.steps.specs.Steps as steps
 use Rattle.steps.specs.Steps.{gives, yields}
-use Rattle.cnb_lifecycle.specs.Fitting.{FitsBuild, FitsBuildpacks, FitsBuilt, FitsFirst, LeaveFit, NoMisuseWhere, plans_folder}
+use Rattle.cnb_lifecycle.specs.Fitting.{FitsBuild, FitsBuildpacks, FitsBuilt, FitsFirst, LeaveFit, NoMisuseWhere}
+use Rattle.cnb_lifecycle.specs.Fitting.{plans_folder}
 use Rattle.cnb_lifecycle.proofs.BuildPlaces.{layer_behind_folder, layer_behind_plan, plan_behind_folder, stands_folder}
-use Rattle.cnb_lifecycle.proofs.ServeLaws.{Serves, serves_bind, serves_child, serves_each, serves_folder, serves_gives, serves_known, serves_less, serves_reads, serves_writes, serves_yields}
+use Rattle.cnb_lifecycle.proofs.ServeLaws.{Serves, serves_bind, serves_child, serves_each, serves_folder, serves_gives}
+use Rattle.cnb_lifecycle.proofs.ServeLaws.{serves_known, serves_less, serves_reads, serves_writes, serves_yields}
 
 ok_is : {A E : Type 0} (a b : A) → (let r : Result A E = Ok a in r) ≡ Ok b → a ≡ b
 ok_is a b h = cc

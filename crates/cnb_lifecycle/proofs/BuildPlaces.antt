@@ -1,6 +1,8 @@
 -- What the build of a buildpack makes leaves the rest of the right kinds: the folder of its layers, and its Buildpack
 -- Plan.
-use Rattle.std.proofs.Common.{◌≡◌, ◌∙◌, refl, sym, ap, subst, arith, ℕ, ◌<◌, Bool, true, false, cond, not, ◌&&◌, ◌||◌, ◌==◌, nat_eq, List, [], ◌∷◌, ◌++◌, append_assoc, codes, length, length-append, is_some, Option, Some, None, inl, inr, ◌⊎◌}
+use Rattle.std.proofs.Common.{◌≡◌, ◌∙◌, refl, sym, ap, subst, arith, ℕ, ◌<◌, Bool, true, false, cond, not, ◌&&◌, ◌||◌}
+use Rattle.std.proofs.Common.{◌==◌, nat_eq, List, [], ◌∷◌, ◌++◌, append_assoc, codes, length, length-append, is_some}
+use Rattle.std.proofs.Common.{Option, Some, None, inl, inr, ◌⊎◌}
 use Rattle.std.specs.List.{list_all, list_any, starts_with}
 use Rattle.std.specs.Str.{bytes_eq}
 use Rattle.std.specs.FinMap.{get}
@@ -18,7 +20,8 @@ use Rattle.cnb_world.proofs.Folders.{get-folder_made_longer, get-with_folders}
 use Rattle.cnb_world.proofs.Parents.{has_slash}
 use Rattle.cnb_world.proofs.Trees.{bytes_eq-other}
 use Rattle.cnb_world.specs.Path.{beside, joined, parent_of}
-use Rattle.cnb_world.specs.Tree.{Tree, can_make_folder, folder_made, folders_above, is_file_or_absent, is_folder, is_root, is_within, item_at}
+use Rattle.cnb_world.specs.Tree.{Tree, can_make_folder, folder_made, folders_above, is_file_or_absent, is_folder}
+use Rattle.cnb_world.specs.Tree.{is_root, is_within, item_at}
 use Rattle.cnb_world.specs.Whole.{can_write, written}
 use Rattle.cnb_world.specs.declared.world.Item.{Item}
 use Rattle.cnb_world.specs.declared.world.Item.TheVariants as item

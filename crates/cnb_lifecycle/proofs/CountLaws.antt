@@ -2,7 +2,8 @@
 use Rattle.std.proofs.Common.{◌≡◌, ◌∙◌, sym, ap, subst, ℕ, List, Option, Some, None, Result, Ok, Err}
 use Rattle.cnb_build.proofs.CountLaws.{build_counts}
 use Rattle.cnb_build.specs.Refusals as building
-use Rattle.cnb_create.proofs.CountLaws.{create_counts, every_count, every_link, every_rest, obeys_caches, obeys_outside, obeys_world}
+use Rattle.cnb_create.proofs.CountLaws.{create_counts, every_count, every_link, every_rest, obeys_caches, obeys_outside}
+use Rattle.cnb_create.proofs.CountLaws.{obeys_world}
 use Rattle.cnb_create.specs.Refusals as creating
 use Rattle.cnb_create.specs.Surroundings.{Surroundings, outside_of, surroundings}
 use Rattle.cnb_detect.proofs.CountLaws.{detect_counts}
@@ -22,7 +23,8 @@ use Rattle.cnb_restore.specs.Commands as restore_command
 use Rattle.cnb_restore.specs.Faults as restoring
 use Rattle.cnb_words.specs.declared.choice.ChoiceWords.{ChoiceWords}
 use Rattle.cnb_words.specs.declared.words.Asked.{Asked}
-use Rattle.cnb_words.specs.declared.words.Asked.TheVariants.{Detect, Analyze, Restore, Build, Export, Create, Rebase, Base, Unpack, Show, Prune, Verify, Check, Drill, Launch}
+use Rattle.cnb_words.specs.declared.words.Asked.TheVariants.{Detect, Analyze, Restore, Build, Export, Create, Rebase}
+use Rattle.cnb_words.specs.declared.words.Asked.TheVariants.{Base, Unpack, Show, Prune, Verify, Check, Drill, Launch}
 use Rattle.cnb_world.specs.declared.env.Variable.{Variable}
 use Rattle.image_files.specs.Faults as image_files
 use Rattle.shelf_set.proofs.CountLaws.{BesideCaches}
@@ -40,7 +42,8 @@ use Rattle.cnb_lifecycle.specs.Commands.{On, after_words, asked_of, does, refusa
 use Rattle.cnb_lifecycle.specs.Detecting.{detects_into}
 use Rattle.cnb_lifecycle.specs.Ends.{Ends}
 use Rattle.cnb_lifecycle.specs.Faults.{cause_of, of_detect}
-use Rattle.cnb_lifecycle.specs.PhaseFaults.{of_base, of_build, of_check, of_create, of_export, of_image, of_launch, of_prune, of_rebase, of_restore, of_restore_refusal, of_verify}
+use Rattle.cnb_lifecycle.specs.PhaseFaults.{of_base, of_build, of_check, of_create, of_export, of_image, of_launch}
+use Rattle.cnb_lifecycle.specs.PhaseFaults.{of_prune, of_rebase, of_restore, of_restore_refusal, of_verify}
 use Rattle.cnb_lifecycle.specs.Printing.{Finishes}
 use Rattle.cnb_lifecycle.specs.Telling.{tells}
 use Rattle.cnb_lifecycle.specs.declared.answer.Answer.{Answer}
@@ -49,7 +52,9 @@ use Rattle.cnb_lifecycle.specs.declared.refusal.Refusal.{Refusal}
 use Rattle.cnb_lifecycle.specs.declared.status.Status.{Status}
 use Rattle.cnb_lifecycle.proofs.CauseLemmas.{same_cause}
 use Rattle.cnb_lifecycle.proofs.EndLemmas.{Did, Step, ends}
-use Rattle.cnb_lifecycle.proofs.PhaseLemmas.{base_cause, build_cause, check_cause, create_cause, image_cause, launch_cause, prune_cause, rebase_cause, refused_export, refused_restore, restore_cause, verify_cause}
+use Rattle.cnb_lifecycle.proofs.PhaseLemmas.{base_cause, build_cause, check_cause, create_cause, image_cause}
+use Rattle.cnb_lifecycle.proofs.PhaseLemmas.{launch_cause, prune_cause, rebase_cause, refused_export, refused_restore}
+use Rattle.cnb_lifecycle.proofs.PhaseLemmas.{restore_cause, verify_cause}
 
 -- steps that are told as those of a command, with the same causes
 obeys_tells : {S A F : Type 0} (R : Relation S) (cause : F → Cause) (answer : A → Answer) (refusal : F → Refusal)

@@ -1,6 +1,8 @@
 -- Where the files and the caches fit `create`, and each child of a build leaves files that fit, it makes no call on a
 -- path of the wrong kind.
-use Rattle.std.proofs.Common.{◌≡◌, ◌∙◌, refl, sym, ap, subst, arith, length-append, ℕ, ◌<◌, Bool, true, false, cond, not, ◌&&◌, ◌||◌, List, [], ◌∷◌, ◌++◌, append-nil, append_assoc, codes, length, Option, Some, None, Result, Ok, Err, inl, inr, ◌⊎◌, is_some}
+use Rattle.std.proofs.Common.{◌≡◌, ◌∙◌, refl, sym, ap, subst, arith, length-append, ℕ, ◌<◌, Bool, true, false, cond}
+use Rattle.std.proofs.Common.{not, ◌&&◌, ◌||◌, List, [], ◌∷◌, ◌++◌, append-nil, append_assoc, codes, length, Option}
+use Rattle.std.proofs.Common.{Some, None, Result, Ok, Err, inl, inr, ◌⊎◌, is_some}
 use Rattle.std.proofs.lemmas.Bool.{and_from, and_parts}
 use Rattle.std.specs.Prelude.{IfOk, IfSome, IsTrue, nat_le}
 use Rattle.std.specs.FinMap.{get}
@@ -13,15 +15,19 @@ use Rattle.cnb_build.specs.Outcome.{left_by}
 use Rattle.cnb_build.specs.Refusals as building
 use Rattle.cnb_build.specs.declared.fault.BuildFault.{BuildFault}
 use Rattle.cnb_build.specs.declared.frame.BuildFrame.{BuildFrame}
-use Rattle.cnb_create.proofs.ApartLemmas.{Below, Inside, below_below, folder_not_root, inside_below, inside_deeper, inside_joined, never, one_in_other, path_not_root, under, unless_within, within_so}
+use Rattle.cnb_create.proofs.ApartLemmas.{Below, Inside, below_below, folder_not_root, inside_below, inside_deeper}
+use Rattle.cnb_create.proofs.ApartLemmas.{inside_joined, never, one_in_other, path_not_root, under, unless_within}
+use Rattle.cnb_create.proofs.ApartLemmas.{within_so}
 use Rattle.cnb_create.proofs.ChoiceLaws.{chosen_keyed}
 use Rattle.cnb_create.proofs.CreateLaws.{trees_apart}
 use Rattle.cnb_create.proofs.ExportLaws.{keeps_exports}
 use Rattle.cnb_create.proofs.RestoreLaws.{keeps_restores}
 use Rattle.cnb_create.specs.Apart.{are_apart}
-use Rattle.cnb_create.specs.Creates.{build_frame, builds_group, chooses_group, creates, export_frame, exports_image, leaves_image, looks_at_images, phases_of}
+use Rattle.cnb_create.specs.Creates.{build_frame, builds_group, chooses_group, creates, export_frame, exports_image}
+use Rattle.cnb_create.specs.Creates.{leaves_image, looks_at_images, phases_of}
 use Rattle.cnb_create.specs.Refusals as creating
-use Rattle.cnb_create.specs.Surroundings.{Surroundings, caches_beside, outside_of, over_caches, over_outside, over_world}
+use Rattle.cnb_create.specs.Surroundings.{Surroundings, caches_beside, outside_of, over_caches, over_outside}
+use Rattle.cnb_create.specs.Surroundings.{over_world}
 use Rattle.cnb_create.specs.declared.refusal.CreateRefusal.{CreateRefusal}
 use Rattle.cnb_create.specs.declared.refusal.CreateRefusal.TheVariants.{Build, Detect, Export, Restore}
 use Rattle.cnb_detect.proofs.DetectLaws.{prepares_reads}
@@ -42,7 +48,9 @@ use Rattle.cnb_restore.specs.Faults.{cause_of, of_laying_fault}
 use Rattle.cnb_restore.specs.Images.{kept_for, store_of}
 use Rattle.cnb_restore.specs.Layers.{lays_contents, writes_layer, writes_store}
 use Rattle.cnb_restore.specs.Restored.{after_search, gathered_first, with_layer}
-use Rattle.cnb_restore.specs.Restores.{listed, prepares_folder, restores, restores_buildpack, restores_contents, restores_document, restores_each, restores_found, restores_group, restores_laid, restores_layer, restores_layers, restores_part, restores_rows}
+use Rattle.cnb_restore.specs.Restores.{listed, prepares_folder, restores, restores_buildpack, restores_contents}
+use Rattle.cnb_restore.specs.Restores.{restores_document, restores_each, restores_found, restores_group, restores_laid}
+use Rattle.cnb_restore.specs.Restores.{restores_layer, restores_layers, restores_part, restores_rows}
 use Rattle.cnb_restore.specs.Rows.{layer_names}
 use Rattle.cnb_restore.specs.declared.fault.RestoreFault.{RestoreFault}
 use Rattle.cnb_restore.specs.declared.restored.Restored.{Restored}
@@ -57,7 +65,8 @@ use Rattle.cnb_world.proofs.Folders.{get-without}
 use Rattle.cnb_world.proofs.Joins.{beside-joined}
 use Rattle.cnb_world.specs.Path.{beside, is_path, joined, parent_of}
 use Rattle.cnb_world.specs.Runs.{Run}
-use Rattle.cnb_world.specs.Tree.{Tree, can_make_folder, folder_made, is_file_or_absent, is_folder, is_root, is_within, item_at, without}
+use Rattle.cnb_world.specs.Tree.{Tree, can_make_folder, folder_made, is_file_or_absent, is_folder, is_root, is_within}
+use Rattle.cnb_world.specs.Tree.{item_at, without}
 use Rattle.cnb_world.specs.Whole.{can_write, written}
 use Rattle.cnb_world.specs.declared.env.Variable.{Variable}
 use Rattle.cnb_world.specs.declared.world.Item.{Item}
@@ -90,13 +99,19 @@ use Rattle.tree_store.proofs.Blames.{within_itself}
 use Rattle.tree_store.proofs.Places.{child_not_root}
 use Rattle.tree_store.specs.Around.{IsMadeAbove, KeepsAround}
 use Rattle.tree_store.specs.Steps.{lays_tree}
-use Rattle.cnb_lifecycle.specs.Fitting.{ArePlacesApart, FitsCreate, FitsFirst, FitsImage, FitsLeft, FitsRestore, LeaveFit, LeaveTold, NoMisuse, plans_folder, restore_words, with_analyzed, with_group, with_plan}
+use Rattle.cnb_lifecycle.specs.Fitting.{ArePlacesApart, FitsCreate, FitsFirst, FitsImage, FitsLeft, FitsRestore}
+use Rattle.cnb_lifecycle.specs.Fitting.{LeaveFit, LeaveTold, NoMisuse, plans_folder, restore_words, with_analyzed}
+use Rattle.cnb_lifecycle.specs.Fitting.{with_group, with_plan}
 use Rattle.cnb_lifecycle.proofs.BuildFits.{builds_first}
 use Rattle.cnb_lifecycle.proofs.DetectFits.{made_within, folder_stays as stays_behind}
-use Rattle.cnb_lifecycle.proofs.ExportFits.{CachedGoes, CachedMinds, cached_behind, cached_bind, cached_caches, cached_gives, cached_last, cached_told, cached_world, cached_yields, goes_gains}
+use Rattle.cnb_lifecycle.proofs.ExportFits.{CachedGoes, CachedMinds, cached_behind, cached_bind, cached_caches}
+use Rattle.cnb_lifecycle.proofs.ExportFits.{cached_gives, cached_last, cached_told, cached_world, cached_yields}
+use Rattle.cnb_lifecycle.proofs.ExportFits.{goes_gains}
 use Rattle.cnb_lifecycle.proofs.FitPasses.{Passes}
 use Rattle.cnb_lifecycle.proofs.FitSteps.{minds_told, minds_writes}
-use Rattle.cnb_lifecycle.proofs.RestoreFits.{Brings, HasId, all_by, beside_caches, brings_around, brings_change, brings_on, brings_same, can_be_folder, folder_stays, itself, kept_folder, reach, restores_leads, root_is_folder}
+use Rattle.cnb_lifecycle.proofs.RestoreFits.{Brings, HasId, all_by, beside_caches, brings_around, brings_change}
+use Rattle.cnb_lifecycle.proofs.RestoreFits.{brings_on, brings_same, can_be_folder, folder_stays, itself, kept_folder}
+use Rattle.cnb_lifecycle.proofs.RestoreFits.{reach, restores_leads, root_is_folder}
 use Rattle.cnb_lifecycle.proofs.ServeLaws.{allowed, no_runs}
 
 -- ---- steps that run no child, behind which this holds of the files where it did

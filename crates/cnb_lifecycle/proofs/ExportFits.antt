@@ -1,6 +1,8 @@
 -- Where the files fit an export, they fit it behind each tree that it puts, and no call on a path of the wrong kind is
 -- made.
-use Rattle.std.proofs.Common.{◌≡◌, ◌∙◌, refl, sym, ap, subst, arith, ℕ, zero, suc, ◌+◌, ◌<◌, ◌≤◌, nat_le, nat_lt, Bool, true, false, cond, not, ◌&&◌, ◌||◌, List, [], ◌∷◌, ◌++◌, codes, length, length-append, Option, Some, None, Result, Ok, Err, inl, inr, ◌⊎◌}
+use Rattle.std.proofs.Common.{◌≡◌, ◌∙◌, refl, sym, ap, subst, arith, ℕ, zero, suc, ◌+◌, ◌<◌, ◌≤◌, nat_le, nat_lt, Bool}
+use Rattle.std.proofs.Common.{true, false, cond, not, ◌&&◌, ◌||◌, List, [], ◌∷◌, ◌++◌, codes, length, length-append}
+use Rattle.std.proofs.Common.{Option, Some, None, Result, Ok, Err, inl, inr, ◌⊎◌}
 use Rattle.std.proofs.lemmas.Bool.{and_from, and_parts, false≢true, leb-true, lt-ltb, ltb-true}
 use Rattle.std.proofs.lemmas.List.Folds.{list_all-append}
 use Rattle.std.specs.FinMap.{get, insert, remove}
@@ -11,7 +13,8 @@ use Rattle.std.specs.Prelude.{IsTrue, OnOk, is_some, slice_index}
 use Rattle.std.specs.Str.{bytes_eq}
 use Rattle.app_slices.specs.Slots.{Slices}
 use Rattle.app_slices.specs.declared.item.Item.{Item as PatternItem}
-use Rattle.cnb_create.proofs.ApartLemmas.{Below, Inside, folder_not_root, free_document, free_itself, inside_deeper, inside_joined, not_above, not_within, path_not_root, within_so}
+use Rattle.cnb_create.proofs.ApartLemmas.{Below, Inside, folder_not_root, free_document, free_itself, inside_deeper}
+use Rattle.cnb_create.proofs.ApartLemmas.{inside_joined, not_above, not_within, path_not_root, within_so}
 use Rattle.cnb_create.proofs.PutLemmas.{free_of_trees}
 use Rattle.cnb_create.specs.Apart.{are_apart}
 use Rattle.cnb_env.specs.Files.{is_absent}
@@ -19,12 +22,15 @@ use Rattle.cnb_export.specs.Command.{exports_command, exports_given, finishes_ex
 use Rattle.cnb_export.specs.Exports.{exports, gains}
 use Rattle.cnb_export.specs.Given.{frame_of, reads_given, reads_group, reads_needed, refusal_cause}
 use Rattle.cnb_export.specs.Images.{reads_layers, reads_previous}
-use Rattle.cnb_export.specs.Trees.{cuts_app, puts_app, puts_links, puts_part, puts_parts, puts_process, puts_trees, puts_whole}
+use Rattle.cnb_export.specs.Trees.{cuts_app, puts_app, puts_links, puts_part, puts_parts, puts_process, puts_trees}
+use Rattle.cnb_export.specs.Trees.{puts_whole}
 use Rattle.cnb_export.specs.declared.exported.Exported.{Exported}
 use Rattle.cnb_export.specs.declared.refusal.ExportRefusal.TheVariants.{Fault}
-use Rattle.cnb_layers.specs.Buildpack.{exports_buildpack, exports_documents, exports_layers, exports_store_document, one_default, reads_launch, reads_store_document}
+use Rattle.cnb_layers.specs.Buildpack.{exports_buildpack, exports_documents, exports_layers, exports_store_document}
+use Rattle.cnb_layers.specs.Buildpack.{one_default, reads_launch, reads_store_document}
 use Rattle.cnb_layers.specs.Gathering.{exports_layer, keeps_documented, keeps_found, keeps_layer, nothing_gathered}
-use Rattle.cnb_layers.specs.Layer.{finds_contents, flags_of, keeps_tree, looks_for_contents, puts_contents, reads_layer, takes_contents, takes_there, takes_whole, there_by}
+use Rattle.cnb_layers.specs.Layer.{finds_contents, flags_of, keeps_tree, looks_for_contents, puts_contents, reads_layer}
+use Rattle.cnb_layers.specs.Layer.{takes_contents, takes_there, takes_whole, there_by}
 use Rattle.cnb_layers.specs.Names.{lists_unless, reads_layer_names, reads_names}
 use Rattle.cnb_layers.specs.Patterns.{adds_pattern, adds_slice, reads_pattern, reads_slices}
 use Rattle.cnb_layers.specs.Reading.{reads_as, reads_some}
@@ -42,7 +48,8 @@ use Rattle.cnb_world.proofs.Folders.{get-folder_made_longer, get-with_folders, g
 use Rattle.cnb_world.proofs.Joins.{file_is_path, parent_of_file}
 use Rattle.cnb_world.proofs.Trees.{bytes_eq-other, get-insert_bytes, get-remove_bytes}
 use Rattle.cnb_world.specs.Path.{beside, is_part, is_path, is_short_path, joined, parent_of}
-use Rattle.cnb_world.specs.Tree.{Tree, can_make_folder, folder_made, folders_above, is_file_or_absent, is_folder, is_root, is_within, item_at, kind_of}
+use Rattle.cnb_world.specs.Tree.{Tree, can_make_folder, folder_made, folders_above, is_file_or_absent, is_folder}
+use Rattle.cnb_world.specs.Tree.{is_root, is_within, item_at, kind_of}
 use Rattle.cnb_world.specs.Whole.{can_write}
 use Rattle.cnb_world.specs.declared.world.Item.{Item}
 use Rattle.cnb_world.specs.declared.world.Item.TheVariants.{File, Folder}
@@ -75,13 +82,18 @@ use Rattle.tree_canon.specs.Spelling.{spelling_of}
 use Rattle.tree_canon.specs.declared.node.Node.{Node}
 use Rattle.tree_store.proofs.StorePaths.{digest_part}
 use Rattle.tree_store.specs.Reading.{tree_in}
-use Rattle.tree_store.specs.Steps.{LeavesFolder, LeavesPut, can_name, can_put, can_put_folder, folder_put, looks_for_tree, puts_folder, puts_tree, reads_tree}
+use Rattle.tree_store.specs.Steps.{LeavesFolder, LeavesPut, can_name, can_put, can_put_folder, folder_put}
+use Rattle.tree_store.specs.Steps.{looks_for_tree, puts_folder, puts_tree, reads_tree}
 use Rattle.tree_store.specs.Store.{left_or_written, tree_path, tree_put}
 use Rattle.tree_store.specs.Writing.{bytes_put, can_begin, named_or_left, new_path, trees_of}
 use Rattle.tree_store.specs.declared.fault.StoreFault.{StoreFault}
-use Rattle.cnb_lifecycle.proofs.FitPasses.{Goes, Passes, behind_passed, goes_bind, goes_each, goes_looks, goes_told, passes_on, passes_same}
-use Rattle.cnb_lifecycle.proofs.FitSteps.{Looks, Minds, by_allows, given_then, join, looks_bind, looks_each, looks_gives, looks_reads, looks_told, looks_yields, minds_told, minds_writes, narrow, reads_then, unmoved}
-use Rattle.cnb_lifecycle.proofs.PutFits.{all_short, can_be_folder, child_longer, file_over, folder_over, folder_within, file_kept, joined_within, not_root, tree_longer, trees_long}
+use Rattle.cnb_lifecycle.proofs.FitPasses.{Goes, Passes, behind_passed, goes_bind, goes_each, goes_looks, goes_told}
+use Rattle.cnb_lifecycle.proofs.FitPasses.{passes_on, passes_same}
+use Rattle.cnb_lifecycle.proofs.FitSteps.{Looks, Minds, by_allows, given_then, join, looks_bind, looks_each}
+use Rattle.cnb_lifecycle.proofs.FitSteps.{looks_gives, looks_reads, looks_told, looks_yields, minds_told, minds_writes}
+use Rattle.cnb_lifecycle.proofs.FitSteps.{narrow, reads_then, unmoved}
+use Rattle.cnb_lifecycle.proofs.PutFits.{all_short, can_be_folder, child_longer, file_over, folder_over, folder_within}
+use Rattle.cnb_lifecycle.proofs.PutFits.{file_kept, joined_within, not_root, tree_longer, trees_long}
 use Rattle.cnb_lifecycle.specs.Fitting.{FitsExport, FitsImage, IsListed, NoMisuse}
 
 -- ---- the file of a tree

@@ -1,10 +1,13 @@
 -- Where the files fit a command, it makes no call on a path of the wrong kind.
-use Rattle.std.proofs.Common.{◌≡◌, ◌∙◌, refl, sym, ap, subst, arith, ℕ, ◌+◌, ◌<◌, ◌≤◌, nat_le, Bool, true, false, not, List, [], ◌∷◌, ◌++◌, codes, length, length-append, map, Option, Some, None, Result, Ok, Err, inl, inr}
+use Rattle.std.proofs.Common.{◌≡◌, ◌∙◌, refl, sym, ap, subst, arith, ℕ, ◌+◌, ◌<◌, ◌≤◌, nat_le, Bool, true, false, not}
+use Rattle.std.proofs.Common.{List, [], ◌∷◌, ◌++◌, codes, length, length-append, map, Option, Some, None, Result, Ok}
+use Rattle.std.proofs.Common.{Err, inl, inr}
 use Rattle.std.proofs.lemmas.Bool.{and_from, and_parts, leb-true}
 use Rattle.std.specs.Prelude.{◌||◌, IfOk, IsTrue, OnOk, if◌then◌else◌, is_some}
 use Rattle.std.specs.Option.{option_map}
 use Rattle.std.specs.Str.{bytes_eq}
-use Rattle.cnb_create.specs.Surroundings.{Surroundings, over_outside, over_world, surroundings, caches_beside, over_caches}
+use Rattle.cnb_create.specs.Surroundings.{Surroundings, over_outside, over_world, surroundings, caches_beside}
+use Rattle.cnb_create.specs.Surroundings.{over_caches}
 use Rattle.cnb_env.specs.Layers.{are_fit_launch_sets}
 use Rattle.cnb_launch.specs.Choosing.{chosen_in}
 use Rattle.cnb_launch.specs.Commands.{launches_command}
@@ -12,7 +15,8 @@ use Rattle.cnb_launch.specs.Documents.{launch_doc_under}
 use Rattle.cnb_launch.specs.Exec.{runs_exec, runs_execs}
 use Rattle.cnb_launch.specs.Faults as launching
 use Rattle.cnb_launch.specs.Planning.{are_fit_execs, launches, plans, prepares, prepares_in, prepares_of, sets_in}
-use Rattle.cnb_record.specs.Checks.{checks, compares, compares_group, compares_plan, follows, matches, proves, reads_group, reads_ordered}
+use Rattle.cnb_record.specs.Checks.{checks, compares, compares_group, compares_plan, follows, matches, proves}
+use Rattle.cnb_record.specs.Checks.{reads_group, reads_ordered}
 use Rattle.cnb_rebase.specs.Bases.{bases_command, makes_base, puts_folders, puts_next}
 use Rattle.cnb_rebase.specs.Refusals.{base_cause}
 use Rattle.cnb_rebase.specs.Rebases.{rebases, rebases_command, rebases_on, saves_rebased}
@@ -28,7 +32,8 @@ use Rattle.cnb_words.specs.declared.rebase.RebaseWords.{RebaseWords}
 use Rattle.cnb_words.specs.declared.show.ShowWords.{ShowWords}
 use Rattle.cnb_words.specs.declared.verify.VerifyWords.{VerifyWords}
 use Rattle.cnb_words.specs.declared.words.Asked.{Asked}
-use Rattle.cnb_words.specs.declared.words.Asked.TheVariants.{Detect, Analyze, Restore, Build, Export, Create, Rebase, Base, Unpack, Show, Prune, Verify, Check, Drill, Launch}
+use Rattle.cnb_words.specs.declared.words.Asked.TheVariants.{Detect, Analyze, Restore, Build, Export, Create, Rebase}
+use Rattle.cnb_words.specs.declared.words.Asked.TheVariants.{Base, Unpack, Show, Prune, Verify, Check, Drill, Launch}
 use Rattle.cnb_world.proofs.Joins.{file_is_path, parent_of_file}
 use Rattle.cnb_world.specs.Calls.{MayMisuse}
 use Rattle.cnb_world.specs.Path.{is_path, is_short_path, joined, parent_of}
@@ -54,7 +59,8 @@ use Rattle.steps.specs.Steps.{◌>>=◌, gives, removes, yields}
 use Rattle.store_prune.specs.Digests.{tree_digest}
 use Rattle.store_prune.specs.Faults.{cause_of as prune_cause}
 use Rattle.store_prune.specs.Listing.{lists, lists_where, looks_for, looks_for_file}
-use Rattle.store_prune.specs.Named.{adds_document, adds_folder, adds_if, adds_name, adds_where, digests_of_image, digests_of_run, is_document_name, reads_named, reads_names}
+use Rattle.store_prune.specs.Named.{adds_document, adds_folder, adds_if, adds_name, adds_where, digests_of_image}
+use Rattle.store_prune.specs.Named.{digests_of_run, is_document_name, reads_named, reads_names}
 use Rattle.store_prune.specs.Prunes.{prunes_command, removes_all, removes_next, removes_trees}
 use Rattle.store_prune.specs.Surveys.{surveys}
 use Rattle.store_prune.specs.Trees.{adds_digest, adds_tree, reads_trees}
@@ -64,7 +70,8 @@ use Rattle.tree_canon.specs.Spelling.{spelling_of}
 use Rattle.tree_canon.specs.declared.node.Node.{Node}
 use Rattle.tree_store.specs.Answers.{cause_of as tree_cause}
 use Rattle.tree_store.specs.Reading.{tree_in}
-use Rattle.tree_store.specs.Steps.{LeavesFolder, can_name, can_put_folder, checks_tree, folder_put, gets_tree, puts_folder}
+use Rattle.tree_store.specs.Steps.{LeavesFolder, can_name, can_put_folder, checks_tree, folder_put, gets_tree}
+use Rattle.tree_store.specs.Steps.{puts_folder}
 use Rattle.tree_store.specs.declared.fault.StoreFault.{StoreFault}
 use Rattle.tree_store.specs.Store.{tree_path}
 use Rattle.tree_store.specs.Writing.{trees_of}
@@ -73,15 +80,21 @@ use Rattle.cnb_lifecycle.specs.declared.refusal.Refusal.{Refusal}
 use Rattle.cnb_lifecycle.specs.declared.status.Status.{Status}
 use Rattle.cnb_lifecycle.specs.Commands.{On, after_words, does}
 use Rattle.cnb_lifecycle.specs.Ends.{Ends}
-use Rattle.cnb_lifecycle.specs.Fitting.{FitsAnalyze, FitsBase, FitsCheck, FitsLaunch, FitsPrune, FitsRebase, FitsShow, FitsVerify, IsListed, NoMisuseBy}
+use Rattle.cnb_lifecycle.specs.Fitting.{FitsAnalyze, FitsBase, FitsCheck, FitsLaunch, FitsPrune, FitsRebase, FitsShow}
+use Rattle.cnb_lifecycle.specs.Fitting.{FitsVerify, IsListed, NoMisuseBy}
 use Rattle.cnb_lifecycle.specs.Telling.{tells}
 use Rattle.cnb_lifecycle.proofs.BuildFits.{build_idle, build_minds}
 use Rattle.cnb_lifecycle.proofs.CreateFits.{create_idle, create_minds}
 use Rattle.cnb_lifecycle.proofs.DetectFits.{detect_minds}
 use Rattle.cnb_lifecycle.proofs.FitPasses.{Goes, Passes, goes_bind, goes_each, goes_looks, goes_told, minds_behind}
-use Rattle.cnb_lifecycle.proofs.FitSteps.{by_allows, Counts, counts_bind, counts_child, counts_each, counts_exec, given_then, Looks, looks_bind, looks_each, looks_gives, looks_reads, looks_told, looks_yields, Minds, minds_bind, minds_counts, minds_looks, minds_told, minds_writes, minds_yields, narrow, reads_then, still, told_then, unmoved}
+use Rattle.cnb_lifecycle.proofs.FitSteps.{by_allows, Counts, counts_bind, counts_child, counts_each, counts_exec}
+use Rattle.cnb_lifecycle.proofs.FitSteps.{given_then, Looks, looks_bind, looks_each, looks_gives, looks_reads}
+use Rattle.cnb_lifecycle.proofs.FitSteps.{looks_told, looks_yields, Minds, minds_bind, minds_counts, minds_looks}
+use Rattle.cnb_lifecycle.proofs.FitSteps.{minds_told, minds_writes, minds_yields, narrow, reads_then, still, told_then}
+use Rattle.cnb_lifecycle.proofs.FitSteps.{unmoved}
 use Rattle.cnb_lifecycle.proofs.ExportFits.{export_minds}
-use Rattle.cnb_lifecycle.proofs.PutFits.{begin_kept, child_longer, file_kept, joined_within, not_root, tree_longer, trees_long, write_kept}
+use Rattle.cnb_lifecycle.proofs.PutFits.{begin_kept, child_longer, file_kept, joined_within, not_root, tree_longer}
+use Rattle.cnb_lifecycle.proofs.PutFits.{trees_long, write_kept}
 use Rattle.cnb_lifecycle.proofs.UnpackFits.{unpack_minds}
 use Rattle.cnb_lifecycle.proofs.RestoreFits.{restore_minds}
 use Rattle.cnb_lifecycle.proofs.WordLaws.{HasPaths}

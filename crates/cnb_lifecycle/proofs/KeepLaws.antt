@@ -2,9 +2,11 @@
 use Rattle.std.proofs.Common.{◌≡◌, refl, sym, subst, ℕ, true, List, [], Option, Some, None, Result, Ok, Err, inl, inr}
 use Rattle.cnb_create.specs.Apart.{are_apart}
 use Rattle.cnb_create.specs.Surroundings.{Surroundings, caches_beside, over_caches, over_world, surroundings}
-use Rattle.cnb_create.proofs.CreateLaws.{refused_keeps, refused_run_write, refused_told, refused_write, trees_apart, trees_apart_from_run}
+use Rattle.cnb_create.proofs.CreateLaws.{refused_keeps, refused_run_write, refused_told, refused_write, trees_apart}
+use Rattle.cnb_create.proofs.CreateLaws.{trees_apart_from_run}
 use Rattle.cnb_create.proofs.ExportLaws.{keeps_exports}
-use Rattle.cnb_create.proofs.KeepLemmas.{KeepsIn, KeepsRefused, cached_in_world, cached_world, in_each, in_gives, in_told, refused_bind, refused_where}
+use Rattle.cnb_create.proofs.KeepLemmas.{KeepsIn, KeepsRefused, cached_in_world, cached_world, in_each, in_gives}
+use Rattle.cnb_create.proofs.KeepLemmas.{in_told, refused_bind, refused_where}
 use Rattle.cnb_create.proofs.PutLemmas.{keeps_puts_folder}
 use Rattle.cnb_export.specs.Command.{exports_command, exports_given, finishes_export, saves_readable_image}
 use Rattle.cnb_export.specs.Given.{frame_of, reads_given, reads_group, reads_needed, refusal_cause}
@@ -24,7 +26,8 @@ use Rattle.cnb_words.specs.declared.base.BaseWords.{BaseWords}
 use Rattle.cnb_words.specs.declared.export.ExportWords.{ExportWords}
 use Rattle.cnb_words.specs.declared.rebase.RebaseWords.{RebaseWords}
 use Rattle.cnb_words.specs.declared.words.Asked.{Asked}
-use Rattle.cnb_words.specs.declared.words.Asked.TheVariants.{Detect, Analyze, Restore, Build, Export, Create, Rebase, Base, Unpack, Show, Prune, Verify, Check, Drill, Launch}
+use Rattle.cnb_words.specs.declared.words.Asked.TheVariants.{Detect, Analyze, Restore, Build, Export, Create, Rebase}
+use Rattle.cnb_words.specs.declared.words.Asked.TheVariants.{Base, Unpack, Show, Prune, Verify, Check, Drill, Launch}
 use Rattle.cnb_world.specs.declared.env.Variable.{Variable}
 use Rattle.image_docs.specs.declared.image.ImageDoc.{ImageDoc}
 use Rattle.image_docs.specs.declared.run_image.RunDoc.{RunDoc}
@@ -34,7 +37,8 @@ use Rattle.shelf_set.specs.Caches.{caches_of, in_world}
 use Rattle.shelf_set.specs.ShelfState.{ShelfState}
 use Rattle.steps.specs.Outside.{Outside, Seen}
 use Rattle.steps.specs.Steps.{◌>>=◌, gives, map_err, yields}
-use Rattle.steps.proofs.FrameLaws.{Preserves, keeps_bind, keeps_gives, keeps_reads, keeps_same, keeps_then, keeps_told, keeps_yields}
+use Rattle.steps.proofs.FrameLaws.{Preserves, keeps_bind, keeps_gives, keeps_reads, keeps_same, keeps_then, keeps_told}
+use Rattle.steps.proofs.FrameLaws.{keeps_yields}
 use Rattle.tree_store.specs.Answers as tree_store
 use Rattle.tree_store.specs.Writing.{trees_of}
 use Rattle.cnb_lifecycle.specs.declared.answer.Answer.{Answer}

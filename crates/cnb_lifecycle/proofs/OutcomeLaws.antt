@@ -10,7 +10,8 @@ use Rattle.cnb_record.proofs.RecordLaws.{comes_to_recorded}
 use Rattle.cnb_words.specs.RecordPath.{is_record_path}
 use Rattle.cnb_words.specs.declared.choice.ChoiceWords.{ChoiceWords}
 use Rattle.cnb_words.specs.declared.words.Asked.{Asked}
-use Rattle.cnb_words.specs.declared.words.Asked.TheVariants.{Detect, Analyze, Restore, Build, Export, Create, Rebase, Base, Unpack, Show, Prune, Verify, Check, Drill, Launch}
+use Rattle.cnb_words.specs.declared.words.Asked.TheVariants.{Detect, Analyze, Restore, Build, Export, Create, Rebase}
+use Rattle.cnb_words.specs.declared.words.Asked.TheVariants.{Base, Unpack, Show, Prune, Verify, Check, Drill, Launch}
 use Rattle.cnb_world.specs.Path.{is_path}
 use Rattle.cnb_world.specs.declared.env.Variable.{Variable}
 use Rattle.shelf_set.specs.ShelfState.{ShelfState}
@@ -20,7 +21,8 @@ use Rattle.cnb_lifecycle.specs.declared.answer.Answer.{Answer}
 use Rattle.cnb_lifecycle.specs.declared.answer.Answer.TheVariants.{Printed}
 use Rattle.cnb_lifecycle.specs.declared.refusal.Refusal.{Refusal}
 use Rattle.cnb_lifecycle.specs.declared.status.Status.{Status}
-use Rattle.cnb_lifecycle.specs.Commands.{On, after_words, asked_of, does, options_in, options_of_create, options_of_detect}
+use Rattle.cnb_lifecycle.specs.Commands.{On, after_words, asked_of, does, options_in, options_of_create}
+use Rattle.cnb_lifecycle.specs.Commands.{options_of_detect}
 use Rattle.cnb_lifecycle.specs.Detecting.{ComesToWords, comes_into, detects_into}
 use Rattle.cnb_lifecycle.specs.Ends.{Ends}
 use Rattle.cnb_lifecycle.specs.Faults.{of_detect}

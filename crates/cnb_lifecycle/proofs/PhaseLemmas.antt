@@ -42,7 +42,9 @@ use Rattle.store_prune.specs.declared.fault.VerifyFault.{VerifyFault}
 use Rattle.store_prune.specs.declared.fault.VerifyFault.TheVariants as verify
 use Rattle.cnb_lifecycle.specs.Faults.{cause_of}
 use Rattle.cnb_lifecycle.proofs.CauseLemmas.{same_cause}
-use Rattle.cnb_lifecycle.specs.PhaseFaults.{of_base, of_build, of_check, of_create, of_export, of_export_fault, of_image, of_launch, of_prune, of_rebase, of_restore, of_restore_refusal, of_store, of_verify}
+use Rattle.cnb_lifecycle.specs.PhaseFaults.{of_base, of_build, of_check, of_create, of_export, of_export_fault}
+use Rattle.cnb_lifecycle.specs.PhaseFaults.{of_image, of_launch, of_prune, of_rebase, of_restore, of_restore_refusal}
+use Rattle.cnb_lifecycle.specs.PhaseFaults.{of_store, of_verify}
 
 pub build_cause : (fault : BuildFault) → cause_of (of_build fault) ≡ building.cause_of fault
 build_cause (build.BuildFailed id code) = refl

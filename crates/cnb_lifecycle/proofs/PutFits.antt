@@ -1,5 +1,7 @@
 -- Where folders' trees and then a run image's document may be written, they may be written behind a tree that was put.
-use Rattle.std.proofs.Common.{◌≡◌, ◌∙◌, refl, sym, ap, subst, arith, ℕ, ◌+◌, ◌<◌, ◌≤◌, Bool, true, false, cond, not, ◌&&◌, ◌||◌, ◌==◌, List, [], ◌∷◌, ◌++◌, codes, length, length-append, is_some, Option, Some, None}
+use Rattle.std.proofs.Common.{◌≡◌, ◌∙◌, refl, sym, ap, subst, arith, ℕ, ◌+◌, ◌<◌, ◌≤◌, Bool, true, false, cond, not}
+use Rattle.std.proofs.Common.{◌&&◌, ◌||◌, ◌==◌, List, [], ◌∷◌, ◌++◌, codes, length, length-append, is_some, Option}
+use Rattle.std.proofs.Common.{Some, None}
 use Rattle.std.specs.List.{list_all, list_any}
 use Rattle.std.specs.Str.{bytes_eq}
 use Rattle.std.specs.FinMap.{get, insert, remove}
@@ -9,7 +11,8 @@ use Rattle.cnb_world.proofs.EffectLemmas.{same_path}
 use Rattle.cnb_world.proofs.Folders.{get-folder_made_longer, get-with_folders, get-without}
 use Rattle.cnb_world.proofs.Trees.{bytes_eq-other, get-insert_bytes, get-remove_bytes}
 use Rattle.cnb_world.specs.Path.{beside, joined, parent_of}
-use Rattle.cnb_world.specs.Tree.{Tree, can_make_folder, folder_made, folders_above, folders_from, is_file_or_absent, is_folder, is_root, is_within, item_at, without}
+use Rattle.cnb_world.specs.Tree.{Tree, can_make_folder, folder_made, folders_above, folders_from, is_file_or_absent}
+use Rattle.cnb_world.specs.Tree.{is_folder, is_root, is_within, item_at, without}
 use Rattle.cnb_world.specs.Whole.{can_write}
 use Rattle.cnb_world.specs.declared.world.Item.{Item}
 use Rattle.cnb_world.specs.declared.world.Item.TheVariants.{File, Folder}

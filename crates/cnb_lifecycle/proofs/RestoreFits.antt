@@ -1,5 +1,7 @@
 -- Where the files and the caches fit `restore`, it makes no call on a path of the wrong kind.
-use Rattle.std.proofs.Common.{◌≡◌, ◌≢◌, ◌∙◌, refl, sym, ap, subst, arith, ℕ, ◌-◌, ◌<◌, ◌≤◌, Bool, true, false, not, cond, ◌&&◌, ◌||◌, ◌⊎◌, List, [], ◌∷◌, ◌++◌, append_assoc, codes, map, nat_le, length, length-append, nat_eq, is_some, Option, Some, None, Result, Ok, Err, inl, inr, ◌+◌}
+use Rattle.std.proofs.Common.{◌≡◌, ◌≢◌, ◌∙◌, refl, sym, ap, subst, arith, ℕ, ◌-◌, ◌<◌, ◌≤◌, Bool, true, false, not}
+use Rattle.std.proofs.Common.{cond, ◌&&◌, ◌||◌, ◌⊎◌, List, [], ◌∷◌, ◌++◌, append_assoc, codes, map, nat_le, length}
+use Rattle.std.proofs.Common.{length-append, nat_eq, is_some, Option, Some, None, Result, Ok, Err, inl, inr, ◌+◌}
 use Rattle.std.proofs.Math.Seq.{drop-append_seam}
 use Rattle.std.proofs.lemmas.Bool.{and_from, and_parts, leb-true}
 use Rattle.std.proofs.lemmas.Cmp.{nat_list_cmp_total}
@@ -17,11 +19,14 @@ use Rattle.std.specs.Str.{bytes_eq}
 use Rattle.std.specs.declared.cmp.Ordering.{Ordering}
 use Rattle.std.specs.declared.cmp.Ordering.TheVariants.{Equal, Greater, Less}
 use Rattle.cnb_restore.specs.Analyzes.{image_found, is_fit_image, previous_in, some_named}
-use Rattle.cnb_restore.specs.Commands.{analyzed_at, group_at, group_document, needed, refusal_cause, restores_analyzed, restores_command}
+use Rattle.cnb_restore.specs.Commands.{analyzed_at, group_at, group_document, needed, refusal_cause, restores_analyzed}
+use Rattle.cnb_restore.specs.Commands.{restores_command}
 use Rattle.cnb_restore.specs.Faults.{cause_of, of_laying_fault, of_read_fault}
 use Rattle.cnb_restore.specs.Images.{layers_of}
 use Rattle.cnb_restore.specs.Layers.{lays_contents, writes_layer, writes_store}
-use Rattle.cnb_restore.specs.Restores.{prepares_folder, restores, restores_buildpack, restores_contents, restores_document, restores_each, restores_found, restores_group, restores_laid, restores_layer, restores_layers, restores_part, restores_rows}
+use Rattle.cnb_restore.specs.Restores.{prepares_folder, restores, restores_buildpack, restores_contents}
+use Rattle.cnb_restore.specs.Restores.{restores_document, restores_each, restores_found, restores_group, restores_laid}
+use Rattle.cnb_restore.specs.Restores.{restores_layer, restores_layers, restores_part, restores_rows}
 use Rattle.cnb_restore.specs.Rows.{layer_names, row_of, rows_of, source_of}
 use Rattle.cnb_restore.specs.declared.fault.RestoreFault.{RestoreFault}
 use Rattle.cnb_restore.specs.declared.refusal.RestoreRefusal.{RestoreRefusal}
@@ -40,7 +45,8 @@ use Rattle.cnb_toml.specs.Names.{folder_of, is_bp_id, is_bp_version, is_layer_na
 use Rattle.cnb_toml.specs.Reading.{under}
 use Rattle.cnb_toml.specs.Rows.{RowForm, rows_in, rows_of as toml_rows_of}
 use Rattle.cnb_toml.specs.declared.fault.DocFault.{DocFault}
-use Rattle.cnb_toml.specs.declared.fault.DocFault.TheVariants.{Absent, Memory, MetaKind, Missing, Name, NotToml, NotUtf8, Wrong}
+use Rattle.cnb_toml.specs.declared.fault.DocFault.TheVariants.{Absent, Memory, MetaKind, Missing, Name, NotToml}
+use Rattle.cnb_toml.specs.declared.fault.DocFault.TheVariants.{NotUtf8, Wrong}
 use Rattle.cnb_words.specs.declared.restore.RestoreWords.{RestoreWords}
 use Rattle.cnb_restore.specs.Commands.{group_document}
 use Rattle.cnb_world.proofs.EffectLemmas.{emptied_elsewhere, emptied_here, same_path}
@@ -52,7 +58,8 @@ use Rattle.cnb_world.proofs.Trees.{bytes_eq-other, bytes_eq-same, get-insert_byt
 use Rattle.cnb_world.specs.Calls.{MayMisuse}
 use Rattle.cnb_world.specs.Path.{beside, is_part, is_path, is_short_path, joined, parent_of}
 use Rattle.cnb_world.specs.Shelf.{Held}
-use Rattle.cnb_world.specs.Tree.{Tree, can_make_folder, folder_made, folders_above, is_file_or_absent, is_folder, is_root, is_within, item_at, without}
+use Rattle.cnb_world.specs.Tree.{Tree, can_make_folder, folder_made, folders_above, is_file_or_absent, is_folder}
+use Rattle.cnb_world.specs.Tree.{is_root, is_within, item_at, without}
 use Rattle.cnb_world.specs.Whole.{can_write, written}
 use Rattle.cnb_world.specs.declared.world.Item.{Item}
 use Rattle.cnb_world.specs.declared.world.Item.TheVariants.{File, Folder}
@@ -98,12 +105,14 @@ use Rattle.tree_canon.specs.declared.node.Node.{Node}
 use Rattle.tree_store.proofs.Apart.{item_kept, made_above, siblings_apart}
 use Rattle.tree_store.proofs.Around.{at_one}
 use Rattle.tree_store.proofs.Blames.{within_child, within_itself}
-use Rattle.tree_store.proofs.Places.{above_child, child_not_root, is_at_or_below, longer_child, made_length, name_in, named, not_below, or_from, or_parts, or_right, part_form, shorter_away}
+use Rattle.tree_store.proofs.Places.{above_child, child_not_root, is_at_or_below, longer_child, made_length, name_in}
+use Rattle.tree_store.proofs.Places.{named, not_below, or_from, or_parts, or_right, part_form, shorter_away}
 use Rattle.tree_store.specs.Around.{IsMadeAbove, KeepsAround, KeptAround}
 use Rattle.tree_store.specs.Overlay.{is_folder_node}
 use Rattle.tree_store.specs.Steps.{can_lay, lays_tree}
 use Rattle.cnb_lifecycle.proofs.FitSteps.{by_allows, narrow}
-use Rattle.cnb_lifecycle.specs.Fitting.{FitsRestore, NoMisuse, have_plain_names, is_document_like, is_plain_row, is_plain_shelf, tells_plain_names}
+use Rattle.cnb_lifecycle.specs.Fitting.{FitsRestore, NoMisuse, have_plain_names, is_document_like, is_plain_row}
+use Rattle.cnb_lifecycle.specs.Fitting.{is_plain_shelf, tells_plain_names}
 use Rattle.cnb_restore.specs.Analyzes.{is_fit_image}
 use Rattle.image_files.specs.Documents.{is_fit_document}
 use Rattle.image_files.specs.Target.{analyzed_document}

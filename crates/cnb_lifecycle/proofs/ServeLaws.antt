@@ -1,6 +1,7 @@
 -- Steps that run children: where the files fit, and each child leaves files that fit, they make no call on a path of
 -- the wrong kind, and leave files that fit.
-use Rattle.std.proofs.Common.{◌≡◌, ◌∙◌, sym, ap, subst, ℕ, Bool, List, [], ◌∷◌, ◌++◌, append-nil, append_assoc, Option, Some, None, Result, Ok, Err, inl, inr}
+use Rattle.std.proofs.Common.{◌≡◌, ◌∙◌, sym, ap, subst, ℕ, Bool, List, [], ◌∷◌, ◌++◌, append-nil, append_assoc, Option}
+use Rattle.std.proofs.Common.{Some, None, Result, Ok, Err, inl, inr}
 use Rattle.std.specs.Prelude.{IfOk, IfSome, IsTrue}
 use Rattle.std.specs.List.{AllByRecursion}
 use Rattle.std.specs.Option.{option_map}

@@ -1,5 +1,6 @@
 -- Images that have an application in slices, or whole, are unpacked to the same files.
-use Rattle.std.proofs.Common.{◌≡◌, ◌∙◌, refl, sym, ap, subst, ℕ, true, List, [], ◌∷◌, ◌++◌, map, Option, Some, None, Result, Ok}
+use Rattle.std.proofs.Common.{◌≡◌, ◌∙◌, refl, sym, ap, subst, ℕ, true, List, [], ◌∷◌, ◌++◌, map, Option, Some, None}
+use Rattle.std.proofs.Common.{Result, Ok}
 use Rattle.std.specs.Prelude.{IfOk, IsTrue}
 use Rattle.std.specs.List.{AllByRecursion, fold, list_all}
 use Rattle.std.specs.Option.{option_map}

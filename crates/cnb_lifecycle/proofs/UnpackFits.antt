@@ -1,6 +1,8 @@
 -- Where the files fit `unpack`, each row of the image leaves files over which the next one may be laid, and then the
 -- document of the launch.
-use Rattle.std.proofs.Common.{◌≡◌, ◌∙◌, refl, sym, ap, subst, arith, ℕ, suc, ◌+◌, ◌<◌, ◌≤◌, Bool, true, false, cond, not, ◌||◌, ◌⊎◌, inl, inr, List, [], ◌∷◌, ◌++◌, append_assoc, drop, get_or, length, length-append, nat_eq, is_some, Option, Some, None, Result, Ok, Err}
+use Rattle.std.proofs.Common.{◌≡◌, ◌∙◌, refl, sym, ap, subst, arith, ℕ, suc, ◌+◌, ◌<◌, ◌≤◌, Bool, true, false, cond}
+use Rattle.std.proofs.Common.{not, ◌||◌, ◌⊎◌, inl, inr, List, [], ◌∷◌, ◌++◌, append_assoc, drop, get_or, length}
+use Rattle.std.proofs.Common.{length-append, nat_eq, is_some, Option, Some, None, Result, Ok, Err}
 use Rattle.std.specs.Prelude.{All, IfOk, IfSome, IsTrue, nat_le}
 use Rattle.std.specs.List.{list_all, list_any, starts_with}
 use Rattle.std.specs.Option.{option_map}
@@ -12,7 +14,8 @@ use Rattle.std.proofs.lemmas.Slice.Eq.{bytes_eq-Decides}
 use Rattle.cnb_env.specs.Files.{is_absent}
 use Rattle.cnb_launch.specs.Commands.{unpacks_command}
 use Rattle.cnb_launch.specs.Faults as launching
-use Rattle.cnb_launch.specs.Unpacking.{ReadsAs, file_of, if_absent, launch_doc_place, lays_image, lays_launch, lays_row, makes, unpacks}
+use Rattle.cnb_launch.specs.Unpacking.{ReadsAs, file_of, if_absent, launch_doc_place, lays_image, lays_launch, lays_row}
+use Rattle.cnb_launch.specs.Unpacking.{makes, unpacks}
 use Rattle.cnb_launch.specs.declared.fault.LaunchFault.{LaunchFault}
 use Rattle.cnb_launch.specs.declared.fault.LaunchFault.TheVariants.{Exists}
 use Rattle.cnb_toml.specs.Document.{document_of}
@@ -23,7 +26,8 @@ use Rattle.cnb_world.proofs.EffectLemmas.{set_here}
 use Rattle.cnb_world.proofs.Parents.{some_part}
 use Rattle.cnb_world.proofs.Trees.{bytes_eq-same}
 use Rattle.cnb_world.specs.Path.{are_parts, is_path, is_short_path, joined}
-use Rattle.cnb_world.specs.Tree.{Tree, bytes_of, can_be_folders, can_make_folder, folders_above, is_file_or_absent, is_folder, is_root, is_under, is_within, item_at, kind_of}
+use Rattle.cnb_world.specs.Tree.{Tree, bytes_of, can_be_folders, can_make_folder, folders_above, is_file_or_absent}
+use Rattle.cnb_world.specs.Tree.{is_folder, is_root, is_under, is_within, item_at, kind_of}
 use Rattle.cnb_world.specs.declared.world.Item.{Item}
 use Rattle.cnb_world.specs.declared.world.Item.TheVariants as item
 use Rattle.doc_files.specs.Faults.{read_cause}
@@ -57,15 +61,18 @@ use Rattle.tree_canon.specs.declared.node.Node.TheViews.{roll-Node}
 use Rattle.tree_store.proofs.Apart.{above_begins, item_kept}
 use Rattle.tree_store.proofs.Blames.{within_itself}
 use Rattle.tree_store.proofs.Overlays.{items_in, plain_placed}
-use Rattle.tree_store.proofs.Places.{below_length, not_below, or_from, or_parts, shorter_away, starts_itself, starts_split}
+use Rattle.tree_store.proofs.Places.{below_length, not_below, or_from, or_parts, shorter_away, starts_itself}
+use Rattle.tree_store.proofs.Places.{starts_split}
 use Rattle.tree_store.specs.Around.{IsMadeAbove, KeepsAround, KeptAround}
-use Rattle.tree_store.specs.Overlay.{Given, Giving, folder_at, folder_step, give_entry_step, give_step, is_folder_node, items_of, items_under, lay, parts_of, tree_laid, way_parts}
+use Rattle.tree_store.specs.Overlay.{Given, Giving, folder_at, folder_step, give_entry_step, give_step, is_folder_node}
+use Rattle.tree_store.specs.Overlay.{items_of, items_under, lay, parts_of, tree_laid, way_parts}
 use Rattle.tree_store.specs.Steps.{can_lay, can_place, gets_tree, lays_kept, lays_stored, lays_tree}
 use Rattle.tree_store.specs.Store.{Gets, tree_path}
 use Rattle.tree_store.specs.Writing.{AreApart, trees_of}
 use Rattle.cnb_lifecycle.specs.Fitting.{FitsUnpack, LaysFolder, NoMisuse}
 use Rattle.cnb_lifecycle.proofs.FitPasses.{Goes, Passes, goes_bind, goes_looks, minds_behind}
-use Rattle.cnb_lifecycle.proofs.FitSteps.{Looks, Minds, by_allows, join, looks_gives, looks_reads, looks_yields, minds_bind, minds_told, minds_yields, narrow, unmoved, with_known}
+use Rattle.cnb_lifecycle.proofs.FitSteps.{Looks, Minds, by_allows, join, looks_gives, looks_reads, looks_yields}
+use Rattle.cnb_lifecycle.proofs.FitSteps.{minds_bind, minds_told, minds_yields, narrow, unmoved, with_known}
 use Rattle.cnb_lifecycle.proofs.PutFits.{not_root, trees_long}
 
 -- ---- paths apart

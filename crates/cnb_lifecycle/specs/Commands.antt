@@ -5,7 +5,8 @@ use Rattle.cnb_world.specs.declared.env.Variable.{Variable}
 use Rattle.cnb_world.specs.Env.{value_of}
 use Rattle.cnb_words.specs.Words.{asked_by}
 use Rattle.cnb_words.specs.declared.words.Asked.{Asked}
-use Rattle.cnb_words.specs.declared.words.Asked.TheVariants.{Detect, Analyze, Restore, Build, Export, Create, Rebase, Base, Unpack, Show, Prune, Verify, Check, Drill, Launch}
+use Rattle.cnb_words.specs.declared.words.Asked.TheVariants.{Detect, Analyze, Restore, Build, Export, Create, Rebase}
+use Rattle.cnb_words.specs.declared.words.Asked.TheVariants.{Base, Unpack, Show, Prune, Verify, Check, Drill, Launch}
 use Rattle.cnb_words.specs.declared.create.CreateWords.{CreateWords}
 use Rattle.cnb_words.specs.declared.detect.DetectWords.{DetectWords}
 use Rattle.cnb_words.specs.declared.fault.WordsFault.{WordsFault}
@@ -14,7 +15,8 @@ use Rattle.cnb_lifecycle.specs.declared.answer.Answer.TheVariants.{Printed, Laun
 use Rattle.cnb_lifecycle.specs.declared.refusal.Refusal.{Refusal}
 use Rattle.cnb_lifecycle.specs.declared.refusal.Refusal.TheVariants.{PlatformApi}
 use Rattle.cnb_lifecycle.specs.Faults.{cause_of, of_detect, of_words_fault}
-use Rattle.cnb_lifecycle.specs.PhaseFaults.{of_base, of_build, of_check, of_create, of_export, of_image, of_launch, of_prune, of_rebase, of_restore, of_restore_refusal, of_verify}
+use Rattle.cnb_lifecycle.specs.PhaseFaults.{of_base, of_build, of_check, of_create, of_export, of_image, of_launch}
+use Rattle.cnb_lifecycle.specs.PhaseFaults.{of_prune, of_rebase, of_restore, of_restore_refusal, of_verify}
 use Rattle.cnb_create.specs.Surroundings.{Surroundings, over_caches, over_outside, over_world}
 use Rattle.cnb_lifecycle.specs.Detecting.{detects_words}
 use Rattle.cnb_lifecycle.specs.Telling.{tells}

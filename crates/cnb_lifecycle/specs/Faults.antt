@@ -5,7 +5,13 @@ use Rattle.cnb_detect.specs.declared.refusal.DetectRefusal.{DetectRefusal}
 use Rattle.cnb_detect.specs.declared.refusal.DetectRefusal.TheVariants as detect
 use Rattle.steps.specs.Causes.{Cause, FileFailed, ChildFailed, OutOfMemory, Decided}
 use Rattle.cnb_lifecycle.specs.declared.refusal.Refusal.{Refusal}
-use Rattle.cnb_lifecycle.specs.declared.refusal.Refusal.TheVariants.{Usage, File, Memory, Document, Child, Limit, OddFile, PlatformApi, BuildpackApi, Order, NoTree, Exists, NoGroup, BadRecord, RecordDiffers, Damaged, NoImage, BuildFailed, UnknownUnmet, NoContents, Clash, NoPrevious, TwoDefaults, BadPattern, TopDiffers, TargetDiffers, ShellProcess, NoProcess, ExecFailed, BadExecOutput}
+use Rattle.cnb_lifecycle.specs.declared.refusal.Refusal.TheVariants.{Usage, File, Memory, Document, Child, Limit}
+use Rattle.cnb_lifecycle.specs.declared.refusal.Refusal.TheVariants.{OddFile, PlatformApi, BuildpackApi, Order, NoTree}
+use Rattle.cnb_lifecycle.specs.declared.refusal.Refusal.TheVariants.{Exists, NoGroup, BadRecord, RecordDiffers, Damaged}
+use Rattle.cnb_lifecycle.specs.declared.refusal.Refusal.TheVariants.{NoImage, BuildFailed, UnknownUnmet, NoContents}
+use Rattle.cnb_lifecycle.specs.declared.refusal.Refusal.TheVariants.{Clash, NoPrevious, TwoDefaults, BadPattern}
+use Rattle.cnb_lifecycle.specs.declared.refusal.Refusal.TheVariants.{TopDiffers, TargetDiffers, ShellProcess, NoProcess}
+use Rattle.cnb_lifecycle.specs.declared.refusal.Refusal.TheVariants.{ExecFailed, BadExecOutput}
 
 abbrev pub of_words_fault : WordsFault → Refusal
 of_words_fault words.Usage = Usage

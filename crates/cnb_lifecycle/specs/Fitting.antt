@@ -1,5 +1,6 @@
 -- Where a command makes no call on a path of the wrong kind: no file is listed, no folder read or written over.
-use Rattle.std.specs.Prelude.{ℕ, ◌≡◌, true, false, All, List, IfOk, IfSome, IsTrue, is_some, codes, Bool, not, [], Option, Some, nat_eq, unwrap_or, ◌++◌}
+use Rattle.std.specs.Prelude.{ℕ, ◌≡◌, true, false, All, List, IfOk, IfSome, IsTrue, is_some, codes, Bool, not, []}
+use Rattle.std.specs.Prelude.{Option, Some, nat_eq, unwrap_or, ◌++◌}
 use Rattle.cnb_create.specs.Apart.{are_apart}
 use Rattle.cnb_create.specs.Creates.{previous_name}
 use Rattle.std.specs.List.{ends_with, list_all, AllByRecursion}
@@ -37,9 +38,11 @@ use Rattle.cnb_words.specs.declared.show.ShowWords.{ShowWords}
 use Rattle.cnb_words.specs.declared.unpack.UnpackWords.{UnpackWords}
 use Rattle.cnb_words.specs.declared.verify.VerifyWords.{VerifyWords}
 use Rattle.cnb_words.specs.declared.words.Asked.{Asked}
-use Rattle.cnb_words.specs.declared.words.Asked.TheVariants.{Detect, Analyze, Restore, Build, Export, Create, Rebase, Base, Unpack, Show, Prune, Verify, Check, Drill, Launch}
+use Rattle.cnb_words.specs.declared.words.Asked.TheVariants.{Detect, Analyze, Restore, Build, Export, Create, Rebase}
+use Rattle.cnb_words.specs.declared.words.Asked.TheVariants.{Base, Unpack, Show, Prune, Verify, Check, Drill, Launch}
 use Rattle.cnb_world.specs.Path.{beside, is_short_path, joined, parent_of}
-use Rattle.cnb_world.specs.Tree.{Tree, bytes_of, can_be_folders, can_list, folders_above, is_file_or_absent, is_root, is_within, item_at, can_make_folder}
+use Rattle.cnb_world.specs.Tree.{Tree, bytes_of, can_be_folders, can_list, folders_above, is_file_or_absent, is_root}
+use Rattle.cnb_world.specs.Tree.{is_within, item_at, can_make_folder}
 use Rattle.cnb_world.specs.Runs.{Run}
 use Rattle.cnb_world.specs.Whole.{can_write, written}
 use Rattle.image_docs.specs.declared.row.Row.{Row}

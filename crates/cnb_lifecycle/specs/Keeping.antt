@@ -2,7 +2,8 @@
 use Rattle.std.specs.Prelude.{IsTrue}
 use Rattle.cnb_create.specs.Apart.{image_document, is_image_apart}
 use Rattle.cnb_words.specs.declared.words.Asked.{Asked}
-use Rattle.cnb_words.specs.declared.words.Asked.TheVariants.{Detect, Analyze, Restore, Build, Export, Create, Rebase, Base, Unpack, Show, Prune, Verify, Check, Drill, Launch}
+use Rattle.cnb_words.specs.declared.words.Asked.TheVariants.{Detect, Analyze, Restore, Build, Export, Create, Rebase}
+use Rattle.cnb_words.specs.declared.words.Asked.TheVariants.{Base, Unpack, Show, Prune, Verify, Check, Drill, Launch}
 use Rattle.image_files.specs.Paths.{image_path, run_path}
 use Rattle.steps.specs.Frames.{Keeps}
 use Rattle.steps.specs.Outside.{Seen}

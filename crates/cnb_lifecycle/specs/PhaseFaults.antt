@@ -29,7 +29,12 @@ use Rattle.store_prune.specs.declared.fault.VerifyFault.{VerifyFault}
 use Rattle.store_prune.specs.declared.fault.VerifyFault.TheVariants as verify
 use Rattle.cnb_lifecycle.specs.Faults.{of_detect}
 use Rattle.cnb_lifecycle.specs.declared.refusal.Refusal.{Refusal}
-use Rattle.cnb_lifecycle.specs.declared.refusal.Refusal.TheVariants.{File, Memory, Document, Child, Limit, OddFile, BuildpackApi, Order, NoTree, Exists, BadRecord, RecordDiffers, Damaged, NoImage, BuildFailed, UnknownUnmet, NoContents, Clash, NoPrevious, TwoDefaults, BadPattern, TopDiffers, TargetDiffers, ShellProcess, NoProcess, ExecFailed, BadExecOutput}
+use Rattle.cnb_lifecycle.specs.declared.refusal.Refusal.TheVariants.{File, Memory, Document, Child, Limit, OddFile}
+use Rattle.cnb_lifecycle.specs.declared.refusal.Refusal.TheVariants.{BuildpackApi, Order, NoTree, Exists, BadRecord}
+use Rattle.cnb_lifecycle.specs.declared.refusal.Refusal.TheVariants.{RecordDiffers, Damaged, NoImage, BuildFailed}
+use Rattle.cnb_lifecycle.specs.declared.refusal.Refusal.TheVariants.{UnknownUnmet, NoContents, Clash, NoPrevious}
+use Rattle.cnb_lifecycle.specs.declared.refusal.Refusal.TheVariants.{TwoDefaults, BadPattern, TopDiffers, TargetDiffers}
+use Rattle.cnb_lifecycle.specs.declared.refusal.Refusal.TheVariants.{ShellProcess, NoProcess, ExecFailed, BadExecOutput}
 
 abbrev pub of_build : BuildFault → Refusal
 of_build (build.BuildFailed id code) = BuildFailed id code

@@ -3,11 +3,18 @@ use Rattle.std.specs.Prelude.{ℕ, ℤ, true, false, List, [], ◌∷◌, ◌++�
 use Rattle.std.specs.Fmt.{decimal, signed_decimal}
 use Rattle.hex.specs.Hex.{encode_lower}
 use Rattle.cnb_world.specs.declared.limits.LimitKind.{LimitKind}
-use Rattle.cnb_world.specs.declared.limits.LimitKind.TheVariants.{Groups, Entries, Nesting, Trials, Tree, Depth, Document as DocumentLimit, Record}
+use Rattle.cnb_world.specs.declared.limits.LimitKind.TheVariants.{Groups, Entries, Nesting, Trials, Tree, Depth}
+use Rattle.cnb_world.specs.declared.limits.LimitKind.TheVariants.{Document as DocumentLimit, Record}
 use Rattle.cnb_toml.specs.declared.fault.DocFault.{DocFault}
 use Rattle.cnb_toml.specs.declared.fault.DocFault.TheVariants as fault
 use Rattle.cnb_lifecycle.specs.declared.refusal.Refusal.{Refusal}
-use Rattle.cnb_lifecycle.specs.declared.refusal.Refusal.TheVariants.{Usage, File, Memory, Document, Child, Limit, OddFile, PlatformApi, BuildpackApi, Order, NoTree, Exists, NoGroup, BadRecord, RecordDiffers, Damaged, NoImage, BuildFailed, UnknownUnmet, NoContents, Clash, NoPrevious, TwoDefaults, BadPattern, TopDiffers, TargetDiffers, ShellProcess, NoProcess, ExecFailed, BadExecOutput}
+use Rattle.cnb_lifecycle.specs.declared.refusal.Refusal.TheVariants.{Usage, File, Memory, Document, Child, Limit}
+use Rattle.cnb_lifecycle.specs.declared.refusal.Refusal.TheVariants.{OddFile, PlatformApi, BuildpackApi, Order, NoTree}
+use Rattle.cnb_lifecycle.specs.declared.refusal.Refusal.TheVariants.{Exists, NoGroup, BadRecord, RecordDiffers, Damaged}
+use Rattle.cnb_lifecycle.specs.declared.refusal.Refusal.TheVariants.{NoImage, BuildFailed, UnknownUnmet, NoContents}
+use Rattle.cnb_lifecycle.specs.declared.refusal.Refusal.TheVariants.{Clash, NoPrevious, TwoDefaults, BadPattern}
+use Rattle.cnb_lifecycle.specs.declared.refusal.Refusal.TheVariants.{TopDiffers, TargetDiffers, ShellProcess, NoProcess}
+use Rattle.cnb_lifecycle.specs.declared.refusal.Refusal.TheVariants.{ExecFailed, BadExecOutput}
 
 abbrev pub code_of : Refusal → ℕ
 code_of Usage = 1

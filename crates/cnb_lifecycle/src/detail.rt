@@ -3,7 +3,8 @@ ghost use Rattle.std.specs.Prelude.{◌≡◌, IfOk};
 ghost use Rattle.std.specs.Fmt.{decimal};
 ghost use Rattle.std.specs.Option.{option_map};
 ghost use Rattle.hex.specs.Hex.{encode_lower};
-ghost use Rattle.cnb_lifecycle.specs.Refusal.{code_text, detail_of, fault_name, fault_path, layer_text, limit_name, spaced, unless_empty};
+ghost use Rattle.cnb_lifecycle.specs.Refusal.{code_text, detail_of, fault_name, fault_path, layer_text, limit_name};
+ghost use Rattle.cnb_lifecycle.specs.Refusal.{spaced, unless_empty};
 
 use crate::refusal::Refusal;
 use cnb_toml::{BpId, DocFault, LayerName};

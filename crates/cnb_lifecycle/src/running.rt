@@ -23,7 +23,8 @@ ghost use Rattle.store_prune.specs.Verifies.{verifies_command};
 ghost use Rattle.cnb_lifecycle.specs.Detecting.{detects_into, detects_words};
 ghost use Rattle.cnb_lifecycle.specs.Ends.{CountsChild};
 ghost use Rattle.cnb_lifecycle.specs.Faults.{cause_of, of_detect};
-ghost use Rattle.cnb_lifecycle.specs.PhaseFaults.{of_base, of_build, of_check, of_image, of_prune, of_rebase, of_restore, of_verify};
+ghost use Rattle.cnb_lifecycle.specs.PhaseFaults.{of_base, of_build, of_check, of_image, of_prune, of_rebase};
+ghost use Rattle.cnb_lifecycle.specs.PhaseFaults.{of_restore, of_verify};
 ghost use Rattle.cnb_lifecycle.specs.Telling.{tells};
 
 use crate::answer::Answer;

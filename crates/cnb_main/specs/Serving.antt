@@ -13,8 +13,7 @@ use Rattle.steps.specs.Outside.{Outside}
 use Rattle.steps.specs.Steps.{gives}
 
 -- The command that these words ask for did its steps over the outside and over so many caches, or the words were
--- refused;
--- what the sink took and the exit status are those of its end.
+-- refused; what the sink took and the exit status are those of its end.
 pub record Serves (words : List (List ℕ)) (env : List Variable) (count : ℕ) (old new : Outside)
     (taken_old taken_new : Option (List ℕ)) (code : ℕ) : Type 0 where
   pub caches_old : List ShelfState

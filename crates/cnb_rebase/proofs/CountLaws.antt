@@ -9,7 +9,8 @@ use Rattle.image_files.specs.declared.fault.ImageFault.{ImageFault}
 use Rattle.image_files.specs.declared.fault.ImageFault.TheVariants as image
 use Rattle.image_files.proofs.CountLaws.{image_counts, run_image_counts, written_image_counts, written_run_image_counts}
 use Rattle.steps.specs.Counts.{FileCounts}
-use Rattle.steps.proofs.EndLaws.{Obeys, files_link, files_rest, obeys_bind, obeys_each, obeys_gives, obeys_told, obeys_yields}
+use Rattle.steps.proofs.EndLaws.{Obeys, files_link, files_rest, obeys_bind, obeys_each, obeys_gives, obeys_told}
+use Rattle.steps.proofs.EndLaws.{obeys_yields}
 use Rattle.tree_store.proofs.CountLaws.{put_folder_counts}
 use Rattle.tree_store.specs.Answers as tree_store
 use Rattle.cnb_rebase.specs.Bases.{bases_command, makes_base, puts_folders, puts_next}

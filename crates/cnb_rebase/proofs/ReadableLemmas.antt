@@ -1,5 +1,6 @@
 -- An image that can be read can also be read on another run image, and so can a run image of some folders.
-use Rattle.std.proofs.Common.{◌≡◌, ◌∙◌, refl, ap, sym, ℕ, ◌+◌, ◌≤◌, zero, suc, Bool, true, false, not, cond, ◌&&◌, List, [], ◌∷◌, ◌++◌, codes, drop, length, Result, Ok, Err, arith}
+use Rattle.std.proofs.Common.{◌≡◌, ◌∙◌, refl, ap, sym, ℕ, ◌+◌, ◌≤◌, zero, suc, Bool, true, false, not, cond, ◌&&◌, List}
+use Rattle.std.proofs.Common.{[], ◌∷◌, ◌++◌, codes, drop, length, Result, Ok, Err, arith}
 use Rattle.std.specs.Prelude.{IfErr, IsTrue, OnOk}
 use Rattle.std.specs.List.{list_all, prefix_len}
 use Rattle.std.specs.Str.{bytes_eq}
@@ -20,7 +21,8 @@ use Rattle.image_docs.specs.StoreRow.{is_store}
 use Rattle.image_docs.specs.declared.image.ImageDoc.{ImageDoc}
 use Rattle.image_docs.specs.declared.row.Row.{Row}
 use Rattle.image_docs.specs.declared.run_image.RunDoc.{RunDoc}
-use Rattle.image_files.proofs.RunPartLaws.{base_readable, env_readable, has_no_run_row, run_env, run_filled, run_rows_ordered, run_rows_sound}
+use Rattle.image_files.proofs.RunPartLaws.{base_readable, env_readable, has_no_run_row, run_env, run_filled}
+use Rattle.image_files.proofs.RunPartLaws.{run_rows_ordered, run_rows_sound}
 use Rattle.steps.specs.Causes.{IsAnswer, IsGivenCause}
 use Rattle.steps.specs.Each.{for_each}
 use Rattle.steps.specs.Outside.{Seen}

@@ -7,7 +7,8 @@ use Rattle.tree_store.specs.Answers as tree_store
 use Rattle.cnb_rebase.specs.declared.refusal.BaseFault.{BaseFault}
 use Rattle.cnb_rebase.specs.declared.refusal.BaseFault.TheVariants.{Store, Image}
 use Rattle.cnb_rebase.specs.declared.refusal.RebaseFault.{RebaseFault}
-use Rattle.cnb_rebase.specs.declared.refusal.RebaseFault.TheVariants.{NoImage, TopDiffers, TargetDiffers, Document, Limit, File, Memory}
+use Rattle.cnb_rebase.specs.declared.refusal.RebaseFault.TheVariants.{NoImage, TopDiffers, TargetDiffers, Document}
+use Rattle.cnb_rebase.specs.declared.refusal.RebaseFault.TheVariants.{Limit, File, Memory}
 
 abbrev pub cause_of : RebaseFault → Cause
 cause_of (File path) = FileFailed path

@@ -4,7 +4,8 @@ ghost use Rattle.steps.specs.Causes.{IsAnswer, IsGivenCause};
 ghost use Rattle.steps.specs.Results.{and_then};
 ghost use Rattle.image_docs.specs.Row.{is_run};
 ghost use Rattle.image_files.specs.RunPart.{run_row};
-ghost use Rattle.cnb_rebase.specs.Rebased.{last_run, on_run, rebased, rows_above, run_count, same_target, same_top, target_text};
+ghost use Rattle.cnb_rebase.specs.Rebased.{last_run, on_run, rebased, rows_above, run_count, same_target, same_top};
+ghost use Rattle.cnb_rebase.specs.Rebased.{target_text};
 ghost use Rattle.cnb_rebase.specs.Refusals.{cause_of};
 
 use crate::refusal::RebaseFault;

@@ -1,5 +1,6 @@
 -- What `check` comes to, by what it does.
-use Rattle.std.proofs.Common.{◌≡◌, ◌∙◌, refl, sym, ap, subst, ℕ, Bool, true, false, ◌&&◌, List, Option, Some, None, Result, Ok, Err, inl, inr}
+use Rattle.std.proofs.Common.{◌≡◌, ◌∙◌, refl, sym, ap, subst, ℕ, Bool, true, false, ◌&&◌, List, Option, Some, None}
+use Rattle.std.proofs.Common.{Result, Ok, Err, inl, inr}
 use Rattle.std.specs.Prelude.{IfSome}
 use Rattle.std.specs.Option.{option_map}
 use Rattle.cnb_detect.specs.Documents.{group_document, plan_document}
@@ -23,12 +24,16 @@ use Rattle.steps.specs.Causes.{WhereDecided}
 use Rattle.steps.specs.Outside.{Seen}
 use Rattle.steps.specs.Results.{with_fault}
 use Rattle.steps.specs.Steps.{◌>>=◌, Same, gives, map_err, reads, yields}
-use Rattle.steps.proofs.ReadingLaws.{OnlyReads, gives_known, may_as, may_first, may_same, reads_files, reads_then, reads_told, where_map}
+use Rattle.steps.proofs.ReadingLaws.{OnlyReads, gives_known, may_as, may_first, may_same, reads_files, reads_then}
+use Rattle.steps.proofs.ReadingLaws.{reads_told, where_map}
 use Rattle.cnb_record.specs.declared.ordering.Ordered.{Ordered}
 use Rattle.cnb_record.specs.declared.refusal.CheckRefusal.{CheckRefusal}
-use Rattle.cnb_record.specs.declared.refusal.CheckRefusal.TheVariants.{File, Memory, Document, Limit, BuildpackApi, Order, BadRecord, RecordDiffers}
-use Rattle.cnb_record.specs.CheckOutcome.{AreRefused, ComesToCheck, IsCheckRefused, IsChecked, IsRefused, followed_in, group_there, is_fit_check, ordered_in, plan_there, proved_in}
-use Rattle.cnb_record.specs.Checks.{IsMatched, checks, compares, compares_group, compares_plan, follows, known_apis, matches, proves, reads_group, reads_ordered, reads_plan}
+use Rattle.cnb_record.specs.declared.refusal.CheckRefusal.TheVariants.{File, Memory, Document, Limit, BuildpackApi}
+use Rattle.cnb_record.specs.declared.refusal.CheckRefusal.TheVariants.{Order, BadRecord, RecordDiffers}
+use Rattle.cnb_record.specs.CheckOutcome.{AreRefused, ComesToCheck, IsCheckRefused, IsChecked, IsRefused, followed_in}
+use Rattle.cnb_record.specs.CheckOutcome.{group_there, is_fit_check, ordered_in, plan_there, proved_in}
+use Rattle.cnb_record.specs.Checks.{IsMatched, checks, compares, compares_group, compares_plan, follows, known_apis}
+use Rattle.cnb_record.specs.Checks.{matches, proves, reads_group, reads_ordered, reads_plan}
 use Rattle.cnb_record.specs.Reading.{is_fit_file, needed_at, record_at}
 use Rattle.cnb_record.specs.Refusals.{cause_of, of_check_fault, of_order_fault, of_read_fault}
 use Rattle.cnb_record.specs.Report.{checked_text}

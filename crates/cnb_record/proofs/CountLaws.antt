@@ -16,11 +16,14 @@ use Rattle.run_docs.specs.declared.plan.PlanEntry.{PlanEntry}
 use Rattle.steps.specs.Causes.{ended_by}
 use Rattle.steps.specs.Counts.{FileCounts}
 use Rattle.steps.specs.Outside.{Seen}
-use Rattle.steps.proofs.EndLaws.{Obeys, files_link, files_rest, obeys_bind, obeys_gives, obeys_told, obeys_yields, reads_counts}
+use Rattle.steps.proofs.EndLaws.{Obeys, files_link, files_rest, obeys_bind, obeys_gives, obeys_told, obeys_yields}
+use Rattle.steps.proofs.EndLaws.{reads_counts}
 use Rattle.cnb_record.specs.declared.ordering.Ordered.{Ordered}
 use Rattle.cnb_record.specs.declared.refusal.CheckRefusal.{CheckRefusal}
-use Rattle.cnb_record.specs.declared.refusal.CheckRefusal.TheVariants.{File, Memory, Document, Limit, BuildpackApi, Order, BadRecord, RecordDiffers}
-use Rattle.cnb_record.specs.Checks.{IsMatched, checks, compares, compares_group, compares_plan, follows, matches, proves, reads_group, reads_ordered}
+use Rattle.cnb_record.specs.declared.refusal.CheckRefusal.TheVariants.{File, Memory, Document, Limit, BuildpackApi}
+use Rattle.cnb_record.specs.declared.refusal.CheckRefusal.TheVariants.{Order, BadRecord, RecordDiffers}
+use Rattle.cnb_record.specs.Checks.{IsMatched, checks, compares, compares_group, compares_plan, follows, matches}
+use Rattle.cnb_record.specs.Checks.{proves, reads_group, reads_ordered}
 use Rattle.cnb_record.specs.Refusals.{cause_of, of_check_fault, of_order_fault, of_read_fault}
 
 pub read_causes : (fault : ReadFault) → cause_of (of_read_fault fault) ≡ read_cause fault

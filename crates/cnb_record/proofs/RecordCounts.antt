@@ -11,7 +11,8 @@ use Rattle.detect_core.specs.declared.chosen.Recorded.{Recorded}
 use Rattle.steps.specs.Counts.{FileCounts}
 use Rattle.steps.specs.EitherCounts.{OutsideCounts}
 use Rattle.steps.specs.Outside.{Outside}
-use Rattle.steps.proofs.EndLaws.{Obeys, files_among, files_link, files_rest, obeys_bind, obeys_gives, obeys_yields, writes_counts}
+use Rattle.steps.proofs.EndLaws.{Obeys, files_among, files_link, files_rest, obeys_bind, obeys_gives, obeys_yields}
+use Rattle.steps.proofs.EndLaws.{writes_counts}
 use Rattle.steps.proofs.OutsideLaws.{obeys_asks, obeys_over_world, outside_link, outside_rest}
 use Rattle.cnb_record.specs.Choosing.{adds_record, chooses_recorded, finds, makes_record, record_in}
 use Rattle.cnb_record.specs.DetectsRecorded.{detects_recorded, writes_recorded}

@@ -1,5 +1,6 @@
 -- What `detect` comes to where a record is asked for, by what it does.
-use Rattle.std.proofs.Common.{◌≡◌, ◌∙◌, refl, sym, ap, subst, arith, ℕ, ◌+◌, ◌<◌, true, List, length, Option, Result, Ok, Err, ◌⊎◌, inl, inr}
+use Rattle.std.proofs.Common.{◌≡◌, ◌∙◌, refl, sym, ap, subst, arith, ℕ, ◌+◌, ◌<◌, true, List, length, Option, Result}
+use Rattle.std.proofs.Common.{Ok, Err, ◌⊎◌, inl, inr}
 use Rattle.std.specs.Prelude.{IfOk, IfSome, IsTrue}
 use Rattle.std.specs.Option.{option_map}
 use Rattle.cnb_world.specs.Calls.{MayMisuse}
@@ -20,7 +21,8 @@ use Rattle.cnb_detect.specs.Preparation.{is_fit_preparation, prepares}
 use Rattle.cnb_detect.specs.Refusals.{cause_of}
 use Rattle.cnb_detect.specs.declared.preparation.Prepared.{Prepared}
 use Rattle.cnb_detect.specs.declared.refusal.DetectRefusal.{DetectRefusal}
-use Rattle.cnb_detect.specs.declared.refusal.DetectRefusal.TheVariants.{File, Memory, Document, Child, Limit, BuildpackApi, Order, NoGroup}
+use Rattle.cnb_detect.specs.declared.refusal.DetectRefusal.TheVariants.{File, Memory, Document, Child, Limit}
+use Rattle.cnb_detect.specs.declared.refusal.DetectRefusal.TheVariants.{BuildpackApi, Order, NoGroup}
 use Rattle.cnb_detect.specs.declared.target.TargetSource.{TargetSource}
 use Rattle.cnb_detect.proofs.DetectLaws.{prepares_reads}
 use Rattle.cnb_detect.proofs.DocumentLemmas.{left_standing, same_standing}
@@ -36,11 +38,13 @@ use Rattle.steps.specs.Results.{with_fault}
 use Rattle.steps.specs.Steps.{◌>>=◌, LeavesUnwritten, Writes, gives, in_spawners, in_world, writes, yields}
 use Rattle.steps.proofs.FrameLaws.{some_left, step_at, written_free}
 use Rattle.steps.proofs.StepLemmas.{ended, given, went, within, yielded}
-use Rattle.cnb_record.specs.Choosing.{Proves, adds_record, chooses_recorded, finds, found_of, makes_record, of_record_fault, over, record_in}
+use Rattle.cnb_record.specs.Choosing.{Proves, adds_record, chooses_recorded, finds, found_of, makes_record}
+use Rattle.cnb_record.specs.Choosing.{of_record_fault, over, record_in}
 use Rattle.cnb_record.specs.DetectsRecorded.{detects_recorded, writes_recorded}
 use Rattle.cnb_record.specs.Outcome.{ComesToRecorded, IsFound, IsTooLarge, WritesRecord}
 use Rattle.cnb_record.proofs.ChoosingLemmas.{asks_by_more, choice_with, long_path, same_choice}
-use Rattle.cnb_record.proofs.StandLemmas.{IsThere, group_apart, group_beside, group_there, plan_apart, plan_beside, plan_there, stands_refused, stands_written}
+use Rattle.cnb_record.proofs.StandLemmas.{IsThere, group_apart, group_beside, group_there, plan_apart, plan_beside}
+use Rattle.cnb_record.proofs.StandLemmas.{plan_there, stands_refused, stands_written}
 
 -- ---- the choice is the one that is made without a record
 

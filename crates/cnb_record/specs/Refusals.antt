@@ -9,7 +9,8 @@ use Rattle.detect_record.specs.declared.outcome.CheckFault.{CheckFault}
 use Rattle.detect_record.specs.declared.outcome.CheckFault.TheVariants as check
 use Rattle.steps.specs.Causes.{Cause, FileFailed, OutOfMemory, Decided}
 use Rattle.cnb_record.specs.declared.refusal.CheckRefusal.{CheckRefusal}
-use Rattle.cnb_record.specs.declared.refusal.CheckRefusal.TheVariants.{File, Memory, Document, Limit, BuildpackApi, Order, BadRecord, RecordDiffers}
+use Rattle.cnb_record.specs.declared.refusal.CheckRefusal.TheVariants.{File, Memory, Document, Limit, BuildpackApi}
+use Rattle.cnb_record.specs.declared.refusal.CheckRefusal.TheVariants.{Order, BadRecord, RecordDiffers}
 
 abbrev pub cause_of : CheckRefusal → Cause
 cause_of (File path) = FileFailed path

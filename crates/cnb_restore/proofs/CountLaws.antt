@@ -1,5 +1,6 @@
 -- What the commands do to the counts, by what ended them.
-use Rattle.std.proofs.Common.{◌≡◌, ◌∙◌, refl, sym, ap, subst, ℕ, Bool, true, false, List, Option, Some, None, Result, Ok, Err}
+use Rattle.std.proofs.Common.{◌≡◌, ◌∙◌, refl, sym, ap, subst, ℕ, Bool, true, false, List, Option, Some, None, Result}
+use Rattle.std.proofs.Common.{Ok, Err}
 use Rattle.cnb_words.specs.declared.analyze.AnalyzeWords.{AnalyzeWords}
 use Rattle.cnb_words.specs.declared.restore.RestoreWords.{RestoreWords}
 use Rattle.image_docs.specs.declared.analyzed.Analyzed.{Analyzed}
@@ -8,7 +9,8 @@ use Rattle.image_docs.specs.declared.store_row.StoreRow.{StoreRow}
 use Rattle.layer_flags.specs.declared.restore.RestoreRow.{RestoreRow}
 use Rattle.layer_flags.specs.declared.restore.RestoreRow.TheVariants as part
 use Rattle.run_docs.specs.declared.group.GroupRow.{GroupRow}
-use Rattle.shelf_set.proofs.CountLaws.{BesideCaches, beside_link, beside_rest, finds_ends, gathers_ends, obeys_in_caches, obeys_in_world}
+use Rattle.shelf_set.proofs.CountLaws.{BesideCaches, beside_link, beside_rest, finds_ends, gathers_ends}
+use Rattle.shelf_set.proofs.CountLaws.{obeys_in_caches, obeys_in_world}
 use Rattle.shelf_set.specs.Caches.{WorldAndCaches, in_world}
 use Rattle.shelf_set.specs.declared.finding.Found.{Found}
 use Rattle.shelf_set.specs.declared.finding.Found.TheVariants as found
@@ -16,7 +18,8 @@ use Rattle.steps.specs.Causes.{Cause}
 use Rattle.steps.specs.Counts.{FileCounts}
 use Rattle.steps.specs.Outside.{Seen}
 use Rattle.steps.specs.Steps.{◌>>=◌, gives, map_err, yields}
-use Rattle.steps.proofs.EndLaws.{Obeys, files_link, files_rest, makes_folder_counts, obeys_bind, obeys_each, obeys_gives, obeys_told, obeys_yields, reads_counts, removes_counts, writes_counts}
+use Rattle.steps.proofs.EndLaws.{Obeys, files_link, files_rest, makes_folder_counts, obeys_bind, obeys_each}
+use Rattle.steps.proofs.EndLaws.{obeys_gives, obeys_told, obeys_yields, reads_counts, removes_counts, writes_counts}
 use Rattle.tree_canon.specs.declared.node.Node.{Node}
 use Rattle.tree_store.proofs.CountLaws.{lay_tree_counts}
 use Rattle.tree_store.specs.Answers as tree_store
@@ -31,7 +34,9 @@ use Rattle.cnb_restore.specs.Analyzes.{analyzes}
 use Rattle.cnb_restore.specs.Commands.{analyzes_command, refusal_cause, restores_analyzed, restores_command}
 use Rattle.cnb_restore.specs.Faults.{cause_of, of_laying_fault}
 use Rattle.cnb_restore.specs.Layers.{lays_contents, writes_layer, writes_store}
-use Rattle.cnb_restore.specs.Restores.{prepares_folder, restores, restores_buildpack, restores_contents, restores_document, restores_each, restores_found, restores_group, restores_laid, restores_layer, restores_layers, restores_part, restores_rows}
+use Rattle.cnb_restore.specs.Restores.{prepares_folder, restores, restores_buildpack, restores_contents}
+use Rattle.cnb_restore.specs.Restores.{restores_document, restores_each, restores_found, restores_group, restores_laid}
+use Rattle.cnb_restore.specs.Restores.{restores_layer, restores_layers, restores_part, restores_rows}
 
 -- ---- `analyze`
 

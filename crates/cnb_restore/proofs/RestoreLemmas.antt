@@ -1,5 +1,6 @@
 -- Layers and buildpacks, one after another.
-use Rattle.std.proofs.Common.{◌≡◌, sym, subst, arith, ℕ, ◌<◌, ◌≤◌, Bor, List, get_or, length, map, Option, Some, Result, false}
+use Rattle.std.proofs.Common.{◌≡◌, sym, subst, arith, ℕ, ◌<◌, ◌≤◌, Bor, List, get_or, length, map, Option, Some, Result}
+use Rattle.std.proofs.Common.{false}
 use Rattle.std.proofs.lemmas.List.{get_or-map, length-map}
 use Rattle.image_docs.specs.declared.image.ImageDoc.{ImageDoc}
 use Rattle.image_docs.specs.declared.layer_row.LayerRow.{LayerRow}
@@ -19,7 +20,8 @@ use Rattle.cnb_restore.specs.declared.restored.Restored.{Restored}
 use Rattle.cnb_restore.specs.declared.sources.Sources.{Sources}
 use Rattle.cnb_restore.specs.Faults.{cause_of}
 use Rattle.cnb_restore.specs.Layers.{writes_store}
-use Rattle.cnb_restore.specs.Restores.{prepares_folder, restores_document, restores_each, restores_found, restores_laid, restores_layer, restores_layers, restores_part, restores_rows}
+use Rattle.cnb_restore.specs.Restores.{prepares_folder, restores_document, restores_each, restores_found, restores_laid}
+use Rattle.cnb_restore.specs.Restores.{restores_layer, restores_layers, restores_part, restores_rows}
 use Rattle.cnb_restore.specs.RestoresFrom.{restores_from}
 use Rattle.cnb_restore.specs.Rows.{restored_part, row_of, source_of}
 

@@ -6,7 +6,8 @@ ghost use Rattle.shelf_set.specs.Caches as seen_caches;
 ghost use Rattle.shelf_set.specs.CacheSteps.{finds};
 ghost use Rattle.steps.specs.Outside.{seen};
 ghost use Rattle.cnb_restore.specs.Faults.{cause_of};
-ghost use Rattle.cnb_restore.specs.Restores.{restores_contents, restores_document, restores_each, restores_found, restores_laid, restores_layer, restores_layers, restores_part};
+ghost use Rattle.cnb_restore.specs.Restores.{restores_contents, restores_document, restores_each, restores_found};
+ghost use Rattle.cnb_restore.specs.Restores.{restores_laid, restores_layer, restores_layers, restores_part};
 
 use crate::fault::RestoreFault;
 use crate::layer::{lay_contents, write_layer_document};

@@ -1,7 +1,8 @@
 // What `analyze` and `restore` print.
 ghost use Rattle.std.specs.Prelude.{◌≡◌, ◌++◌, IfOk, OnOk, flat_map, string_bytes};
 ghost use Rattle.std.specs.Option.{option_copied};
-ghost use Rattle.cnb_restore.specs.Report.{analyzed_text, cache_line, name_or_none, part_text, restored_line, restored_text};
+ghost use Rattle.cnb_restore.specs.Report.{analyzed_text, cache_line, name_or_none, part_text, restored_line};
+ghost use Rattle.cnb_restore.specs.Report.{restored_text};
 
 use crate::restored::{Restored, RestoredRow};
 use cnb_toml::ImageName;

@@ -3,11 +3,14 @@ use Rattle.std.proofs.Common.{◌≡◌, ℕ, ◌+◌, ◌-◌, ◌≤◌, true,
 use Rattle.std.specs.Prelude.{nat_le}
 use Rattle.std.specs.List.{list_all}
 use Rattle.std.proofs.lemmas.Bool.{and_parts, and_from, leb-true}
-use Rattle.toml.specs.Data.{Data, string, integer, float, boolean, datetime, array, table, Members, no_members, depth, items_depth, members_depth, has_valid_dates, items_have_valid_dates, members_have_valid_dates}
+use Rattle.toml.specs.Data.{Data, string, integer, float, boolean, datetime, array, table, Members, no_members, depth}
+use Rattle.toml.specs.Data.{items_depth, members_depth, has_valid_dates, items_have_valid_dates}
+use Rattle.toml.specs.Data.{members_have_valid_dates}
 use Rattle.toml.specs.View.{items_of}
 use Rattle.cnb_toml.specs.declared.meta.Meta.{Meta}
 use Rattle.cnb_toml.specs.declared.meta.MetaEntry.{MetaEntry}
-use Rattle.cnb_toml.specs.declared.meta.Meta.TheVariants.{Bool as Truth, Int, Text, List as Items, Table, rolls-Bool, rolls-Int, rolls-Text, rolls-List, rolls-Table}
+use Rattle.cnb_toml.specs.declared.meta.Meta.TheVariants.{Bool as Truth, Int, Text, List as Items, Table, rolls-Bool}
+use Rattle.cnb_toml.specs.declared.meta.Meta.TheVariants.{rolls-Int, rolls-Text, rolls-List, rolls-Table}
 use Rattle.cnb_toml.specs.declared.meta.Meta.TheOpen as layer
 use Rattle.cnb_toml.specs.declared.meta.Meta.TheViews.{roll-Meta, roll-MetaEntry}
 use Rattle.cnb_toml.specs.declared.meta.Meta.TheFolds.{map-Meta, ind-Meta}
@@ -15,7 +18,8 @@ use Rattle.cnb_toml.specs.Writing.{put, put_all}
 use Rattle.cnb_toml.specs.Meta.{deepest, members_of, is_kept, data_of, entry_of, ascend, is_kept_at, entries_kept_at}
 use Rattle.cnb_toml.specs.Written.{metadata_data}
 use Rattle.cnb_toml.proofs.Puts.{put-dates, put-depth}
-use Rattle.cnb_toml.proofs.Metas.{data_of-Bool, data_of-Int, data_of-Text, data_of-List, data_of-Table, entry_of-parts, is_kept_at-Bool, is_kept_at-Int, is_kept_at-Text, is_kept_at-List, is_kept_at-Table}
+use Rattle.cnb_toml.proofs.Metas.{data_of-Bool, data_of-Int, data_of-Text, data_of-List, data_of-Table, entry_of-parts}
+use Rattle.cnb_toml.proofs.Metas.{is_kept_at-Bool, is_kept_at-Int, is_kept_at-Text, is_kept_at-List, is_kept_at-Table}
 
 -- ---- metadata
 

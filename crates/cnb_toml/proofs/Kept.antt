@@ -1,5 +1,6 @@
 -- What is read is kept metadata.
-use Rattle.std.proofs.Common.{◌≡◌, ℕ, ◌+◌, Bool, true, false, cond, List, [], ◌∷◌, map, Ordering, Less, Equal, Greater, Option, Some, None, Result, Ok, Err, nat_cmp, refl, sym, ap, ◌∙◌, subst}
+use Rattle.std.proofs.Common.{◌≡◌, ℕ, ◌+◌, Bool, true, false, cond, List, [], ◌∷◌, map, Ordering, Less, Equal, Greater}
+use Rattle.std.proofs.Common.{Option, Some, None, Result, Ok, Err, nat_cmp, refl, sym, ap, ◌∙◌, subst}
 use Rattle.std.specs.Prelude.{nat_le, nat_lt, codes}
 use Rattle.std.specs.Fmt.{decimal}
 use Rattle.std.specs.List.{list_all}
@@ -7,13 +8,16 @@ use Rattle.std.specs.Cmp.Lexicographic.{slice_cmp}
 use Rattle.std.specs.Ordering.{is_lt, match_ordering, ordering_reverse}
 use Rattle.std.proofs.lemmas.Bool.{and_parts, and_from, le-leb, leb-true, ltb-false}
 use Rattle.std.proofs.lemmas.Cmp.{nat_list_cmp_total}
-use Rattle.toml.specs.Data.{Data, string, integer, float, boolean, datetime, array, table, Items, no_items, item, Members, no_members, member, as_table, get_member}
+use Rattle.toml.specs.Data.{Data, string, integer, float, boolean, datetime, array, table, Items, no_items, item}
+use Rattle.toml.specs.Data.{Members, no_members, member, as_table, get_member}
 use Rattle.cnb_toml.specs.declared.fault.DocFault.{DocFault}
 use Rattle.cnb_toml.specs.declared.fault.DocFault.TheVariants.{MetaKind}
 use Rattle.cnb_toml.specs.declared.meta.Meta.{Meta}
 use Rattle.cnb_toml.specs.declared.meta.MetaEntry.{MetaEntry}
 use Rattle.cnb_toml.specs.declared.meta.Meta.TheVariants.{Bool as Truth, Int, Text, List as ListOf, Table}
-use Rattle.cnb_toml.specs.Meta.{deepest, standing, below, meta_at, items_at, members_at, with_entry, table_in, meta_in, metadata_table, metadata_of, metadata_in, comes_before, ascend, is_kept, is_kept_at, entries_kept_at}
+use Rattle.cnb_toml.specs.Meta.{deepest, standing, below, meta_at, items_at, members_at, with_entry, table_in, meta_in}
+use Rattle.cnb_toml.specs.Meta.{metadata_table, metadata_of, metadata_in, comes_before, ascend, is_kept, is_kept_at}
+use Rattle.cnb_toml.specs.Meta.{entries_kept_at}
 use Rattle.cnb_toml.specs.Reading.{◌>>=◌}
 use Rattle.cnb_toml.proofs.Metas.{is_kept_at-Bool, is_kept_at-Int, is_kept_at-Text, list_kept, table_kept, kept_root}
 

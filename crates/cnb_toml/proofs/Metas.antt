@@ -1,5 +1,6 @@
 -- What is written of each kind of value, and when it is kept metadata.
-use Rattle.std.proofs.Common.{◌≡◌, ℕ, ℤ, ◌+◌, ◌≤◌, Bool, true, ◌&&◌, List, [], ◌∷◌, map, Less, string_bytes, Result, Ok, Err, refl, sym, ap, ◌∙◌, lit≤}
+use Rattle.std.proofs.Common.{◌≡◌, ℕ, ℤ, ◌+◌, ◌≤◌, Bool, true, ◌&&◌, List, [], ◌∷◌, map, Less, string_bytes, Result, Ok}
+use Rattle.std.proofs.Common.{Err, refl, sym, ap, ◌∙◌, lit≤}
 use Rattle.std.specs.Prelude.{nat_le, is_some}
 use Rattle.std.specs.List.{list_all, AllByRecursion}
 use Rattle.std.specs.List.Sorted.{IsStrictlySortedBy}
@@ -15,10 +16,13 @@ use Rattle.toml.proofs.Views.{Entry}
 use Rattle.cnb_toml.specs.declared.fault.DocFault.{DocFault}
 use Rattle.cnb_toml.specs.declared.meta.Meta.{Meta}
 use Rattle.cnb_toml.specs.declared.meta.MetaEntry.{MetaEntry}
-use Rattle.cnb_toml.specs.declared.meta.Meta.TheVariants.{Bool as Truth, Int, Text, List as Items, Table, rolls-Bool, rolls-Int, rolls-Text, rolls-List, rolls-Table}
+use Rattle.cnb_toml.specs.declared.meta.Meta.TheVariants.{Bool as Truth, Int, Text, List as Items, Table, rolls-Bool}
+use Rattle.cnb_toml.specs.declared.meta.Meta.TheVariants.{rolls-Int, rolls-Text, rolls-List, rolls-Table}
 use Rattle.cnb_toml.specs.declared.meta.Meta.TheOpen as layer
 use Rattle.cnb_toml.specs.declared.meta.Meta.TheFolds.{fold-roll-Meta, fold_out-MetaEntry}
-use Rattle.cnb_toml.specs.Meta.{deepest, ascend, meta_at, members_at, with_entry, data_of, entry_of, data_step, entry_step, is_kept, is_kept_at, entry_kept_at, entries_kept_at, kept_step, kept_entry_step}
+use Rattle.cnb_toml.specs.Meta.{deepest, ascend, meta_at, members_at, with_entry, data_of, entry_of, data_step}
+use Rattle.cnb_toml.specs.Meta.{entry_step, is_kept, is_kept_at, entry_kept_at, entries_kept_at, kept_step}
+use Rattle.cnb_toml.specs.Meta.{kept_entry_step}
 use Rattle.cnb_toml.specs.Writing.{put_all}
 use Rattle.cnb_toml.specs.Reading.{◌>>=◌}
 

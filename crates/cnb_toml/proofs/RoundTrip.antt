@@ -1,5 +1,6 @@
 -- A value that is kept metadata is what its table is read as.
-use Rattle.std.proofs.Common.{◌≡◌, ℕ, ◌+◌, true, List, [], ◌∷◌, ◌++◌, map, Ordering, Less, Equal, Greater, Result, Ok, Err, nat_cmp, refl, sym, ap, ◌∙◌, subst, append_assoc}
+use Rattle.std.proofs.Common.{◌≡◌, ℕ, ◌+◌, true, List, [], ◌∷◌, ◌++◌, map, Ordering, Less, Equal, Greater, Result, Ok}
+use Rattle.std.proofs.Common.{Err, nat_cmp, refl, sym, ap, ◌∙◌, subst, append_assoc}
 use Rattle.std.specs.Prelude.{nat_le, is_some}
 use Rattle.std.specs.Fmt.{decimal}
 use Rattle.std.specs.List.{list_all}
@@ -8,19 +9,25 @@ use Rattle.std.specs.Ordering.{is_lt, ordering_reverse}
 use Rattle.std.proofs.lemmas.Bool.{and_parts, cond-false, leb-true, le-ltb, false≢true}
 use Rattle.std.proofs.lemmas.Cmp.{nat_list_cmp_total}
 use Rattle.std.proofs.lemmas.List.{append-nil, map-append}
-use Rattle.toml.specs.Data.{Data, string, integer, float, boolean, datetime, array, table, Members, no_members, member, as_table}
+use Rattle.toml.specs.Data.{Data, string, integer, float, boolean, datetime, array, table, Members, no_members, member}
+use Rattle.toml.specs.Data.{as_table}
 use Rattle.toml.specs.View.{items_of}
 use Rattle.cnb_toml.specs.declared.fault.DocFault.{DocFault}
 use Rattle.cnb_toml.specs.declared.meta.Meta.{Meta}
 use Rattle.cnb_toml.specs.declared.meta.MetaEntry.{MetaEntry}
-use Rattle.cnb_toml.specs.declared.meta.Meta.TheVariants.{Bool as Truth, Int, Text, List as Items, Table, rolls-Bool, rolls-Int, rolls-Text, rolls-List, rolls-Table}
+use Rattle.cnb_toml.specs.declared.meta.Meta.TheVariants.{Bool as Truth, Int, Text, List as Items, Table, rolls-Bool}
+use Rattle.cnb_toml.specs.declared.meta.Meta.TheVariants.{rolls-Int, rolls-Text, rolls-List, rolls-Table}
 use Rattle.cnb_toml.specs.declared.meta.Meta.TheOpen as layer
 use Rattle.cnb_toml.specs.declared.meta.Meta.TheViews.{roll-Meta, roll-MetaEntry}
 use Rattle.cnb_toml.specs.declared.meta.Meta.TheFolds.{map-Meta, ind-Meta}
 use Rattle.cnb_toml.specs.Reading.{◌>>=◌}
-use Rattle.cnb_toml.specs.Meta.{deepest, standing, below, with_entry, table_in, meta_at, items_at, members_at, members_of, meta_in, data_of, entry_of, comes_before, ascend, is_kept, is_kept_at, entries_kept_at}
+use Rattle.cnb_toml.specs.Meta.{deepest, standing, below, with_entry, table_in, meta_at, items_at, members_at}
+use Rattle.cnb_toml.specs.Meta.{members_of, meta_in, data_of, entry_of, comes_before, ascend, is_kept, is_kept_at}
+use Rattle.cnb_toml.specs.Meta.{entries_kept_at}
 use Rattle.cnb_toml.specs.Writing.{put, put_all}
-use Rattle.cnb_toml.proofs.Metas.{with_entry-first, data_of-Bool, data_of-Int, data_of-Text, data_of-List, data_of-Table, entry_of-parts, is_kept_at-Bool, is_kept_at-Int, is_kept_at-Text, is_kept_at-List, is_kept_at-Table}
+use Rattle.cnb_toml.proofs.Metas.{with_entry-first, data_of-Bool, data_of-Int, data_of-Text, data_of-List}
+use Rattle.cnb_toml.proofs.Metas.{data_of-Table, entry_of-parts, is_kept_at-Bool, is_kept_at-Int, is_kept_at-Text}
+use Rattle.cnb_toml.proofs.Metas.{is_kept_at-List, is_kept_at-Table}
 
 -- ---- keys that ascend are put one behind another
 

@@ -1,5 +1,6 @@
 -- The names of buildpacks (buildpack.md, "buildpack.toml (TOML)"), layers, processes and images, as bytes.
-use Rattle.std.specs.Prelude.{ℕ, Bool, false, not, ◌≡◌, ◌&&◌, ◌||◌, ◌==◌, ◌<◌, ◌^◌, ◌++◌, List, [], ◌∷◌, length, nat_le, nat_lt, map, Result, Ok, Err, codes, if◌then◌else◌}
+use Rattle.std.specs.Prelude.{ℕ, Bool, false, not, ◌≡◌, ◌&&◌, ◌||◌, ◌==◌, ◌<◌, ◌^◌, ◌++◌, List, [], ◌∷◌, length, nat_le}
+use Rattle.std.specs.Prelude.{nat_lt, map, Result, Ok, Err, codes, if◌then◌else◌}
 use Rattle.std.specs.Char.{is_ascii_alphanumeric, is_ascii_digit, is_ascii_lowercase}
 use Rattle.std.specs.Fmt.{decimal}
 use Rattle.std.specs.List.{list_all}

@@ -1,10 +1,12 @@
 -- Lists of values that are read as they were written, which need no more than what is known of one value.
-use Rattle.std.proofs.Common.{◌≡◌, ℕ, zero, suc, ◌+◌, ◌≤◌, Bool, true, List, [], ◌∷◌, ◌++◌, map, Ok, Err, refl, sym, ap, ◌∙◌, append_assoc}
+use Rattle.std.proofs.Common.{◌≡◌, ℕ, zero, suc, ◌+◌, ◌≤◌, Bool, true, List, [], ◌∷◌, ◌++◌, map, Ok, Err, refl, sym, ap}
+use Rattle.std.proofs.Common.{◌∙◌, append_assoc}
 use Rattle.std.proofs.Math.Nat.{le_refl, le_step, max-le, suc-le-suc_iff}
 use Rattle.std.specs.List.{list_all}
 use Rattle.std.proofs.lemmas.Bool.{and_parts, and_from, cond-true, false≢true}
 use Rattle.std.proofs.lemmas.List.{append-nil}
-use Rattle.toml.specs.Data.{Data, string, Members, depth, items_depth, members_depth, has_valid_dates, items_have_valid_dates}
+use Rattle.toml.specs.Data.{Data, string, Members, depth, items_depth, members_depth, has_valid_dates}
+use Rattle.toml.specs.Data.{items_have_valid_dates}
 use Rattle.toml.specs.View.{items_of}
 use Rattle.cnb_toml.specs.declared.fault.DocFault.TheVariants.{Name}
 use Rattle.cnb_toml.specs.declared.names.Key.{Key}

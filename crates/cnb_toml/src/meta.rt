@@ -4,7 +4,8 @@ ghost use Rattle.toml.specs.Data.{array, table, no_members, as_table, get_member
 ghost use Rattle.toml.specs.View.{view, items_of, array_view, table_view};
 ghost use Rattle.cnb_toml.specs.Reading.{Answers, IsFault};
 ghost use Rattle.cnb_toml.specs.Writing.{put_all};
-ghost use Rattle.cnb_toml.specs.Meta.{metadata_in, metadata_table, meta_in, meta_at, items_at, members_at, fault_below, members_of, data_of, entry_of, is_kept, part_text};
+ghost use Rattle.cnb_toml.specs.Meta.{metadata_in, metadata_table, meta_in, meta_at, items_at, members_at, fault_below};
+ghost use Rattle.cnb_toml.specs.Meta.{members_of, data_of, entry_of, is_kept, part_text};
 
 use crate::fault::DocFault;
 use crate::writing::put;

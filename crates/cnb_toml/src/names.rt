@@ -7,7 +7,8 @@ ghost use Rattle.std.specs.Hash as fed;
 ghost use Rattle.std.specs.Cmp.Rules.{comparing, hashing};
 ghost use Rattle.std.proofs.Common.{rules};
 ghost use Rattle.cnb_world.specs.Path.{is_part};
-ghost use Rattle.cnb_toml.specs.Names.{is_id_byte, is_reserved, is_bp_id, is_release, is_bp_version, IsJoinedNumbers, folder_of};
+ghost use Rattle.cnb_toml.specs.Names.{is_id_byte, is_reserved, is_bp_id, is_release, is_bp_version, IsJoinedNumbers};
+ghost use Rattle.cnb_toml.specs.Names.{folder_of};
 
 use crate::fault::NameFault;
 use cnb_world::{Memory, Text};

@@ -5,7 +5,8 @@ ghost use Rattle.cnb_world.specs.Path.{is_short_path};
 ghost use Rattle.cnb_toml.specs.Form.{text_of, truth_of, whole_of, filled_text_of, name_of};
 ghost use Rattle.cnb_toml.specs.Reading.{Answers};
 ghost use Rattle.cnb_toml.specs.Keys.{key_in, is_key, key_members};
-ghost use Rattle.cnb_toml.specs.Names.{is_bp_id, is_bp_version, is_layer_name, is_process_type, is_image_name, is_target_name};
+ghost use Rattle.cnb_toml.specs.Names.{is_bp_id, is_bp_version, is_layer_name, is_process_type, is_image_name};
+ghost use Rattle.cnb_toml.specs.Names.{is_target_name};
 ghost use Rattle.cnb_toml.specs.Written.{is_filled};
 ghost use Rattle.cnb_toml.specs.WrittenLaws.{zero_within, name_read, filled_read, key_read};
 

@@ -1,5 +1,6 @@
 -- Commands, and options that words may not give.
-use Rattle.std.proofs.Common.{◌≡◌, Bool, cond, true, false, codes, refl, ℕ, List, Option, Some, None, Err, option_and_then}
+use Rattle.std.proofs.Common.{◌≡◌, Bool, cond, true, false, codes, refl, ℕ, List, Option, Some, None, Err}
+use Rattle.std.proofs.Common.{option_and_then}
 use Rattle.std.specs.Str.{bytes_eq}
 use Rattle.cnb_words.specs.Chosen.{phase_chosen}
 use Rattle.cnb_words.specs.Faults.{AreReadAs}

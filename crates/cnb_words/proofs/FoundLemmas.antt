@@ -1,5 +1,6 @@
 -- What is known of options where `clap` answers.
-use Rattle.std.proofs.Common.{◌≡◌, ◌∙◌, ◌⊎◌, inl, inr, true, ap, sym, subst, List, [], Option, Some, None, Err, option_and_then, unwrap_or}
+use Rattle.std.proofs.Common.{◌≡◌, ◌∙◌, ◌⊎◌, inl, inr, true, ap, sym, subst, List, [], Option, Some, None, Err}
+use Rattle.std.proofs.Common.{option_and_then, unwrap_or}
 use Rattle.std.specs.List.{list_all}
 use Rattle.clap.specs.Faults.{fault_of, is_free_app, is_simple_and_free}
 use Rattle.clap.specs.Kinds.{HasKind, IsAmong, Kinds}
@@ -14,7 +15,8 @@ use Rattle.clap.specs.declared.parser.matches.ArgMatches.{ArgMatches}
 use Rattle.clap.proofs.WalkLemmas.{both}
 use Rattle.cnb_words.specs.Faults.{AreReadAs}
 use Rattle.cnb_words.specs.Options.{options_in}
-use Rattle.cnb_words.specs.Reading.{Finds, checked_for, dashed, fault_of_reading, given_by, is_plain, reader, texts_of, values_at}
+use Rattle.cnb_words.specs.Reading.{Finds, checked_for, dashed, fault_of_reading, given_by, is_plain, reader, texts_of}
+use Rattle.cnb_words.specs.Reading.{values_at}
 use Rattle.cnb_words.specs.declared.fault.WordsFault.{WordsFault}
 use Rattle.cnb_words.proofs.ReaderLemmas.{simple_reader}
 use Rattle.cnb_words.proofs.ReadingLaw.{read_where_no_fault, unread_where_fault}

@@ -1,5 +1,7 @@
 -- Options by name, and the rows that they leave.
-use Rattle.std.proofs.Common.{◌≡◌, ◌∙◌, ℕ, ◌+◌, ◌≤◌, ◌&&◌, ◌||◌, Bool, cond, true, false, refl, sym, ap, ap₂, arith, subst, List, [], ◌∷◌, ◌++◌, map, find, Option, Some, None, option_and_then, count_by, true≢false, append-nil, append_assoc, nat_le, eqb-true, leb-true, ◌==◌}
+use Rattle.std.proofs.Common.{◌≡◌, ◌∙◌, ℕ, ◌+◌, ◌≤◌, ◌&&◌, ◌||◌, Bool, cond, true, false, refl, sym, ap, ap₂, arith}
+use Rattle.std.proofs.Common.{subst, List, [], ◌∷◌, ◌++◌, map, find, Option, Some, None, option_and_then, count_by}
+use Rattle.std.proofs.Common.{true≢false, append-nil, append_assoc, nat_le, eqb-true, leb-true, ◌==◌}
 use Rattle.std.specs.List.{list_all, list_any}
 use Rattle.std.specs.Option.{option_map_or}
 use Rattle.std.specs.Str.{bytes_eq}

@@ -1,11 +1,15 @@
 -- The command that reads options, once it is built.
-use Rattle.std.proofs.Common.{◌≡◌, ◌∙◌, ◌&&◌, ◌||◌, Bool, cond, true, false, not, refl, ap, ap₂, List, [], ◌∷◌, ◌++◌, map, fold, Option, Some, None, is_some, count_by}
+use Rattle.std.proofs.Common.{◌≡◌, ◌∙◌, ◌&&◌, ◌||◌, Bool, cond, true, false, not, refl, ap, ap₂, List, [], ◌∷◌, ◌++◌}
+use Rattle.std.proofs.Common.{map, fold, Option, Some, None, is_some, count_by}
 use Rattle.std.specs.List.{list_all, list_any}
 use Rattle.clap.specs.Kinds.{Kinds, or_else}
-use Rattle.clap.specs.Faults.{built_fault, check_fault, defaults_fault, entered_fault, fault_of, has_free_rules, is_free_app, is_simple_and_free, level_fault, settle_fault, walk_fault}
-use Rattle.clap.specs.Simple.{App, built, entered, filled_from, has_simple_rules, is_buildable, is_in_order, is_ready, is_ready_leaf, matches_of, names_of}
+use Rattle.clap.specs.Faults.{built_fault, check_fault, defaults_fault, entered_fault, fault_of, has_free_rules}
+use Rattle.clap.specs.Faults.{is_free_app, is_simple_and_free, level_fault, settle_fault, walk_fault}
+use Rattle.clap.specs.Simple.{App, built, entered, filled_from, has_simple_rules, is_buildable, is_in_order, is_ready}
+use Rattle.clap.specs.Simple.{is_ready_leaf, matches_of, names_of}
 use Rattle.clap.specs.Takes.{is_given}
-use Rattle.clap.specs.Walk.{Held, Row, Rule, Text, finished, has_row, is_early_multiple, nothing_held, rows_after, settled, walk, walk_from, with_default}
+use Rattle.clap.specs.Walk.{Held, Row, Rule, Text, finished, has_row, is_early_multiple, nothing_held, rows_after}
+use Rattle.clap.specs.Walk.{settled, walk, walk_from, with_default}
 use Rattle.clap.specs.declared.builder.action.ArgAction.TheVariants.{Set, Append}
 use Rattle.cnb_words.specs.Reading.{is_plain, kinds_of, option_rule, reader}
 use Rattle.cnb_words.proofs.WalkLemmas.{Kind, built_rule, guard, guard-or, shape, taken, walk_law}

@@ -1,5 +1,6 @@
 -- What `clap` reads, and what is to be read.
-use Rattle.std.proofs.Common.{◌≡◌, ◌∙◌, ℕ, ◌==◌, ◌&&◌, Bool, cond, true, false, refl, sym, ap, List, [], ◌∷◌, Option, Some, None, option_and_then, true≢false, eqb-true, subst}
+use Rattle.std.proofs.Common.{◌≡◌, ◌∙◌, ℕ, ◌==◌, ◌&&◌, Bool, cond, true, false, refl, sym, ap, List, [], ◌∷◌, Option}
+use Rattle.std.proofs.Common.{Some, None, option_and_then, true≢false, eqb-true, subst}
 use Rattle.std.specs.List.{after_first, before_first, list_all}
 use Rattle.std.proofs.lemmas.Option.{option_and_then_some}
 use Rattle.clap.specs.Faults.{fault_of}
@@ -9,7 +10,9 @@ use Rattle.clap.specs.Walk.{Row, Text}
 use Rattle.cnb_words.specs.declared.options.Given.{Given}
 use Rattle.cnb_words.specs.Options.{begins_with_dash, has_equals, in_one_word, in_two_words, options_in}
 use Rattle.cnb_words.specs.Reading.{dashed, is_in, is_plain, kinds_of, reader, texts_of, values_at}
-use Rattle.cnb_words.proofs.WalkLemmas.{Kind, added, added_all, before-dash, bind-none, guard, no-dash-first, no_option, no_waiting, seek, taken, taken_name, taken_value, taken_whole, undashed, with_next}
+use Rattle.cnb_words.proofs.WalkLemmas.{Kind, added, added_all, before-dash, bind-none, guard, no-dash-first, no_option}
+use Rattle.cnb_words.proofs.WalkLemmas.{no_waiting, seek, taken, taken_name, taken_value, taken_whole, undashed}
+use Rattle.cnb_words.proofs.WalkLemmas.{with_next}
 use Rattle.cnb_words.proofs.NameLemmas.{checked, fits, fits_checked, no_empty_name, unfit_checked}
 use Rattle.cnb_words.proofs.ReaderLemmas.{reads}
 

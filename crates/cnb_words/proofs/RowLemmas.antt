@@ -1,5 +1,7 @@
 -- What `clap` found, by name, and the commands that find it.
-use Rattle.std.proofs.Common.{◌≡◌, ◌∙◌, ℕ, ◌+◌, ◌<◌, Bool, cond, true, false, ap, refl, sym, find, get_or, length, map, take, List, [], ◌∷◌, ◌++◌, append-nil, append_assoc, Option, Some, None, option_map, option_and_then, slice_get, unwrap_or}
+use Rattle.std.proofs.Common.{◌≡◌, ◌∙◌, ℕ, ◌+◌, ◌<◌, Bool, cond, true, false, ap, refl, sym, find, get_or, length, map}
+use Rattle.std.proofs.Common.{take, List, [], ◌∷◌, ◌++◌, append-nil, append_assoc, Option, Some, None, option_map}
+use Rattle.std.proofs.Common.{option_and_then, slice_get, unwrap_or}
 use Rattle.std.specs.Borrow.{Bor}
 use Rattle.std.specs.Option.{option_copied, option_map_or}
 use Rattle.std.proofs.lemmas.List.{map-append, take_more}

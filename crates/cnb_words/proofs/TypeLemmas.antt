@@ -1,5 +1,6 @@
 -- Process types are ASCII.
-use Rattle.std.proofs.Common.{◌≡◌, ◌∙◌, Bor, ◌<◌, ap, arith, cond, lit<, sym, ℕ, true, Some, None, subst, Result, Ok, Err, List, [], ◌∷◌, zero, suc}
+use Rattle.std.proofs.Common.{◌≡◌, ◌∙◌, Bor, ◌<◌, ap, arith, cond, lit<, sym, ℕ, true, Some, None, subst, Result, Ok}
+use Rattle.std.proofs.Common.{Err, List, [], ◌∷◌, zero, suc}
 use Rattle.std.proofs.lemmas.Bool.Decides.{nat_tests}
 use Rattle.std.proofs.lemmas.Str.{IsUtf8-from_ascii}
 use Rattle.std.specs.List.{list_all}

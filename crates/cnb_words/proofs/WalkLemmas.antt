@@ -1,19 +1,25 @@
 -- What a walk of `clap` over words of options comes to.
-use Rattle.std.proofs.Common.{◌≡◌, ◌∙◌, ℕ, ◌+◌, ◌==◌, ◌&&◌, ◌||◌, Bool, cond, true, false, not, suc, refl, sym, ap, ap₂, arith, List, [], ◌∷◌, map, length, take, drop, fold, find, Option, Some, None, option_map, option_and_then, one-add, nat_lt, inl, inr, ◌⊎◌, true≢false, lt-ltb, eqb-true, subst}
+use Rattle.std.proofs.Common.{◌≡◌, ◌∙◌, ℕ, ◌+◌, ◌==◌, ◌&&◌, ◌||◌, Bool, cond, true, false, not, suc, refl, sym, ap, ap₂}
+use Rattle.std.proofs.Common.{arith, List, [], ◌∷◌, map, length, take, drop, fold, find, Option, Some, None, option_map}
+use Rattle.std.proofs.Common.{option_and_then, one-add, nat_lt, inl, inr, ◌⊎◌, true≢false, lt-ltb, eqb-true, subst}
 use Rattle.std.specs.List.{after_first, before_first, list_all, list_any, position_or_len}
 use Rattle.std.specs.Str.{bytes_eq}
 use Rattle.std.proofs.lemmas.Slice.Eq.{bytes_eq-Decides}
 use Rattle.clap.specs.Lexer.{long_of, short_of, strip_byte}
 use Rattle.clap.specs.Kinds.{Kinds, or_else}
-use Rattle.clap.specs.Faults.{long_fault, react_fault, settle_fault, step_fault, turn_fault, use_fault, walk_fault, word_fault}
+use Rattle.clap.specs.Faults.{long_fault, react_fault, settle_fault, step_fault, turn_fault, use_fault, walk_fault}
+use Rattle.clap.specs.Faults.{word_fault}
 use Rattle.clap.specs.Simple.{Shape, new_shape}
-use Rattle.clap.specs.Walk.{Held, Row, Rule, Step, Text, Waiting, Walk, after_flag, after_step, arg_by_id, arg_by_index, arg_by_long, has_row, idle, long_met, option, settled, subcommand_met, next, value as alone, used, walked, word_met}
+use Rattle.clap.specs.Walk.{Held, Row, Rule, Step, Text, Waiting, Walk, after_flag, after_step, arg_by_id, arg_by_index}
+use Rattle.clap.specs.Walk.{arg_by_long, has_row, idle, long_met, option, settled, subcommand_met, next, value as alone}
+use Rattle.clap.specs.Walk.{used, walked, word_met}
 use Rattle.clap.specs.declared.builder.action.ArgAction.{ArgAction}
 use Rattle.clap.specs.declared.builder.action.ArgAction.TheVariants.{Set, Append}
 use Rattle.clap.specs.declared.error.kind.ErrorKind.TheVariants.{ArgumentConflict, InvalidValue}
 use Rattle.clap.proofs.WalkLemmas.{both}
 use Rattle.cnb_words.specs.declared.options.Given.{Given}
-use Rattle.cnb_words.specs.Options.{begins_with_dash, has_equals, in_front, in_one_word, in_two_words, option_with, options_behind}
+use Rattle.cnb_words.specs.Options.{begins_with_dash, has_equals, in_front, in_one_word, in_two_words, option_with}
+use Rattle.cnb_words.specs.Options.{options_behind}
 use Rattle.cnb_words.specs.Reading.{is_plain, option_rule}
 
 -- ---- answers that may fail

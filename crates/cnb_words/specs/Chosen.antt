@@ -20,7 +20,8 @@ use Rattle.cnb_words.specs.declared.fault.WordsFault.{WordsFault}
 use Rattle.cnb_words.specs.declared.fault.WordsFault.TheVariants.{Usage}
 use Rattle.cnb_words.specs.declared.options.Given.{Given}
 use Rattle.cnb_words.specs.declared.words.Asked.{Asked}
-use Rattle.cnb_words.specs.declared.words.Asked.TheVariants.{Detect, Analyze, Restore, Build, Export, Create, Rebase, Base, Unpack, Show, Prune, Verify, Check}
+use Rattle.cnb_words.specs.declared.words.Asked.TheVariants.{Detect, Analyze, Restore, Build, Export, Create, Rebase}
+use Rattle.cnb_words.specs.declared.words.Asked.TheVariants.{Base, Unpack, Show, Prune, Verify, Check}
 
 -- a command on what is there already
 abbrev pub store_chosen : List ℕ → Option (List Given) → Result Asked WordsFault

@@ -2,7 +2,8 @@
 ghost use Rattle.std.specs.Prelude.{◌≡◌, IfOk, IsTrue, map, string_bytes};
 ghost use Rattle.cnb_toml.specs.Names.{is_process_type};
 ghost use Rattle.cnb_words.specs.Faults.{AreReadAs};
-ghost use Rattle.cnb_words.specs.Launch.{call_in, direct_call, launch_at, launch_in, launch_in_root, process_at, IsCall, KeepsLimits};
+ghost use Rattle.cnb_words.specs.Launch.{call_in, direct_call, launch_at, launch_in, launch_in_root, process_at};
+ghost use Rattle.cnb_words.specs.Launch.{IsCall, KeepsLimits};
 
 use crate::fault::WordsFault;
 use crate::values::path_in;

@@ -2,7 +2,8 @@
 ghost use Rattle.std.specs.Prelude.{◌≡◌, ◌<◌, ◌≤◌, ◌^◌, All, IfOk, IsTrue, length, map};
 ghost use Rattle.cnb_toml.specs.Names.{is_target_name};
 ghost use Rattle.cnb_words.specs.Faults.{AreReadAs};
-ghost use Rattle.cnb_words.specs.OptionValues.{caches_of, image_of, optional_image_of, path_of, paths_of, target_of, trees_of, workers_of};
+ghost use Rattle.cnb_words.specs.OptionValues.{caches_of, image_of, optional_image_of, path_of, paths_of, target_of};
+ghost use Rattle.cnb_words.specs.OptionValues.{trees_of, workers_of};
 ghost use Rattle.cnb_words.specs.Reading.{dashed, paths_in};
 
 use crate::fault::WordsFault;

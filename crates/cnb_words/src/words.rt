@@ -5,7 +5,8 @@ ghost use Rattle.cnb_words.specs.Chosen.{image_chosen, phase_chosen, store_chose
 ghost use Rattle.cnb_words.specs.Options.{options_in};
 ghost use Rattle.steps.specs.Causes.{IsAnswer};
 ghost use Rattle.cnb_words.specs.Faults.{cause_of};
-ghost use Rattle.cnb_words.specs.Words.{AsksWithinLimits, asked_by, asked_of, caches_asked, command_asked, launcher_asked, options_asked, process_asked};
+ghost use Rattle.cnb_words.specs.Words.{AsksWithinLimits, asked_by, asked_of, caches_asked, command_asked};
+ghost use Rattle.cnb_words.specs.Words.{launcher_asked, options_asked, process_asked};
 
 use crate::analyze::{AnalyzeWords, analyze_in};
 use crate::base::{BaseWords, base_in};

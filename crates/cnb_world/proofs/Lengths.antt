@@ -1,5 +1,6 @@
 -- How long paths are.
-use Rattle.std.proofs.Common.{ℕ, ◌+◌, ◌≤◌, nat_le, nat_lt, Bool, true, false, not, IsTrue, List, [], ◌∷◌, ◌++◌, length, arith, length-append}
+use Rattle.std.proofs.Common.{ℕ, ◌+◌, ◌≤◌, nat_le, nat_lt, Bool, true, false, not, IsTrue, List, [], ◌∷◌, ◌++◌, length}
+use Rattle.std.proofs.Common.{arith, length-append}
 use Rattle.std.specs.Prelude.{◌&&◌, if◌then◌else◌}
 use Rattle.std.specs.List.{list_all}
 use Rattle.std.specs.Str.{bytes_eq}

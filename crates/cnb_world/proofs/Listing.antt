@@ -1,5 +1,7 @@
 -- A list of names that holds each name in a folder, and no other, is the folder's list.
-use Rattle.std.proofs.Common.{◌≡◌, ◌≢◌, ℕ, Bool, true, false, cond, T, List, [], ◌∷◌, ◌++◌, ◌&&◌, ◌||◌, refl, sym, ap, subst, ◌∙◌, Option, Some, None, is_some, Result, Ok, Err, IsTrue, length, take, drop, nat_eq, append-nil, length-append, arith}
+use Rattle.std.proofs.Common.{◌≡◌, ◌≢◌, ℕ, Bool, true, false, cond, T, List, [], ◌∷◌, ◌++◌, ◌&&◌, ◌||◌, refl, sym, ap}
+use Rattle.std.proofs.Common.{subst, ◌∙◌, Option, Some, None, is_some, Result, Ok, Err, IsTrue, length, take, drop}
+use Rattle.std.proofs.Common.{nat_eq, append-nil, length-append, arith}
 use Rattle.std.proofs.lemmas.List.{take-append-drop}
 use Rattle.std.specs.Str.{bytes_eq}
 use Rattle.std.specs.declared.cmp.Ordering.{Ordering}
@@ -8,7 +10,8 @@ use Rattle.std.specs.Ordering.{nat_cmp, is_lt, is_eq, ordering_reverse, ordering
 use Rattle.std.specs.Option.{unwrap_or}
 use Rattle.std.specs.Cmp.Lexicographic.{slice_cmp}
 use Rattle.std.specs.List.{list_any, filter_map, cons_option, starts_with, AllByRecursion}
-use Rattle.std.specs.FinMap.{get, entries, entries_sorted, get-entries, find, is_sorted, slice_cmp-IsAntisymmetric, nat_cmp-IsAntisymmetric}
+use Rattle.std.specs.FinMap.{get, entries, entries_sorted, get-entries, find, is_sorted, slice_cmp-IsAntisymmetric}
+use Rattle.std.specs.FinMap.{nat_cmp-IsAntisymmetric}
 use Rattle.std.specs.FinMap.Entries.{below_all}
 use Rattle.std.proofs.lemmas.Cmp.{nat_cmp_total, nat_list_cmp_total, tied_itself}
 use Rattle.std.proofs.lemmas.Map.Text.{is_eq-slice_cmp}

@@ -1,5 +1,7 @@
 -- What the calls make of a tree is a tree again: all stands at paths other than `/`, in folders.
-use Rattle.std.proofs.Common.{◌≡◌, ℕ, ◌≤◌, ◌<◌, Bool, true, false, not, cond, List, [], ◌∷◌, ◌++◌, ◌&&◌, ◌||◌, ◌==◌, ◌⊎◌, inl, inr, zero, suc, refl, sym, ap, subst, ◌∙◌, Option, Some, None, is_some, Result, Ok, Err, OnOk, OnErr, length, drop, append_assoc, append-nil, length-append, arith}
+use Rattle.std.proofs.Common.{◌≡◌, ℕ, ◌≤◌, ◌<◌, Bool, true, false, not, cond, List, [], ◌∷◌, ◌++◌, ◌&&◌, ◌||◌, ◌==◌}
+use Rattle.std.proofs.Common.{◌⊎◌, inl, inr, zero, suc, refl, sym, ap, subst, ◌∙◌, Option, Some, None, is_some, Result}
+use Rattle.std.proofs.Common.{Ok, Err, OnOk, OnErr, length, drop, append_assoc, append-nil, length-append, arith}
 use Rattle.std.specs.Prelude.{nat_eq, nat_le}
 use Rattle.std.specs.List.{list_all, starts_with}
 use Rattle.std.specs.Str.{bytes_eq}
@@ -14,7 +16,10 @@ use Rattle.cnb_world.specs.declared.world.Item.{Item}
 use Rattle.cnb_world.specs.declared.world.Item.TheVariants.{Folder, File, Link, Odd}
 use Rattle.cnb_world.specs.declared.world.Placed.{Placed}
 use Rattle.cnb_world.specs.Path.{is_path, is_part, front_of, parent_of}
-use Rattle.cnb_world.specs.Tree.{Tree, IsTree, StandsRight, item_at, is_root, is_folder, is_file, is_file_or_absent, is_exec, bytes_of, is_under, is_within, without, folders_from, folders_above, with_folders, folder_made, created, appended, renamed, moved, linked, can_create, can_read, can_rename, can_make_link}
+use Rattle.cnb_world.specs.Tree.{Tree, IsTree, StandsRight, item_at, is_root, is_folder, is_file, is_file_or_absent}
+use Rattle.cnb_world.specs.Tree.{is_exec, bytes_of, is_under, is_within, without, folders_from, folders_above}
+use Rattle.cnb_world.specs.Tree.{with_folders, folder_made, created, appended, renamed, moved, linked, can_create}
+use Rattle.cnb_world.specs.Tree.{can_read, can_rename, can_make_link}
 use Rattle.cnb_world.specs.declared.memory.change.Change.{Change}
 use Rattle.cnb_world.specs.declared.memory.change.Change.TheVariants.{Ran}
 use Rattle.cnb_world.specs.declared.memory.play.ChildRun.{ChildRun}

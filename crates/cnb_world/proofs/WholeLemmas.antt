@@ -1,16 +1,19 @@
 -- What had to stand for a whole write, and what a refused one leaves.
-use Rattle.std.proofs.Common.{◌≡◌, ℕ, ◌<◌, Bool, true, false, cond, List, [], ◌∷◌, ◌&&◌, Ok, refl, sym, ap, subst, ◌∙◌, Option, Some, None, IsTrue, length, take, inl, inr}
+use Rattle.std.proofs.Common.{◌≡◌, ℕ, ◌<◌, Bool, true, false, cond, List, [], ◌∷◌, ◌&&◌, Ok, refl, sym, ap, subst, ◌∙◌}
+use Rattle.std.proofs.Common.{Option, Some, None, IsTrue, length, take, inl, inr}
 use Rattle.std.specs.Prelude.{IfSome}
 use Rattle.std.specs.Option.{option_map}
 use Rattle.std.specs.FinMap.{insert}
 use Rattle.cnb_world.specs.declared.world.Item.TheVariants.{Folder, File}
 use Rattle.cnb_world.specs.Calls.{AppendsSome, CountsMisuse}
 use Rattle.cnb_world.specs.Path.{parent_of, beside}
-use Rattle.cnb_world.specs.Tree.{Tree, item_at, is_root, is_file, is_folder, is_file_or_absent, can_make_folder, can_create, can_rename, created, appended, folder_made}
+use Rattle.cnb_world.specs.Tree.{Tree, item_at, is_root, is_file, is_folder, is_file_or_absent, can_make_folder}
+use Rattle.cnb_world.specs.Tree.{can_create, can_rename, created, appended, folder_made}
 use Rattle.cnb_world.specs.Whole.{Unbegun, FolderMade, PartBeside, can_reach, can_write, left_of, LeavesPart}
 use Rattle.cnb_world.proofs.Parents.{both_true}
 use Rattle.cnb_world.proofs.Trees.{appended-created, made}
-use Rattle.cnb_world.proofs.Folders.{get-folder_made_longer, length-parent_of, parent_shorter, item_at-insert_shorter, longer_beside, created_after, three}
+use Rattle.cnb_world.proofs.Folders.{get-folder_made_longer, length-parent_of, parent_shorter, item_at-insert_shorter}
+use Rattle.cnb_world.proofs.Folders.{longer_beside, created_after, three}
 
 -- a call that was answered found what it has to find
 needed : {T : Type 0} (x : T) (v : Bool) (b c : ℕ) → CountsMisuse (Some v) (Ok x) b c → v ≡ true

@@ -1,8 +1,12 @@
 // Files.
-ghost use Rattle.std.specs.Prelude.{◌≡◌, ◌≤◌, List as Seq, ℕ, length, take, drop, Option, IfOk, IfSome, OnOk, OnErr, not, false, is_some, ◌++◌, ◌∷◌, []};
+ghost use Rattle.std.specs.Prelude.{◌≡◌, ◌≤◌, List as Seq, ℕ, length, take, drop, Option, IfOk, IfSome, OnOk, OnErr};
+ghost use Rattle.std.specs.Prelude.{not, false, is_some, ◌++◌, ◌∷◌, []};
 ghost use Rattle.std.specs.Option.{option_map};
-ghost use Rattle.cnb_world.specs.Tree.{Tree, IsTree, item_at, kind_of, bytes_of, can_list, can_read, can_create, can_make_folder, can_make_link, can_read_link, can_rename, created, appended, folder_made, is_root, linked, renamed, target_of, without, Lists};
-ghost use Rattle.cnb_world.specs.Calls.{CountsChild, CountsFailed, CountsMisuse, LastFailed, AreNames, AppendsSome, RemovesSome};
+ghost use Rattle.cnb_world.specs.Tree.{Tree, IsTree, item_at, kind_of, bytes_of, can_list, can_read, can_create};
+ghost use Rattle.cnb_world.specs.Tree.{can_make_folder, can_make_link, can_read_link, can_rename, created, appended};
+ghost use Rattle.cnb_world.specs.Tree.{folder_made, is_root, linked, renamed, target_of, without, Lists};
+ghost use Rattle.cnb_world.specs.Calls.{CountsChild, CountsFailed, CountsMisuse, LastFailed, AreNames, AppendsSome};
+ghost use Rattle.cnb_world.specs.Calls.{RemovesSome};
 ghost use Rattle.cnb_world.specs.Runs.{Run};
 
 use crate::child::{ChildFault, ChildJob, End};

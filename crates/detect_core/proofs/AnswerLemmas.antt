@@ -1,5 +1,6 @@
 -- Answers that are kept from earlier groups are those that the definitions read.
-use Rattle.std.proofs.Common.{◌≡◌, ◌∙◌, refl, sym, ap, subst, inl, inr, ℕ, ◌+◌, Bool, true, false, cond, List, [], ◌∷◌, ◌++◌, map, length, arith}
+use Rattle.std.proofs.Common.{◌≡◌, ◌∙◌, refl, sym, ap, subst, inl, inr, ℕ, ◌+◌, Bool, true, false, cond, List, [], ◌∷◌}
+use Rattle.std.proofs.Common.{◌++◌, map, length, arith}
 use Rattle.std.specs.Prelude.{◌&&◌, ◌||◌, if◌then◌else◌, Option, Some, None}
 use Rattle.std.specs.List.{filter, list_any, list_all, filter_map, cons_option}
 use Rattle.std.proofs.lemmas.Bool.{false≢true, or_cases}
@@ -9,7 +10,8 @@ use Rattle.cnb_toml.specs.declared.names.Key.{Key}
 use Rattle.cnb_toml.specs.Keys.{same_key}
 use Rattle.order_expand.specs.declared.member.Member.{Member}
 use Rattle.detect_core.specs.declared.chosen.Verdict.{Verdict}
-use Rattle.detect_core.specs.Answer.{is_pass, is_fit, where_fit, alive_row, alive_of, key_of, recorded, answer_of, answer_or_error, build_plan, says}
+use Rattle.detect_core.specs.Answer.{is_pass, is_fit, where_fit, alive_row, alive_of, key_of, recorded, answer_of}
+use Rattle.detect_core.specs.Answer.{answer_or_error, build_plan, says}
 use Rattle.detect_core.specs.Detection.{Ending, ending_of_rows, ending_at, first_ending, fitting, reached, members_of}
 use Rattle.detect_core.specs.Kept.{row_of, kept_for, verdict_or_error, verdict_for, kept_says}
 use Rattle.detect_core.proofs.FittingLemmas.{any_put, any_put_here, flat-fitting}

@@ -1,5 +1,6 @@
 -- What spawners ran between them in one round after another.
-use Rattle.std.proofs.Common.{◌≡◌, ◌∙◌, refl, sym, ap, subst, arith, ◌<◌, List, [], ◌∷◌, ◌++◌, map, length, length-append, append_assoc, append-nil, Option}
+use Rattle.std.proofs.Common.{◌≡◌, ◌∙◌, refl, sym, ap, subst, arith, ◌<◌, List, [], ◌∷◌, ◌++◌, map, length}
+use Rattle.std.proofs.Common.{length-append, append_assoc, append-nil, Option}
 use Rattle.std.specs.List.{AllByRecursion}
 use Rattle.cnb_world.specs.Runs.{Ran}
 use Rattle.cnb_world.specs.declared.child.Reply.{Reply}

@@ -1,5 +1,6 @@
 -- How a group without a trial ends, and which buildpacks a choice names.
-use Rattle.std.proofs.Common.{◌≡◌, ◌∙◌, refl, sym, ap, subst, ℕ, ◌+◌, ◌*◌, ◌<◌, Bool, true, false, List, [], ◌∷◌, ◌++◌, map, take, get_or, length, arith}
+use Rattle.std.proofs.Common.{◌≡◌, ◌∙◌, refl, sym, ap, subst, ℕ, ◌+◌, ◌*◌, ◌<◌, Bool, true, false, List, [], ◌∷◌, ◌++◌}
+use Rattle.std.proofs.Common.{map, take, get_or, length, arith}
 use Rattle.std.specs.Prelude.{◌&&◌, nat_lt, slice_get, Option, Some, None, Ok}
 use Rattle.std.specs.List.{flat_map, list_all, cons_option}
 use Rattle.std.proofs.lemmas.Bool.{false≢true, lt-ltb}

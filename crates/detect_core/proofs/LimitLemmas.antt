@@ -1,5 +1,6 @@
 -- How many listed groups a checked order has, and how long they are.
-use Rattle.std.proofs.Common.{◌≡◌, ◌∙◌, refl, sym, subst, ℕ, suc, ◌+◌, ◌<◌, ◌≤◌, ◌^◌, Bool, true, false, not, List, [], ◌∷◌, ◌++◌, map, length, arith, length-append}
+use Rattle.std.proofs.Common.{◌≡◌, ◌∙◌, refl, sym, subst, ℕ, suc, ◌+◌, ◌<◌, ◌≤◌, ◌^◌, Bool, true, false, not, List, []}
+use Rattle.std.proofs.Common.{◌∷◌, ◌++◌, map, length, arith, length-append}
 use Rattle.std.specs.Prelude.{◌&&◌, ◌||◌, nat_lt, if◌then◌else◌, Option, Some, None, IfSome, Ok, Err, IsOk}
 use Rattle.std.specs.List.{filter, filter_map, list_all, list_any, cons_option}
 use Rattle.std.proofs.lemmas.Bool.{false≢true, le-ltb, ltb-false}
@@ -9,7 +10,8 @@ use Rattle.bp_docs.specs.declared.descriptor.Descriptor.{Descriptor}
 use Rattle.order_expand.specs.declared.member.Member.{Member}
 use Rattle.order_expand.specs.declared.order.OrderFault.{OrderFault}
 use Rattle.order_expand.specs.declared.order.OrderFault.TheVariants.{ManyGroups, LongGroup}
-use Rattle.order_expand.specs.Check.{checked, fault_or_deep, deep_or_count, count_groups, first_fault, first_deep, met_entries}
+use Rattle.order_expand.specs.Check.{checked, fault_or_deep, deep_or_count, count_groups, first_fault, first_deep}
+use Rattle.order_expand.specs.Check.{met_entries}
 use Rattle.order_expand.specs.Groups.{distinct, same_id, raw_groups, listed_groups}
 use Rattle.plan_resolve.specs.declared.rows.AliveRow.{AliveRow}
 use Rattle.detect_core.specs.declared.chosen.Verdict.{Verdict}

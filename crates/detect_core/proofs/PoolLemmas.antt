@@ -1,5 +1,6 @@
 -- What the pool promises of its spawners: the children that they ran between them, in the order of the jobs.
-use Rattle.std.proofs.Common.{◌≡◌, ◌∙◌, refl, sym, ap, subst, arith, ℕ, ◌+◌, ◌<◌, zero, suc, inl, inr, ◌⊎◌, List, [], ◌∷◌, ◌++◌, map, drop, take, length, append-nil, append_assoc, ◌-◌}
+use Rattle.std.proofs.Common.{◌≡◌, ◌∙◌, refl, sym, ap, subst, arith, ℕ, ◌+◌, ◌<◌, zero, suc, inl, inr, ◌⊎◌, List, []}
+use Rattle.std.proofs.Common.{◌∷◌, ◌++◌, map, drop, take, length, append-nil, append_assoc, ◌-◌}
 use Rattle.std.specs.Prelude.{slice_get, Option, Some, None, Result, Ok, Err, IfOk, OnErr}
 use Rattle.std.specs.List.{AllByRecursion, AllZip, cons_option}
 use Rattle.std.proofs.lemmas.List.{map-append}

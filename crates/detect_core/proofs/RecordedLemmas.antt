@@ -1,5 +1,6 @@
 -- What the answers of a search say of its choice.
-use Rattle.std.proofs.Common.{◌≡◌, ◌∙◌, refl, sym, ap, subst, ℕ, ◌+◌, ◌<◌, zero, suc, arith, Bool, true, false, cond, List, [], ◌∷◌, ◌++◌, map, take, length, get_or, append_assoc}
+use Rattle.std.proofs.Common.{◌≡◌, ◌∙◌, refl, sym, ap, subst, ℕ, ◌+◌, ◌<◌, zero, suc, arith, Bool, true, false, cond}
+use Rattle.std.proofs.Common.{List, [], ◌∷◌, ◌++◌, map, take, length, get_or, append_assoc}
 use Rattle.std.specs.Prelude.{◌||◌, Option, Some, None, Result, Ok, Err, IfOk}
 use Rattle.std.specs.List.{list_any}
 use Rattle.std.proofs.lemmas.List.{map-append, take_more}
@@ -24,10 +25,12 @@ use Rattle.detect_core.specs.declared.chosen.Recorded.{Recorded}
 use Rattle.detect_core.specs.declared.chosen.Verdict.{Verdict}
 use Rattle.detect_core.specs.Answer.{answer_of, answer_row, build_plan, key_of, recorded, says}
 use Rattle.detect_core.specs.Asking.{AreNew}
-use Rattle.detect_core.specs.Detection.{Ending, TooManyTrials, FirstTrial, asked_keys, asked_members, first_trial, fitting, has_erred, members_of, reached}
+use Rattle.detect_core.specs.Detection.{Ending, TooManyTrials, FirstTrial, asked_keys, asked_members, first_trial}
+use Rattle.detect_core.specs.Detection.{fitting, has_erred, members_of, reached}
 use Rattle.detect_core.specs.Job.{detect_job}
 use Rattle.detect_core.specs.Kept.{KeptRow, kept_says, row_of}
-use Rattle.detect_core.specs.Recorded.{AreRecordedBy, IsRecorded, answer_rows, answered_keys, chosen_of, kept_row, says_recorded}
+use Rattle.detect_core.specs.Recorded.{AreRecordedBy, IsRecorded, answer_rows, answered_keys, chosen_of, kept_row}
+use Rattle.detect_core.specs.Recorded.{says_recorded}
 use Rattle.detect_core.specs.Search.{DetectsAs, IsChoice}
 use Rattle.detect_core.specs.Searching.{IsRecordedSearch, IsSearch}
 use Rattle.detect_core.proofs.AnswerLemmas.{kept_says-says}

@@ -1,5 +1,6 @@
 -- How a search goes on, group by group.
-use Rattle.std.proofs.Common.{◌≡◌, ◌∙◌, inl, inr, refl, sym, ap, subst, ℕ, ◌+◌, Bool, false, List, [], ◌∷◌, ◌++◌, map, length, append_assoc, append-nil, zero-add}
+use Rattle.std.proofs.Common.{◌≡◌, ◌∙◌, inl, inr, refl, sym, ap, subst, ℕ, ◌+◌, Bool, false, List, [], ◌∷◌, ◌++◌, map}
+use Rattle.std.proofs.Common.{length, append_assoc, append-nil, zero-add}
 use Rattle.std.specs.Prelude.{◌||◌, Option, Some, None, Result, Ok, Err, OnOk}
 use Rattle.std.specs.List.{filter, list_any}
 use Rattle.std.proofs.lemmas.Grind.{flat_map-append}
@@ -21,7 +22,8 @@ use Rattle.detect_core.specs.declared.chosen.Verdict.{Verdict}
 use Rattle.detect_core.specs.declared.judging.Judged.{Judged}
 use Rattle.detect_core.specs.Answer.{answer_row, is_error, is_fit, key_of, recorded, answer_or_error, build_plan, says}
 use Rattle.detect_core.specs.Asking.{unmet, RunsAll, RunsSome}
-use Rattle.detect_core.specs.Detection.{Ending, TooManyTrials, FirstTrial, ending_of_rows, ending_at, first_ending, fitting, reached, members_of}
+use Rattle.detect_core.specs.Detection.{Ending, TooManyTrials, FirstTrial, ending_of_rows, ending_at, first_ending}
+use Rattle.detect_core.specs.Detection.{fitting, reached, members_of}
 use Rattle.detect_core.specs.Ending.{EndsGroup}
 use Rattle.detect_core.specs.Job.{detect_job}
 use Rattle.detect_core.specs.Judging.{IsJudged}
@@ -30,7 +32,8 @@ use Rattle.detect_core.specs.Search.{DetectsAs, OnDetected}
 use Rattle.detect_core.specs.Searching.{IsSearch}
 use Rattle.detect_core.proofs.AskedLemmas.{asked_then}
 use Rattle.detect_core.proofs.AskingLemmas.{map-map, ran_keys}
-use Rattle.detect_core.proofs.AnswerLemmas.{kept_says-says, agree_kept, any_same, first_ending_same, or_later, or_reached, first_ending-append, reached-append}
+use Rattle.detect_core.proofs.AnswerLemmas.{kept_says-says, agree_kept, any_same, first_ending_same, or_later}
+use Rattle.detect_core.proofs.AnswerLemmas.{or_reached, first_ending-append, reached-append}
 use Rattle.detect_core.proofs.FittingLemmas.{any_asked, fitting-append}
 use Rattle.detect_core.proofs.OrderLemmas.{all_some}
 use Rattle.detect_core.proofs.MemberLemmas.{keys_of_members, flat, members-push, members-front}

@@ -1,5 +1,6 @@
 -- One turn of the search: the next group is asked, judged, and ends the search or not.
-use Rattle.std.proofs.Common.{◌≡◌, ◌∙◌, refl, sym, ap, subst, ℕ, ◌+◌, ◌<◌, ◌≤◌, ◌^◌, Bool, false, List, [], ◌∷◌, ◌++◌, map, length, arith, append_assoc, append-nil, length-append}
+use Rattle.std.proofs.Common.{◌≡◌, ◌∙◌, refl, sym, ap, subst, ℕ, ◌+◌, ◌<◌, ◌≤◌, ◌^◌, Bool, false, List, [], ◌∷◌, ◌++◌}
+use Rattle.std.proofs.Common.{map, length, arith, append_assoc, append-nil, length-append}
 use Rattle.std.specs.Prelude.{◌||◌, Option, Some, None, IfSome, Result, Ok, Err, IsErrAnd}
 use Rattle.std.specs.List.{filter}
 use Rattle.steps.specs.Outside.{SpawnerSeen}
@@ -22,7 +23,8 @@ use Rattle.detect_core.specs.Judging.{IsJudged}
 use Rattle.detect_core.specs.Kept.{keys_of, kept_says}
 use Rattle.detect_core.specs.Searching.{AreWithin, IsSearch, end_of_fault}
 use Rattle.detect_core.proofs.LimitLemmas.{within_group, within_place, judged_rows}
-use Rattle.detect_core.proofs.SearchLemmas.{IsAt, IsUnderWay, IsStopped, GroupLeads, under_way_start, stopped_between, stopped_in, stopped_behind, asked_group, group_leads, no_group}
+use Rattle.detect_core.proofs.SearchLemmas.{IsAt, IsUnderWay, IsStopped, GroupLeads, under_way_start, stopped_between}
+use Rattle.detect_core.proofs.SearchLemmas.{stopped_in, stopped_behind, asked_group, group_leads, no_group}
 
 pub err_result : {A : Type 0} (P : Result A DetectEnd → Type 0) (r : Result A DetectEnd) (end : DetectEnd)
     → IsErrAnd r (λ e. e ≡ end) → P (Err end) → P r

@@ -1,6 +1,8 @@
 -- What the first trial that passes comes to can be written.
-use Rattle.std.proofs.Common.{◌≡◌, ◌∙◌, refl, sym, ap, subst, ℕ, ◌+◌, Bool, true, false, cond, List, [], ◌∷◌, map, length, inl, inr}
-use Rattle.std.specs.Prelude.{ℤ, pos, negsuc, ◌==◌, ◌&&◌, ◌||◌, nat_lt, if◌then◌else◌, IfOk, IsTrue, Option, Some, None, Result, Ok, Err}
+use Rattle.std.proofs.Common.{◌≡◌, ◌∙◌, refl, sym, ap, subst, ℕ, ◌+◌, Bool, true, false, cond, List, [], ◌∷◌, map}
+use Rattle.std.proofs.Common.{length, inl, inr}
+use Rattle.std.specs.Prelude.{ℤ, pos, negsuc, ◌==◌, ◌&&◌, ◌||◌, nat_lt, if◌then◌else◌, IfOk, IsTrue, Option, Some, None}
+use Rattle.std.specs.Prelude.{Result, Ok, Err}
 use Rattle.std.specs.Result.{result_ok}
 use Rattle.std.specs.List.{filter_map, list_all, list_any, cons_option}
 use Rattle.std.proofs.lemmas.Bool.{false≢true, and_parts, and_from, cases_Bool}
@@ -25,7 +27,8 @@ use Rattle.plan_resolve.specs.declared.rows.Resolved.{Resolved}
 use Rattle.plan_resolve.specs.Choices.{chosen_row, choices_of, choice_count}
 use Rattle.plan_resolve.specs.Plan.{at_places, Kept, plan_of, with_keys}
 use Rattle.plan_resolve.specs.Pruning.{is_ascending}
-use Rattle.plan_resolve.specs.Resolution.{Resolution, TooMany, Passes, Fails, resolution, resolved_at, first_passing, passes_or_fails}
+use Rattle.plan_resolve.specs.Resolution.{Resolution, TooMany, Passes, Fails, resolution, resolved_at, first_passing}
+use Rattle.plan_resolve.specs.Resolution.{passes_or_fails}
 use Rattle.plan_resolve.specs.Trials.{is_closed, is_in, places, subsets, largest, is_passing, kept_of}
 use Rattle.plan_resolve.proofs.NearLemmas.{ascending_part}
 use Rattle.plan_resolve.proofs.ResolutionLemmas.{resolution_many, resolution_tried}
@@ -34,12 +37,15 @@ use Rattle.detect_core.specs.declared.chosen.DetectEnd.{DetectEnd}
 use Rattle.detect_core.specs.declared.chosen.DetectFrame.{DetectFrame}
 use Rattle.detect_core.specs.declared.chosen.Verdict.{Verdict}
 use Rattle.detect_core.specs.declared.chosen.Verdict.TheVariants.{Pass, Fail, Error}
-use Rattle.detect_core.specs.Answer.{build_plan, pass_or_error, answer_by, recorded, answer_or_error, is_fit, says, is_pass, alive_row, where_fit}
-use Rattle.detect_core.specs.Detection.{Ending, TooManyTrials, FirstTrial, ending_by, ending_of_rows, ending_at, first_ending, first_trial, asked_keys, has_erred}
+use Rattle.detect_core.specs.Answer.{build_plan, pass_or_error, answer_by, recorded, answer_or_error, is_fit, says}
+use Rattle.detect_core.specs.Answer.{is_pass, alive_row, where_fit}
+use Rattle.detect_core.specs.Detection.{Ending, TooManyTrials, FirstTrial, ending_by, ending_of_rows, ending_at}
+use Rattle.detect_core.specs.Detection.{first_ending, first_trial, asked_keys, has_erred}
 use Rattle.detect_core.specs.Search.{group_rows, DetectsAs}
 use Rattle.detect_core.proofs.SpawnerLemmas.{IsDetection}
 use Rattle.detect_core.proofs.ListLemmas.{all_each, all_weaker, all_flat}
-use Rattle.detect_core.proofs.OwnIdLemmas.{own_ids, member_id, alive_id, own-distinct, own-alive, own-places, group_of_own}
+use Rattle.detect_core.proofs.OwnIdLemmas.{own_ids, member_id, alive_id, own-distinct, own-alive, own-places}
+use Rattle.detect_core.proofs.OwnIdLemmas.{group_of_own}
 use Rattle.detect_core.proofs.PlanDocLemmas.{need_is_kept, row_is_kept, trial_of, plan_written}
 
 -- ---- the metadata of what a Build Plan requires is kept

@@ -1,5 +1,6 @@
 -- What detect children answered (buildpack.md, "Detection").
-use Rattle.std.specs.Prelude.{ℕ, ℤ, pos, negsuc, ◌==◌, Bool, true, false, List, [], ◌∷◌, ◌&&◌, ◌||◌, if◌then◌else◌, Option, Some, None}
+use Rattle.std.specs.Prelude.{ℕ, ℤ, pos, negsuc, ◌==◌, Bool, true, false, List, [], ◌∷◌, ◌&&◌, ◌||◌, if◌then◌else◌}
+use Rattle.std.specs.Prelude.{Option, Some, None}
 use Rattle.std.specs.Result.{result_ok}
 use Rattle.std.specs.List.{filter_map, list_all, list_any}
 use Rattle.cnb_world.specs.declared.child.Probed.{Probed}

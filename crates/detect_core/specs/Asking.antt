@@ -36,8 +36,7 @@ rows_of (key ∷ keys) [] = []
 rows_of (key ∷ keys) (probed ∷ answers) = (key, answer_of build_plan probed) ∷ rows_of keys answers
 
 -- Spawners ran the children of all these members, each once, and what they answered is kept, and added to the rows, in
--- the
--- members' order.
+-- the members' order.
 pub record RunsAll (frame : DetectFrame) (members : List Member) (old new : List SpawnerSeen)
     (kept_old kept_new : List KeptRow) (rows_old rows_new : List AnswerRow) : Type 0 where
   pub answers : List Ran

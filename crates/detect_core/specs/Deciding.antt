@@ -8,8 +8,7 @@ use Rattle.detect_core.specs.Answer.{for_target}
 use Rattle.detect_core.specs.Detection.{first_ending, fitting, reached}
 
 -- Two ways of answering that agree on all members for the target in the groups that are reached reach the same groups
--- and
--- come to the same end.
+-- and come to the same end.
 abbrev pub AnswersDecide : Type 0
 AnswersDecide = (target : Option Target) (s t : Member → Verdict) (place : ℕ) (groups : List (List Member))
     → AllByRecursion (λ member. s member ≡ t member)

@@ -34,8 +34,7 @@ abbrev pub kept_row : AnswerRow → KeptRow
 kept_row row = (row.key, answer_of build_plan row.probed)
 
 -- What recorded answers say of a member: the first one of its buildpack decides, and a buildpack without one counts as
--- one
--- that ended with an error.
+-- one that ended with an error.
 abbrev pub says_recorded : Option Target → List AnswerRow → Member → Verdict
 says_recorded target rows = kept_says target (map kept_row rows)
 

@@ -33,8 +33,7 @@ end_of_fault pool.Child = Child
 end_of_fault pool.Memory = Memory
 
 -- A search over these groups: the children that spawners ran, the rows of what they answered, and the answer by what
--- they
--- said.
+-- they said.
 pub record IsSearch (frame : DetectFrame) (groups : List (List Member)) (old new : List SpawnerSeen)
     (rows : List AnswerRow) (result : Result Chosen DetectEnd) : Type 0 where
   pub answers : List Ran

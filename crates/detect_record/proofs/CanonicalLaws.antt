@@ -1,8 +1,11 @@
 -- The canonical record meets its rules, and ends with the trial that passes.
-use Rattle.std.proofs.Common.{◌≡◌, ℕ, ◌+◌, Bool, true, false, cond, ◌&&◌, ◌||◌, not, List, [], ◌∷◌, ◌++◌, ◌⊎◌, map, length, refl, sym, ◌∙◌, ap, subst, inl, inr, Option, Some, None, zero, suc, arith, length-append}
+use Rattle.std.proofs.Common.{◌≡◌, ℕ, ◌+◌, Bool, true, false, cond, ◌&&◌, ◌||◌, not, List, [], ◌∷◌, ◌++◌, ◌⊎◌, map}
+use Rattle.std.proofs.Common.{length, refl, sym, ◌∙◌, ap, subst, inl, inr, Option, Some, None, zero, suc, arith}
+use Rattle.std.proofs.Common.{length-append}
 use Rattle.std.specs.Prelude.{slice_get, nat_lt, nat_le, ◌==◌}
 use Rattle.std.specs.List.{list_all, list_any, filter_map, flat_map, cons_option}
-use Rattle.std.proofs.lemmas.Bool.{false≢true, and_parts, and_from, or_left, or_right, cases_Bool, eq-eqb, le-leb, ltb-false, lt-ltb}
+use Rattle.std.proofs.lemmas.Bool.{false≢true, and_parts, and_from, or_left, or_right, cases_Bool, eq-eqb, le-leb}
+use Rattle.std.proofs.lemmas.Bool.{ltb-false, lt-ltb}
 use Rattle.std.proofs.lemmas.List.Folds.{list_all-append}
 use Rattle.cnb_toml.specs.declared.names.Key.{Key}
 use Rattle.bp_docs.specs.declared.build_plan.PlanOption.{PlanOption}
@@ -17,13 +20,16 @@ use Rattle.plan_resolve.specs.Resolution.{Resolution, TooMany, resolution, resol
 use Rattle.detect_core.specs.declared.chosen.Verdict.{Verdict}
 use Rattle.detect_core.specs.declared.chosen.Verdict.TheVariants.{Pass, Fail, Error}
 use Rattle.detect_core.specs.Answer.{is_pass, alive_of, alive_row}
-use Rattle.detect_core.specs.Detection.{Ending, TooManyTrials, FirstTrial, first_ending, ending_at, ending_of_rows, ending_by, reached}
+use Rattle.detect_core.specs.Detection.{Ending, TooManyTrials, FirstTrial, first_ending, ending_at, ending_of_rows}
+use Rattle.detect_core.specs.Detection.{ending_by, reached}
 use Rattle.detect_record.specs.declared.parts.GroupLine.{GroupLine}
 use Rattle.detect_record.specs.declared.parts.GroupLine.TheVariants.{Fails, Idle, Trials, Chosen, Drop, Keep}
 use Rattle.detect_record.specs.declared.parts.Step.{Step}
-use Rattle.detect_record.specs.Record.{Answered, Stage, AtGroup, AtEnd, stage_if, trying, fails_at, begun, begun_if, after_group, kept_stage, after_trial, after_all, drops, left_after, is_empty}
+use Rattle.detect_record.specs.Record.{Answered, Stage, AtGroup, AtEnd, stage_if, trying, fails_at, begun, begun_if}
+use Rattle.detect_record.specs.Record.{after_group, kept_stage, after_trial, after_all, drops, left_after, is_empty}
 use Rattle.detect_record.specs.RecordLaws.{CanonicalProves}
-use Rattle.detect_record.specs.Canonical.{line_of, lines_until, first_failing, dead_line, dead_line_by, lines_by, lines_with, lines_of}
+use Rattle.detect_record.specs.Canonical.{line_of, lines_until, first_failing, dead_line, dead_line_by, lines_by}
+use Rattle.detect_record.specs.Canonical.{lines_with, lines_of}
 use Rattle.detect_record.proofs.DropLemmas.{drops_fail, keeps_pass}
 use Rattle.detect_record.proofs.CanonicalLemmas.{IsGood, line_from_good, IsFrom, from_start, from_next, from_here}
 

@@ -1,17 +1,22 @@
 -- The first step that fits, one after another, leads to a line that meets its rule.
-use Rattle.std.proofs.Common.{◌≡◌, ℕ, ◌+◌, ◌<◌, ◌≤◌, Bool, true, false, cond, ◌&&◌, ◌||◌, not, List, [], ◌∷◌, length, refl, sym, ◌∙◌, ap, subst, inl, inr, Option, Some, None, zero, suc, arith}
+use Rattle.std.proofs.Common.{◌≡◌, ℕ, ◌+◌, ◌<◌, ◌≤◌, Bool, true, false, cond, ◌&&◌, ◌||◌, not, List, [], ◌∷◌, length}
+use Rattle.std.proofs.Common.{refl, sym, ◌∙◌, ap, subst, inl, inr, Option, Some, None, zero, suc, arith}
 use Rattle.std.specs.Prelude.{slice_get, nat_lt, ◌==◌}
 use Rattle.std.specs.List.{filter, list_all}
-use Rattle.std.proofs.lemmas.Bool.{false≢true, and_parts, and_from, or_cases, or_left, or_right, cases_Bool, both_ways, eqb-true, eq-eqb, ltb-true, lt-ltb}
+use Rattle.std.proofs.lemmas.Bool.{false≢true, and_parts, and_from, or_cases, or_left, or_right, cases_Bool, both_ways}
+use Rattle.std.proofs.lemmas.Bool.{eqb-true, eq-eqb, ltb-true, lt-ltb}
 use Rattle.cnb_toml.specs.declared.meta.Need.{Need}
 use Rattle.plan_resolve.specs.declared.rows.TrialRow.{TrialRow}
-use Rattle.plan_resolve.specs.Trials.{is_in, is_provided, is_required, provided_at, required_at, holds, is_closed, places}
+use Rattle.plan_resolve.specs.Trials.{is_in, is_provided, is_required, provided_at, required_at, holds, is_closed}
+use Rattle.plan_resolve.specs.Trials.{places}
 use Rattle.detect_record.specs.declared.parts.Side.TheVariants.{Required, Provided}
 use Rattle.detect_record.specs.declared.parts.Step.{Step}
 use Rattle.detect_record.specs.declared.parts.GroupLine.{GroupLine}
 use Rattle.detect_record.specs.declared.parts.GroupLine.TheVariants.{Fails, Idle, Trials, Chosen, Drop, Keep}
-use Rattle.detect_record.specs.Record.{lacks_provider, lacks_requirer, is_unmet, step_fits, without, may_drop, left_if, left_after, is_empty, drops}
-use Rattle.detect_record.specs.Canonical.{first_unprovided, first_unrequired, step_by, step_at, first_step_of, first_step, with_step, line_from}
+use Rattle.detect_record.specs.Record.{lacks_provider, lacks_requirer, is_unmet, step_fits, without, may_drop, left_if}
+use Rattle.detect_record.specs.Record.{left_after, is_empty, drops}
+use Rattle.detect_record.specs.Canonical.{first_unprovided, first_unrequired, step_by, step_at, first_step_of}
+use Rattle.detect_record.specs.Canonical.{first_step, with_step, line_from}
 
 -- ---- the first step fits
 

@@ -1,5 +1,6 @@
 -- A record that proves: by its target and its answers the first trial that passes is the one it gives.
-use Rattle.std.proofs.Common.{◌≡◌, ℕ, ◌+◌, Bool, true, false, List, [], ◌∷◌, ◌++◌, map, refl, sym, ◌∙◌, ap, subst, Option, Some, None, append_assoc, append-nil}
+use Rattle.std.proofs.Common.{◌≡◌, ℕ, ◌+◌, Bool, true, false, List, [], ◌∷◌, ◌++◌, map, refl, sym, ◌∙◌, ap, subst}
+use Rattle.std.proofs.Common.{Option, Some, None, append_assoc, append-nil}
 use Rattle.std.specs.Prelude.{if◌then◌else◌, IfOk, Result, Ok, Err}
 use Rattle.std.specs.List.{filter_map}
 use Rattle.steps.specs.Causes.{IsAnswer}
@@ -28,7 +29,9 @@ use Rattle.detect_record.specs.LinesLeft.{LinesLeft}
 use Rattle.detect_record.specs.Following.{reads}
 use Rattle.detect_record.specs.Record.{Stage, AtGroup, AtTrial, AtEnd, after, after_all}
 use Rattle.detect_record.specs.Proving.{answered_by}
-use Rattle.detect_record.specs.Checking.{Reading, cause_of, Untitled, Untargeted, Answering, Following, following, read_all, checked_at, end_at, check_of, answer_in, answers_in, target_of, target_in}
+use Rattle.detect_record.specs.Checking.{Reading, cause_of, Untitled, Untargeted, Answering, Following, following}
+use Rattle.detect_record.specs.Checking.{read_all, checked_at, end_at, check_of, answer_in, answers_in, target_of}
+use Rattle.detect_record.specs.Checking.{target_in}
 use Rattle.detect_record.specs.CheckLaws.{CheckedIsFirst, IsFirst}
 use Rattle.detect_record.proofs.ProvingLaws.{proves_choice}
 

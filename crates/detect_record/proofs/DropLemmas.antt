@@ -1,18 +1,21 @@
 -- Steps that fit drop no place of a closed set.
-use Rattle.std.proofs.Common.{◌≡◌, ℕ, Bool, true, false, cond, ◌&&◌, ◌||◌, not, List, [], ◌∷◌, length, refl, ◌∙◌, ap, subst, inl, inr, Option, Some, None, zero, suc}
+use Rattle.std.proofs.Common.{◌≡◌, ℕ, Bool, true, false, cond, ◌&&◌, ◌||◌, not, List, [], ◌∷◌, length, refl, ◌∙◌, ap}
+use Rattle.std.proofs.Common.{subst, inl, inr, Option, Some, None, zero, suc}
 use Rattle.std.specs.Prelude.{slice_get, nat_lt}
 use Rattle.std.specs.List.{list_all}
 use Rattle.std.proofs.lemmas.Bool.{false≢true, and_parts, or_cases, cases_Bool, both_ways}
 use Rattle.cnb_toml.specs.declared.meta.Need.{Need}
 use Rattle.plan_resolve.specs.declared.rows.TrialRow.{TrialRow}
-use Rattle.plan_resolve.specs.Trials.{is_in, is_provided, is_required, provided_at, required_at, holds, is_closed, places, is_optional_at, kept_of}
+use Rattle.plan_resolve.specs.Trials.{is_in, is_provided, is_required, provided_at, required_at, holds, is_closed}
+use Rattle.plan_resolve.specs.Trials.{places, is_optional_at, kept_of}
 use Rattle.plan_resolve.specs.Pruning.{required_hold, IsOnTheWay}
 use Rattle.plan_resolve.proofs.LargestLemmas.{all_at}
 use Rattle.plan_resolve.proofs.PruningLemmas.{without_place, on_the_way_fails, on_the_way_end, on_the_way_start}
 use Rattle.detect_record.specs.declared.parts.Side.{Side}
 use Rattle.detect_record.specs.declared.parts.Side.TheVariants.{Required, Provided}
 use Rattle.detect_record.specs.declared.parts.Step.{Step}
-use Rattle.detect_record.specs.Record.{lacks_provider, lacks_requirer, is_unmet, step_fits, without, may_drop, left_if, left_after, is_empty, drops}
+use Rattle.detect_record.specs.Record.{lacks_provider, lacks_requirer, is_unmet, step_fits, without, may_drop, left_if}
+use Rattle.detect_record.specs.Record.{left_after, is_empty, drops}
 
 all_slice_get : {X : Type 0} (p : X → Bool) (xs : List X) (k : ℕ) (x : X) → list_all p xs ≡ true
     → slice_get xs k ≡ Some x → p x ≡ true

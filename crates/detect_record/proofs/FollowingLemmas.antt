@@ -1,5 +1,6 @@
 -- How a check goes on over the lines that are left.
-use Rattle.std.proofs.Common.{◌≡◌, ℕ, ◌+◌, ◌-◌, ◌<◌, ◌≤◌, Bool, true, false, not, List, [], ◌∷◌, length, drop, length-drop, inl, inr, refl, sym, ◌∙◌, ap, subst, Option, Some, None, arith}
+use Rattle.std.proofs.Common.{◌≡◌, ℕ, ◌+◌, ◌-◌, ◌<◌, ◌≤◌, Bool, true, false, not, List, [], ◌∷◌, length, drop}
+use Rattle.std.proofs.Common.{length-drop, inl, inr, refl, sym, ◌∙◌, ap, subst, Option, Some, None, arith}
 use Rattle.std.specs.Prelude.{◌&&◌, ◌==◌, nat_lt, slice_get, if◌then◌else◌, IsErrAnd, IsTrue, Result, Ok, Err}
 use Rattle.std.proofs.lemmas.Bool.{false≢true, cases_Bool, eqb-true, eq-eqb, ne_eqb, both_ways}
 use Rattle.std.proofs.lemmas.List.{drop_more, drop_all}
@@ -18,9 +19,11 @@ use Rattle.detect_record.specs.declared.parts.GroupLine.TheVariants.{Fails, Idle
 use Rattle.detect_record.specs.declared.parts.Line.{Line}
 use Rattle.detect_record.specs.declared.parts.Line.TheVariants.{Head, Target as TargetLine, Answer, Group}
 use Rattle.detect_record.specs.LinesLeft.{LinesLeft, IsBadFirst, HasNoNext}
-use Rattle.detect_record.specs.Record.{Stage, AtGroup, AtTrial, AtEnd, after_trial, drops, is_empty, kept_stage, stage_if, trying}
+use Rattle.detect_record.specs.Record.{Stage, AtGroup, AtTrial, AtEnd, after_trial, drops, is_empty, kept_stage}
+use Rattle.detect_record.specs.Record.{stage_if, trying}
 use Rattle.detect_record.specs.Checking.{Reading, Following, cause_of, following, read_all, end_at}
-use Rattle.detect_record.specs.Following.{GoesOn, IsGroupLine, IsNext, Known, after_line, checks, checks_on, is_drop, is_group, kept_by, wants_line}
+use Rattle.detect_record.specs.Following.{GoesOn, IsGroupLine, IsNext, Known, after_line, checks, checks_on, is_drop}
+use Rattle.detect_record.specs.Following.{is_group, kept_by, wants_line}
 
 -- ---- the next line
 

@@ -1,5 +1,7 @@
 -- The lines of groups, one behind another.
-use Rattle.std.proofs.Common.{◌≡◌, ◌∙◌, ℕ, zero, suc, ◌+◌, ◌-◌, ◌<◌, ◌≤◌, Bool, true, false, not, ◌&&◌, cond, nat_lt, List, [], ◌∷◌, ◌++◌, length, map, take, drop, Option, Some, None, Err, Result, ap, sym, subst, refl, inl, inr, arith, append_assoc, append-nil}
+use Rattle.std.proofs.Common.{◌≡◌, ◌∙◌, ℕ, zero, suc, ◌+◌, ◌-◌, ◌<◌, ◌≤◌, Bool, true, false, not, ◌&&◌, cond, nat_lt}
+use Rattle.std.proofs.Common.{List, [], ◌∷◌, ◌++◌, length, map, take, drop, Option, Some, None, Err, Result, ap, sym}
+use Rattle.std.proofs.Common.{subst, refl, inl, inr, arith, append_assoc, append-nil}
 use Rattle.std.specs.Prelude.{flat_map, position, slice_get}
 use Rattle.std.specs.List.{list_all, position_from}
 use Rattle.std.proofs.lemmas.Bool.{cases_Bool, ltb-false}
@@ -12,7 +14,8 @@ use Rattle.plan_resolve.specs.declared.rows.AliveRow.{AliveRow}
 use Rattle.plan_resolve.specs.declared.rows.Resolved.{Resolved}
 use Rattle.plan_resolve.specs.declared.rows.TrialRow.{TrialRow}
 use Rattle.plan_resolve.specs.Choices.{choice_count, choices_of}
-use Rattle.plan_resolve.specs.Resolution.{Resolution, TooMany, first_passing, has_options, passes_or_fails, resolution, resolved_at}
+use Rattle.plan_resolve.specs.Resolution.{Resolution, TooMany, first_passing, has_options, passes_or_fails, resolution}
+use Rattle.plan_resolve.specs.Resolution.{resolved_at}
 use Rattle.plan_resolve.specs.Trials.{kept_of}
 use Rattle.plan_resolve.proofs.ChoiceLemmas.{length-choices}
 use Rattle.detect_core.specs.declared.chosen.Verdict.{Verdict}
@@ -22,8 +25,10 @@ use Rattle.detect_record.specs.declared.outcome.RecordFault.{RecordFault}
 use Rattle.detect_record.specs.declared.outcome.RecordFault.TheVariants.{Large, Memory}
 use Rattle.detect_record.specs.declared.parts.GroupLine.{GroupLine}
 use Rattle.detect_record.specs.declared.parts.GroupLine.TheVariants.{Trials, Chosen}
-use Rattle.detect_record.specs.Canonical.{dead_line, first_failing, line_of, lines_by, lines_of, lines_until, lines_with}
-use Rattle.detect_record.specs.GroupTexts.{chosen_by, chosen_lines, group_whole, groups_whole, passed_by, passed_lines, passed_whole}
+use Rattle.detect_record.specs.Canonical.{dead_line, first_failing, line_of, lines_by, lines_of, lines_until}
+use Rattle.detect_record.specs.Canonical.{lines_with}
+use Rattle.detect_record.specs.GroupTexts.{chosen_by, chosen_lines, group_whole, groups_whole, passed_by, passed_lines}
+use Rattle.detect_record.specs.GroupTexts.{passed_whole}
 use Rattle.detect_record.specs.Making.{trial_whole}
 use Rattle.detect_record.proofs.PutLemmas.{put_both, put_refused}
 use Rattle.detect_record.specs.RecordText.{IsPutBehind}

@@ -1,5 +1,6 @@
 -- Lines that are written are read back.
-use Rattle.std.proofs.Common.{◌≡◌, ◌∙◌, ℕ, ◌<◌, ◌^◌, ◌==◌, Bool, true, not, List, [], ◌∷◌, ◌++◌, Option, Some, None, codes, ap, refl, arith, append_assoc, append-nil}
+use Rattle.std.proofs.Common.{◌≡◌, ◌∙◌, ℕ, ◌<◌, ◌^◌, ◌==◌, Bool, true, not, List, [], ◌∷◌, ◌++◌, Option, Some, None}
+use Rattle.std.proofs.Common.{codes, ap, refl, arith, append_assoc, append-nil}
 use Rattle.std.specs.Prelude.{flat_map}
 use Rattle.std.proofs.lemmas.List.Elements.{All-head, All-tail}
 use Rattle.std.proofs.lemmas.List.Folds.{list_all-append}
@@ -15,12 +16,17 @@ use Rattle.detect_record.specs.declared.parts.Line.{Line}
 use Rattle.detect_record.specs.declared.parts.Line.TheVariants.{Head, Target as TargetLine, Answer, Group}
 use Rattle.detect_record.specs.declared.parts.Step.{Step}
 use Rattle.detect_record.specs.Forms.{code_in, code_text, cut, plan_in, plan_text, spaced, step_in, step_text, steps_in}
-use Rattle.detect_record.specs.Lines.{answer_from, answer_text, bare_line, group_line, group_text, key_from, line_in, line_text, lines_in, lines_text, named, named_line, probed_from, target_from, target_of_names, target_text}
-use Rattle.detect_record.specs.LineLaws.{IsSound, IsSoundAnswer, IsSoundGroup, IsSoundStep, IsSoundTarget, LineReadsBack, LinesReadBack}
+use Rattle.detect_record.specs.Lines.{answer_from, answer_text, bare_line, group_line, group_text, key_from, line_in}
+use Rattle.detect_record.specs.Lines.{line_text, lines_in, lines_text, named, named_line, probed_from, target_from}
+use Rattle.detect_record.specs.Lines.{target_of_names, target_text}
+use Rattle.detect_record.specs.LineLaws.{IsSound, IsSoundAnswer, IsSoundGroup, IsSoundStep, IsSoundTarget}
+use Rattle.detect_record.specs.LineLaws.{LineReadsBack, LinesReadBack}
 use Rattle.detect_record.proofs.CutLemmas.{cut_at, cut_lacking, lacks}
 use Rattle.detect_record.proofs.LinesLemmas.{lines_read}
-use Rattle.detect_record.proofs.PartLaws.{code_back, number_back, plain_code, plain_plan, plain_step, plan_back, step_back}
-use Rattle.detect_record.proofs.PlainLemmas.{are_plain, plain_decimal, plain_id, plain_lacks, plain_target, plain_version}
+use Rattle.detect_record.proofs.PartLaws.{code_back, number_back, plain_code, plain_plan, plain_step, plan_back}
+use Rattle.detect_record.proofs.PartLaws.{step_back}
+use Rattle.detect_record.proofs.PlainLemmas.{are_plain, plain_decimal, plain_id, plain_lacks, plain_target}
+use Rattle.detect_record.proofs.PlainLemmas.{plain_version}
 use Rattle.detect_record.proofs.StepLemmas.{steps_cut, steps_whole, with_step}
 
 lacks_space : (bytes : List ℕ) → are_plain bytes ≡ true → lacks 32 bytes ≡ true

@@ -1,5 +1,6 @@
 -- The line of a trial is made step by step.
-use Rattle.std.proofs.Common.{◌≡◌, ◌∙◌, ℕ, zero, suc, ◌+◌, ◌-◌, ◌<◌, ◌≤◌, Bool, true, false, not, ◌||◌, cond, List, [], ◌∷◌, ◌++◌, length, get_or, drop, Option, Some, None, ap, sym, refl, arith}
+use Rattle.std.proofs.Common.{◌≡◌, ◌∙◌, ℕ, zero, suc, ◌+◌, ◌-◌, ◌<◌, ◌≤◌, Bool, true, false, not, ◌||◌, cond, List, []}
+use Rattle.std.proofs.Common.{◌∷◌, ◌++◌, length, get_or, drop, Option, Some, None, ap, sym, refl, arith}
 use Rattle.std.specs.Prelude.{position}
 use Rattle.std.specs.List.{position_from}
 use Rattle.std.proofs.lemmas.Iterator.Adapters.{position_from-zero}
@@ -12,7 +13,8 @@ use Rattle.detect_record.specs.declared.parts.Step.{Step}
 use Rattle.detect_record.specs.declared.parts.GroupLine.{GroupLine}
 use Rattle.detect_record.specs.declared.parts.GroupLine.TheVariants.{Drop, Keep}
 use Rattle.detect_record.specs.Record.{is_empty, is_unmet, may_drop, without}
-use Rattle.detect_record.specs.Canonical.{first_step, first_step_of, first_unprovided, first_unrequired, line_from, line_of, step_at, with_step}
+use Rattle.detect_record.specs.Canonical.{first_step, first_step_of, first_unprovided, first_unrequired, line_from}
+use Rattle.detect_record.specs.Canonical.{line_of, step_at, with_step}
 use Rattle.detect_record.proofs.CanonicalLemmas.{step_fits_first, without_shorter}
 
 -- ---- the first name that isn't met

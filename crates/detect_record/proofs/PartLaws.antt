@@ -1,5 +1,7 @@
 -- Numbers, codes, plans and steps that are written are read back.
-use Rattle.std.proofs.Common.{◌≡◌, ℕ, suc, ◌+◌, ◌/◌, ◌%◌, ◌<◌, ◌≤◌, ◌^◌, ◌==◌, Bool, true, false, not, ◌&&◌, nat_lt, List, [], ◌∷◌, ◌++◌, length, slice_index, zero, inl, inr, Option, Some, None, Ok, ℤ, pos, negsuc, codes, subst, refl, arith, rules, append_assoc}
+use Rattle.std.proofs.Common.{◌≡◌, ℕ, suc, ◌+◌, ◌/◌, ◌%◌, ◌<◌, ◌≤◌, ◌^◌, ◌==◌, Bool, true, false, not, ◌&&◌, nat_lt}
+use Rattle.std.proofs.Common.{List, [], ◌∷◌, ◌++◌, length, slice_index, zero, inl, inr, Option, Some, None, Ok, ℤ, pos}
+use Rattle.std.proofs.Common.{negsuc, codes, subst, refl, arith, rules, append_assoc}
 use Rattle.std.proofs.lemmas.Bool.{and_parts, and_from, cases_lt, lt-ltb}
 use Rattle.std.proofs.lemmas.Bool.Decides.{nat_tests}
 use Rattle.std.proofs.lemmas.Fmt.{decimal_digit, decimal_nonempty, digits_decimal, digits_value-decimal, first_decimal}
@@ -13,7 +15,9 @@ use Rattle.hex.proofs.HexLemmas.{decode_of-encode_lower}
 use Rattle.detect_record.specs.declared.parts.Side.{Side}
 use Rattle.detect_record.specs.declared.parts.Side.TheVariants.{Required, Provided}
 use Rattle.detect_record.specs.declared.parts.Step.{Step}
-use Rattle.detect_record.specs.Forms.{code_in, code_text, cut, has_leading_zero, is_decimal, is_lower_digit, number_in, number_to, plan_in, plan_text, side_in, side_text, signed_in, step_in, step_text, up_to}
+use Rattle.detect_record.specs.Forms.{code_in, code_text, cut, has_leading_zero, is_decimal, is_lower_digit, number_in}
+use Rattle.detect_record.specs.Forms.{number_to, plan_in, plan_text, side_in, side_text, signed_in, step_in, step_text}
+use Rattle.detect_record.specs.Forms.{up_to}
 use Rattle.detect_record.specs.LineLaws.{IsSoundCode, IsSoundStep}
 use Rattle.detect_record.proofs.CutLemmas.{cut_at, lacks}
 use Rattle.detect_record.proofs.PlainLemmas.{are_plain, is_plain, plain_append, plain_by, plain_decimal}

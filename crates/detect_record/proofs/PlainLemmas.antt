@@ -1,5 +1,6 @@
 -- Bytes without spaces and line feeds, of which names, numbers and plans are made.
-use Rattle.std.proofs.Common.{◌≡◌, ℕ, ◌+◌, ◌≤◌, ◌<◌, ◌^◌, ◌%◌, ◌==◌, Bool, true, false, not, ◌&&◌, nat_lt, nat_le, cond, List, [], ◌∷◌, ◌++◌, length, Some, None, refl, arith}
+use Rattle.std.proofs.Common.{◌≡◌, ℕ, ◌+◌, ◌≤◌, ◌<◌, ◌^◌, ◌%◌, ◌==◌, Bool, true, false, not, ◌&&◌, nat_lt, nat_le, cond}
+use Rattle.std.proofs.Common.{List, [], ◌∷◌, ◌++◌, length, Some, None, refl, arith}
 use Rattle.std.proofs.lemmas.Bool.{and_parts, and_from}
 use Rattle.std.proofs.lemmas.Bool.Decides.{nat_tests}
 use Rattle.std.proofs.lemmas.Fmt.{decimal_by_steps}
@@ -9,7 +10,8 @@ use Rattle.std.proofs.lemmas.Str.Ascii.{IsAscii-nil, IsAscii-cons}
 use Rattle.std.specs.Fmt.{decimal}
 use Rattle.std.specs.List.{list_all}
 use Rattle.std.specs.Str.{IsAscii, IsUtf8}
-use Rattle.cnb_toml.specs.Names.{is_id_byte, is_reserved, is_bp_id, is_bp_version, is_image_byte, is_first_byte, has_image_bytes, is_target_name, IsJoinedNumbers}
+use Rattle.cnb_toml.specs.Names.{is_id_byte, is_reserved, is_bp_id, is_bp_version, is_image_byte, is_first_byte}
+use Rattle.cnb_toml.specs.Names.{has_image_bytes, is_target_name, IsJoinedNumbers}
 use Rattle.cnb_toml.proofs.Versions.{version_numbers}
 use Rattle.detect_record.specs.Lines.{named}
 use Rattle.detect_record.proofs.CutLemmas.{lacks}

@@ -1,5 +1,7 @@
 -- The lines of a record that is made, read again, lead to the choice that it is made of.
-use Rattle.std.proofs.Common.{◌≡◌, ◌∙◌, ℕ, ◌+◌, ◌-◌, ◌≤◌, Bool, true, false, cond, ◌||◌, not, List, [], ◌∷◌, ◌++◌, map, take, zero, suc, Option, Some, None, Result, Ok, Err, refl, sym, ap, subst, arith, append_assoc, append-nil}
+use Rattle.std.proofs.Common.{◌≡◌, ◌∙◌, ℕ, ◌+◌, ◌-◌, ◌≤◌, Bool, true, false, cond, ◌||◌, not, List, [], ◌∷◌, ◌++◌, map}
+use Rattle.std.proofs.Common.{take, zero, suc, Option, Some, None, Result, Ok, Err, refl, sym, ap, subst, arith}
+use Rattle.std.proofs.Common.{append_assoc, append-nil}
 use Rattle.std.specs.List.{filter, list_all, list_any}
 use Rattle.std.proofs.lemmas.Bool.{and_from, or_left, or_right}
 use Rattle.std.proofs.lemmas.List.{map-append}
@@ -16,7 +18,8 @@ use Rattle.detect_core.specs.declared.chosen.AnswerRow.{AnswerRow}
 use Rattle.detect_core.specs.declared.chosen.Verdict.{Verdict}
 use Rattle.detect_core.specs.Answer.{alive_of, answer_of, build_plan, is_fit}
 use Rattle.detect_core.specs.Asking.{AreNew}
-use Rattle.detect_core.specs.Detection.{Ending, FirstTrial, ending_at, ending_by, ending_of_rows, first_ending, fitting, reached}
+use Rattle.detect_core.specs.Detection.{Ending, FirstTrial, ending_at, ending_by, ending_of_rows, first_ending, fitting}
+use Rattle.detect_core.specs.Detection.{reached}
 use Rattle.detect_core.specs.Kept.{has_key, keys_of}
 use Rattle.detect_core.specs.Recorded.{answered_keys, kept_row}
 use Rattle.detect_core.proofs.AskingLemmas.{any-keys}

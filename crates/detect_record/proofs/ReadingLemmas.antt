@@ -1,5 +1,6 @@
 -- The lines before those of groups.
-use Rattle.std.proofs.Common.{◌≡◌, ℕ, ◌+◌, Bool, true, false, List, [], ◌∷◌, ◌++◌, refl, sym, ◌∙◌, ap, Option, Some, None}
+use Rattle.std.proofs.Common.{◌≡◌, ℕ, ◌+◌, Bool, true, false, List, [], ◌∷◌, ◌++◌, refl, sym, ◌∙◌, ap, Option, Some}
+use Rattle.std.proofs.Common.{None}
 use Rattle.std.specs.Prelude.{if◌then◌else◌, Result, Ok, Err}
 use Rattle.cnb_toml.specs.declared.names.Key.{Key}
 use Rattle.cnb_toml.specs.declared.target.Target.{Target}
@@ -14,8 +15,10 @@ use Rattle.detect_record.specs.declared.parts.Line.{Line}
 use Rattle.detect_record.specs.declared.parts.Line.TheVariants.{Head, Target as TargetLine, Answer, Group}
 use Rattle.detect_record.specs.LinesLeft.{LinesLeft, IsBadFirst, HasNoNext}
 use Rattle.detect_record.specs.Record.{AtGroup}
-use Rattle.detect_record.specs.Checking.{Reading, Untitled, Untargeted, Answering, Following, end_of, read_all, read_piece, with_answer}
-use Rattle.detect_record.specs.Following.{GoesOn, IsAdded, answer_row_of, answered_or_behind, is_head, reads, reads_on, target_line}
+use Rattle.detect_record.specs.Checking.{Reading, Untitled, Untargeted, Answering, Following, end_of, read_all}
+use Rattle.detect_record.specs.Checking.{read_piece, with_answer}
+use Rattle.detect_record.specs.Following.{GoesOn, IsAdded, answer_row_of, answered_or_behind, is_head, reads, reads_on}
+use Rattle.detect_record.specs.Following.{target_line}
 
 abbrev refused_at : ℕ → Result Checked CheckFault
 refused_at number = Err (Bad number)

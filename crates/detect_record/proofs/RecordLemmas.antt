@@ -1,5 +1,7 @@
 -- Lines that meet their rules stand for groups and trials that are passed over.
-use Rattle.std.proofs.Common.{◌≡◌, ℕ, ◌+◌, Bool, true, false, cond, ◌&&◌, ◌||◌, not, List, [], ◌∷◌, ◌++◌, map, length, take, refl, sym, ◌∙◌, ap, subst, Option, Some, None, zero, suc, arith, append_assoc, length-append}
+use Rattle.std.proofs.Common.{◌≡◌, ℕ, ◌+◌, Bool, true, false, cond, ◌&&◌, ◌||◌, not, List, [], ◌∷◌, ◌++◌, map, length}
+use Rattle.std.proofs.Common.{take, refl, sym, ◌∙◌, ap, subst, Option, Some, None, zero, suc, arith, append_assoc}
+use Rattle.std.proofs.Common.{length-append}
 use Rattle.std.specs.Prelude.{slice_get, nat_lt, nat_le, ◌==◌}
 use Rattle.std.proofs.Math.Seq.{take-append-add}
 use Rattle.std.specs.List.{list_all, list_any, filter_map}
@@ -18,7 +20,9 @@ use Rattle.detect_core.specs.Detection.{Ending, FirstTrial, first_ending, ending
 use Rattle.detect_record.specs.declared.parts.GroupLine.{GroupLine}
 use Rattle.detect_record.specs.declared.parts.GroupLine.TheVariants.{Fails, Idle, Trials, Chosen, Drop, Keep}
 use Rattle.detect_record.specs.declared.parts.Step.{Step}
-use Rattle.detect_record.specs.Record.{Answered, Stage, AtGroup, AtTrial, AtEnd, stage_if, trying, fails_at, begun, begun_if, after_group, kept_stage, kept_if_chosen, after_trial, after, after_all, drops, left_after, is_empty}
+use Rattle.detect_record.specs.Record.{Answered, Stage, AtGroup, AtTrial, AtEnd, stage_if, trying, fails_at, begun}
+use Rattle.detect_record.specs.Record.{begun_if, after_group, kept_stage, kept_if_chosen, after_trial, after, after_all}
+use Rattle.detect_record.specs.Record.{drops, left_after, is_empty}
 use Rattle.detect_record.specs.RecordLaws.{RecordsFirstTrial}
 use Rattle.detect_record.proofs.DropLemmas.{drops_fail, keeps_pass}
 

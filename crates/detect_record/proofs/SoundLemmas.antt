@@ -1,6 +1,7 @@
 -- Lines that meet their rules have numbers of 32 bits, where no group has more than 256 members and no alternative too
 -- many names.
-use Rattle.std.proofs.Common.{◌≡◌, ◌∙◌, ℕ, ◌+◌, ◌<◌, ◌≤◌, ◌^◌, Bool, true, false, cond, ◌&&◌, ◌||◌, not, List, [], ◌∷◌, map, length, zero, suc, Option, Some, None, refl, sym, ap, subst, arith}
+use Rattle.std.proofs.Common.{◌≡◌, ◌∙◌, ℕ, ◌+◌, ◌<◌, ◌≤◌, ◌^◌, Bool, true, false, cond, ◌&&◌, ◌||◌, not, List, [], ◌∷◌}
+use Rattle.std.proofs.Common.{map, length, zero, suc, Option, Some, None, refl, sym, ap, subst, arith}
 use Rattle.std.specs.Prelude.{slice_get, nat_le, nat_lt, ◌==◌}
 use Rattle.std.specs.List.{All, cons_option, filter_map, flat_map, list_all, list_any}
 use Rattle.std.proofs.lemmas.Bool.{false≢true, and_parts, and_from, le-leb, leb-true}
@@ -23,7 +24,10 @@ use Rattle.detect_record.specs.declared.parts.Side.{Side}
 use Rattle.detect_record.specs.declared.parts.Side.TheVariants.{Required, Provided}
 use Rattle.detect_record.specs.declared.parts.Step.{Step}
 use Rattle.detect_record.specs.LineLaws.{IsSoundGroup, IsSoundStep}
-use Rattle.detect_record.specs.Record.{Answered, Stage, AtGroup, AtTrial, AtEnd, after, after_all, after_group, after_trial, begun, begun_if, drops, fails_at, is_empty, is_unmet, kept_if_chosen, kept_stage, lacks_provider, lacks_requirer, left_after, left_if, may_drop, stage_if, step_fits, trying, without}
+use Rattle.detect_record.specs.Record.{Answered, Stage, AtGroup, AtTrial, AtEnd, after, after_all, after_group}
+use Rattle.detect_record.specs.Record.{after_trial, begun, begun_if, drops, fails_at, is_empty, is_unmet}
+use Rattle.detect_record.specs.Record.{kept_if_chosen, kept_stage, lacks_provider, lacks_requirer, left_after, left_if}
+use Rattle.detect_record.specs.Record.{may_drop, stage_if, step_fits, trying, without}
 use Rattle.detect_record.specs.Sizes.{has_few_names, have_few_names}
 
 get_below : {X : Type 0} (xs : List X) (i : ℕ) (x : X) → slice_get xs i ≡ Some x → i < length xs

@@ -1,5 +1,6 @@
 -- The record that a detection writes: each step is the first that fits, and a line ends as soon as it meets its rule.
-use Rattle.std.specs.Prelude.{ℕ, zero, suc, ◌+◌, not, ◌||◌, List, [], ◌∷◌, ◌++◌, map, length, if◌then◌else◌, Option, Some, None}
+use Rattle.std.specs.Prelude.{ℕ, zero, suc, ◌+◌, not, ◌||◌, List, [], ◌∷◌, ◌++◌, map, length, if◌then◌else◌, Option}
+use Rattle.std.specs.Prelude.{Some, None}
 use Rattle.cnb_toml.specs.declared.meta.Need.{Need}
 use Rattle.order_expand.specs.declared.member.Member.{Member}
 use Rattle.plan_resolve.specs.declared.rows.TrialRow.{TrialRow}

@@ -1,5 +1,7 @@
 -- The parts of a record's lines as bytes: numbers, exit codes, plans and steps.
-use Rattle.std.specs.Prelude.{ℕ, ◌+◌, ◌==◌, ◌&&◌, ◌||◌, Bool, not, List, [], ◌∷◌, ◌++◌, drop, length, position, take, nat_le, nat_lt, slice_index, if◌then◌else◌, codes, Option, Some, None, option_and_then, ℤ, pos, neg_ℤ}
+use Rattle.std.specs.Prelude.{ℕ, ◌+◌, ◌==◌, ◌&&◌, ◌||◌, Bool, not, List, [], ◌∷◌, ◌++◌, drop, length, position, take}
+use Rattle.std.specs.Prelude.{nat_le, nat_lt, slice_index, if◌then◌else◌, codes, Option, Some, None, option_and_then, ℤ}
+use Rattle.std.specs.Prelude.{pos, neg_ℤ}
 use Rattle.std.specs.Char.{is_ascii_digit}
 use Rattle.std.specs.Fmt.{decimal, signed_decimal}
 use Rattle.std.specs.List.{list_all, slice_split}

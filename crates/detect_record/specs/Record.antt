@@ -1,12 +1,14 @@
 -- A record of a detection: lines that say, group by group and trial by trial, why each is passed over, and what the
 -- first trial that passes keeps.
-use Rattle.std.specs.Prelude.{ℕ, ◌+◌, ◌==◌, Bool, true, false, not, ◌&&◌, ◌||◌, nat_le, nat_lt, List, [], ◌∷◌, length, slice_get, Option, Some, None}
+use Rattle.std.specs.Prelude.{ℕ, ◌+◌, ◌==◌, Bool, true, false, not, ◌&&◌, ◌||◌, nat_le, nat_lt, List, [], ◌∷◌, length}
+use Rattle.std.specs.Prelude.{slice_get, Option, Some, None}
 use Rattle.std.specs.List.{filter, list_any, list_all}
 use Rattle.cnb_toml.specs.declared.meta.Need.{Need}
 use Rattle.order_expand.specs.declared.member.Member.{Member}
 use Rattle.plan_resolve.specs.declared.rows.TrialRow.{TrialRow}
 use Rattle.plan_resolve.specs.declared.rows.AliveRow.{AliveRow}
-use Rattle.plan_resolve.specs.Trials.{provided_at, required_at, is_provided, is_required, is_closed, places, is_in, is_optional_at}
+use Rattle.plan_resolve.specs.Trials.{provided_at, required_at, is_provided, is_required, is_closed, places, is_in}
+use Rattle.plan_resolve.specs.Trials.{is_optional_at}
 use Rattle.plan_resolve.specs.Choices.{choices_of, choice_count}
 use Rattle.detect_core.specs.declared.chosen.Verdict.{Verdict}
 use Rattle.detect_core.specs.Answer.{is_pass, alive_of}
@@ -72,8 +74,7 @@ pub record Answered : Type 0 where
   pub keys_right : ℕ → Bool
 
 -- where a reader of the lines is: before the line of the next group, before the line of a trial of a group, which is
--- the
--- chosen one or not, or behind the last line
+-- the chosen one or not, or behind the last line
 pub data Stage : Type 0 where
   AtGroup : ℕ → List (List Member) → Stage
   AtTrial : Bool → ℕ → List AliveRow → List (List Member) → ℕ → List (List TrialRow) → Stage

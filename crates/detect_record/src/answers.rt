@@ -6,7 +6,8 @@ ghost use Rattle.order_expand.specs.declared.member.Member.{Member};
 ghost use Rattle.detect_core.specs.declared.chosen.Verdict.{Verdict};
 ghost use Rattle.detect_record.specs.Checking.{Answering};
 ghost use Rattle.detect_record.specs.Record.{AtGroup};
-ghost use Rattle.detect_record.specs.Following.{GoesOn, IsAdded, answer_row_of, answered_or_behind, checks, known_by, reads};
+ghost use Rattle.detect_record.specs.Following.{GoesOn, IsAdded, answer_row_of, answered_or_behind, checks, known_by};
+ghost use Rattle.detect_record.specs.Following.{reads};
 
 use crate::following::refused;
 use crate::lines::Lines;

@@ -7,7 +7,8 @@ ghost use Rattle.order_expand.specs.declared.member.Member.{Member};
 ghost use Rattle.detect_core.specs.Detection.{asked_keys, first_trial};
 ghost use Rattle.detect_core.specs.Kept.{keys_of, kept_says};
 ghost use Rattle.detect_record.specs.CheckLaws.{IsFirst};
-ghost use Rattle.detect_record.specs.Checking.{Answering, Untargeted, Untitled, answers_in, cause_of, check_of, target_in};
+ghost use Rattle.detect_record.specs.Checking.{Answering, Untargeted, Untitled, answers_in, cause_of, check_of};
+ghost use Rattle.detect_record.specs.Checking.{target_in};
 ghost use Rattle.detect_record.specs.Following.{GoesOn, checks, is_head, known_by, reads, target_line};
 ghost use Rattle.detect_record.specs.Record.{AtGroup};
 

@@ -1,10 +1,12 @@
 // The parts of lines: numbers, codes, plans and steps.
-ghost use Rattle.std.specs.Prelude.{◌≡◌, ◌≤◌, ◌^◌, ◌<◌, ◌==◌, Some, None, IfSome, MatchOption, length, option_and_then, position, pos, neg_ℤ, take, drop, true};
+ghost use Rattle.std.specs.Prelude.{◌≡◌, ◌≤◌, ◌^◌, ◌<◌, ◌==◌, Some, None, IfSome, MatchOption, length, option_and_then};
+ghost use Rattle.std.specs.Prelude.{position, pos, neg_ℤ, take, drop, true};
 ghost use Rattle.std.specs.Char.{is_ascii_digit};
 ghost use Rattle.std.specs.List.{list_all};
 ghost use Rattle.std.specs.Option.{option_map};
 ghost use Rattle.std.specs.Str.Parse.{digits_value};
-ghost use Rattle.detect_record.specs.Forms.{up_to, code_in, cut, has_leading_zero, is_decimal, is_lower_digit, number_in, number_to, plan_in, side_in, signed_in, step_in, steps_in};
+ghost use Rattle.detect_record.specs.Forms.{up_to, code_in, cut, has_leading_zero, is_decimal, is_lower_digit};
+ghost use Rattle.detect_record.specs.Forms.{number_in, number_to, plan_in, side_in, signed_in, step_in, steps_in};
 ghost use Rattle.detect_record.specs.Reading.{IsReadAs};
 
 use crate::line_fault::LineFault;

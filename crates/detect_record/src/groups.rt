@@ -1,5 +1,6 @@
 // The lines of groups.
-ghost use Rattle.std.specs.Prelude.{◌≡◌, ◌≤◌, ◌<◌, ◌^◌, ◌+◌, ◌∷◌, ◌||◌, false, not, true, ℕ, Bool, List as Seq, IfOk, length, slice_get};
+ghost use Rattle.std.specs.Prelude.{◌≡◌, ◌≤◌, ◌<◌, ◌^◌, ◌+◌, ◌∷◌, ◌||◌, false, not, true, ℕ, Bool, List as Seq, IfOk};
+ghost use Rattle.std.specs.Prelude.{length, slice_get};
 ghost use Rattle.std.specs.List.{list_all, list_any};
 ghost use Rattle.steps.specs.Causes.{IsAnswer};
 ghost use Rattle.order_expand.specs.declared.member.Member.{Member as Listed};
@@ -11,7 +12,8 @@ ghost use Rattle.detect_record.specs.Checking.{cause_of};
 ghost use Rattle.detect_record.specs.Proving.{answered_by, are_asked};
 ghost use Rattle.detect_record.specs.LinesLeft.{LinesLeft};
 ghost use Rattle.detect_record.specs.Record.{AtGroup, after_group, begun, begun_if, fails_at, stage_if, trying};
-ghost use Rattle.detect_record.specs.Following.{GoesOn, IsNext, Known, checks, checks_on, found_or_next, has_trials, known_by};
+ghost use Rattle.detect_record.specs.Following.{GoesOn, IsNext, Known, checks, checks_on, found_or_next, has_trials};
+ghost use Rattle.detect_record.specs.Following.{known_by};
 
 use crate::asked::{are_all_met, met_in};
 use crate::following::{missing, next_group, refused};

@@ -3,7 +3,8 @@ ghost use Rattle.std.specs.Prelude.{◌≡◌, ◌<◌, ◌∷◌, IfErr, IfOk, 
 ghost use Rattle.std.specs.Option.{option_map};
 ghost use Rattle.cnb_toml.specs.Names.{is_bp_id, is_bp_version, is_target_name};
 ghost use Rattle.detect_record.specs.Forms.{number_in};
-ghost use Rattle.detect_record.specs.Lines.{answer_from, bare_line, group_line, head_from, key_from, line_in, lines_in, named, named_line, no_target, probed_from, target_from, target_of_names};
+ghost use Rattle.detect_record.specs.Lines.{answer_from, bare_line, group_line, head_from, key_from, line_in, lines_in};
+ghost use Rattle.detect_record.specs.Lines.{named, named_line, no_target, probed_from, target_from, target_of_names};
 ghost use Rattle.detect_record.specs.LinesLeft.{IsRefused};
 ghost use Rattle.detect_record.specs.Reading.{IsReadAs};
 

@@ -1,5 +1,6 @@
 // The lines of groups in the record that is made.
-ghost use Rattle.std.specs.Prelude.{◌≡◌, ◌≤◌, ◌+◌, ◌&&◌, ◌++◌, ◌∷◌, IfOk, OnOk, drop, flat_map, map, not, position, slice_get, take};
+ghost use Rattle.std.specs.Prelude.{◌≡◌, ◌≤◌, ◌+◌, ◌&&◌, ◌++◌, ◌∷◌, IfOk, OnOk, drop, flat_map, map, not, position};
+ghost use Rattle.std.specs.Prelude.{slice_get, take};
 ghost use Rattle.plan_resolve.specs.Choices.{choice_count, choices_of};
 ghost use Rattle.detect_core.specs.Answer.{alive_of, is_pass};
 ghost use Rattle.detect_core.specs.Kept.{kept_says};

@@ -1,5 +1,6 @@
 -- What holds of each value that a form gives.
-use Rattle.std.proofs.Common.{◌≡◌, ◌∙◌, refl, sym, ap, subst, ℕ, ◌+◌, Bool, true, false, not, ◌&&◌, ◌||◌, List, [], ◌∷◌, ◌++◌, Option, Some, None, Result, Ok, Err}
+use Rattle.std.proofs.Common.{◌≡◌, ◌∙◌, refl, sym, ap, subst, ℕ, ◌+◌, Bool, true, false, not, ◌&&◌, ◌||◌, List, [], ◌∷◌}
+use Rattle.std.proofs.Common.{◌++◌, Option, Some, None, Result, Ok, Err}
 use Rattle.std.specs.Prelude.{IfOk, if◌then◌else◌}
 use Rattle.std.specs.Fmt.{decimal}
 use Rattle.std.specs.List.{list_all}
@@ -11,7 +12,8 @@ use Rattle.cnb_toml.specs.declared.fault.DocFault.TheVariants.{Name, Wrong}
 use Rattle.cnb_toml.specs.Distinct.{are_distinct, has_key, is_new}
 use Rattle.cnb_toml.specs.Document.{document_in, document_of}
 use Rattle.cnb_toml.specs.Fields.{filled, list_at, read_or, read_required, required_at, value_or}
-use Rattle.cnb_toml.specs.Form.{Form, TableForm, filled_text, filled_text_of, items_in, list_of, name_of, or_wrong, table_of}
+use Rattle.cnb_toml.specs.Form.{Form, TableForm, filled_text, filled_text_of, items_in, list_of, name_of, or_wrong}
+use Rattle.cnb_toml.specs.Form.{table_of}
 use Rattle.cnb_toml.specs.Reading.{◌>>=◌, Answers, under}
 use Rattle.cnb_toml.specs.Rows.{RowForm, rows_in, rows_of}
 use Rattle.cnb_toml.specs.Written.{is_filled}

@@ -1,5 +1,6 @@
 -- An image, or a run image, that was read can be read again from what is written of it.
-use Rattle.std.proofs.Common.{◌≡◌, refl, ap, ℕ, ℤ, Bool, true, false, not, ◌&&◌, List, [], ◌∷◌, codes, map, Option, Some, None, Result, Ok, Err}
+use Rattle.std.proofs.Common.{◌≡◌, refl, ap, ℕ, ℤ, Bool, true, false, not, ◌&&◌, List, [], ◌∷◌, codes, map, Option}
+use Rattle.std.proofs.Common.{Some, None, Result, Ok, Err}
 use Rattle.std.specs.Prelude.{if◌then◌else◌}
 use Rattle.std.specs.List.{list_all}
 use Rattle.std.specs.Str.{bytes_eq}
@@ -43,13 +44,15 @@ use Rattle.image_docs.specs.DigestText.{digest_of}
 use Rattle.image_docs.specs.EnvRows.{env_at, env_in, env_of, is_env, variable_in}
 use Rattle.image_docs.specs.Image.{image_table_in, is_image_doc, is_one, provided_in, rows_of_version, version_of}
 use Rattle.image_docs.specs.LaunchDoc.{is_launch_doc, launch_doc_table_in, process_kind, process_row_in}
-use Rattle.image_docs.specs.LayerRow.{are_layers, cache_flag, is_layer_row, layer_in, layer_key, layer_row_in, layers_at, same_layer}
+use Rattle.image_docs.specs.LayerRow.{are_layers, cache_flag, is_layer_row, layer_in, layer_key, layer_row_in}
+use Rattle.image_docs.specs.LayerRow.{layers_at, same_layer}
 use Rattle.image_docs.specs.LayerRowLaws.{same_layer-symmetric}
 use Rattle.image_docs.specs.OldRow.{migrated, old_by, old_row_in, old_rows_at}
 use Rattle.image_docs.specs.Row.{are_ordered, are_rows, is_row, ordered_rows, role_of, row_in, rows_at}
 use Rattle.image_docs.specs.RunImage.{is_run_doc, table_in}
 use Rattle.image_docs.specs.StoreRow.{is_kept_row, is_store, store_id, store_row_in}
-use Rattle.image_docs.proofs.Answered.{Holds, and_then, at_list, at_or, at_required, follows, holds_by, in_distinct_row, in_filled, in_filled_text, in_name, in_rows, in_table, tested}
+use Rattle.image_docs.proofs.Answered.{Holds, and_then, at_list, at_or, at_required, follows, holds_by, in_distinct_row}
+use Rattle.image_docs.proofs.Answered.{in_filled, in_filled_text, in_name, in_rows, in_table, tested}
 
 -- ---- the parts of an image
 

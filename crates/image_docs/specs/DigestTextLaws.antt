@@ -1,5 +1,6 @@
 -- A digest reads back.
-use Rattle.std.proofs.Common.{◌≡◌, ℕ, zero, suc, ◌/◌, ◌%◌, ◌<◌, ◌==◌, nat_lt, Bool, true, List, [], ◌∷◌, length, slice_index, Ok, refl, ap, ◌∙◌, arith}
+use Rattle.std.proofs.Common.{◌≡◌, ℕ, zero, suc, ◌/◌, ◌%◌, ◌<◌, ◌==◌, nat_lt, Bool, true, List, [], ◌∷◌, length}
+use Rattle.std.proofs.Common.{slice_index, Ok, refl, ap, ◌∙◌, arith}
 use Rattle.std.specs.List.{list_all}
 use Rattle.std.proofs.lemmas.Bool.{and_parts, and_from, cond-true, ltb-true, eqb-true, eq-eqb}
 use Rattle.hex.specs.Hex.{IsBytes, encode_with, encode_lower, lower_digits}

@@ -16,11 +16,13 @@ use Rattle.cnb_toml.specs.Names.{is_process_type}
 use Rattle.cnb_toml.specs.Process.{process_in, has_type, is_process, process_members}
 use Rattle.cnb_toml.specs.ProcessLaws.{process_read, process_dates, process_within}
 use Rattle.cnb_toml.specs.Written.{table_data}
-use Rattle.cnb_toml.specs.WrittenLaws.{all_true, zero_within, name_read, key_read, list_read, list_dates, list_within, rows_read, rows_within}
+use Rattle.cnb_toml.specs.WrittenLaws.{all_true, zero_within, name_read, key_read, list_read, list_dates, list_within}
+use Rattle.cnb_toml.specs.WrittenLaws.{rows_read, rows_within}
 use Rattle.image_docs.specs.declared.launch_doc.LaunchDoc.{LaunchDoc}
 use Rattle.image_docs.specs.DistinctRows.{may_follow}
 use Rattle.image_docs.specs.DistinctRowsLaws.{distinct_row_read, distinct_row_within, distinct_rows_follow}
-use Rattle.image_docs.specs.LaunchDoc.{process_kind, process_row_in, launch_doc_table_in, is_optional_type, has_launch_names, is_launch_doc, launch_doc_members}
+use Rattle.image_docs.specs.LaunchDoc.{process_kind, process_row_in, launch_doc_table_in, is_optional_type}
+use Rattle.image_docs.specs.LaunchDoc.{has_launch_names, is_launch_doc, launch_doc_members}
 
 pub process_row_read : (before : List Process) (process : Process) → has_type process ≡ true
     → may_follow bytes_eq process_kind is_process before process ≡ true

@@ -21,7 +21,8 @@ use Rattle.image_docs.specs.DigestText.{is_digest}
 use Rattle.image_docs.specs.DigestTextLaws.{digest_read}
 use Rattle.image_docs.specs.DistinctRows.{may_follow}
 use Rattle.image_docs.specs.DistinctRowsLaws.{distinct_row_read, distinct_row_within, distinct_rows_follow}
-use Rattle.image_docs.specs.LayerRow.{cache_flag, layer_in, layer_key, same_layer, layer_row_in, has_layer_names, is_layer_row, are_layers, layer_members, layers_data}
+use Rattle.image_docs.specs.LayerRow.{cache_flag, layer_in, layer_key, same_layer, layer_row_in, has_layer_names}
+use Rattle.image_docs.specs.LayerRow.{is_layer_row, are_layers, layer_members, layers_data}
 
 flag_read : (cached cache : Bool) → not (cached && not cache) ≡ true → cache_flag cached cache ≡ Ok cache
 flag_read cached cache h = cond-false _ _ _ (not-true (cached && not cache) h)

@@ -15,7 +15,8 @@ use Rattle.image_docs.specs.declared.row.Row.{Row}
 use Rattle.image_docs.specs.By.{is_by}
 use Rattle.image_docs.specs.ByLaws.{by_read}
 use Rattle.image_docs.specs.DigestTextLaws.{digest_read}
-use Rattle.image_docs.specs.Row.{role_of, role_data, row_in, are_ordered, ordered_rows, has_digest, is_row, row_members, rows_data}
+use Rattle.image_docs.specs.Row.{role_of, role_data, row_in, are_ordered, ordered_rows, has_digest, is_row, row_members}
+use Rattle.image_docs.specs.Row.{rows_data}
 
 pub role_read : (role : Role) → role_of (role_data role) ≡ Ok role
 role_read Run = refl

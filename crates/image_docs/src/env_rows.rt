@@ -6,7 +6,8 @@ ghost use Rattle.toml.specs.View.{array_view, items_of};
 ghost use Rattle.cnb_toml.specs.Reading.{Answers};
 ghost use Rattle.cnb_toml.specs.Written.{table_data};
 ghost use Rattle.cnb_toml.specs.WrittenLaws.{zero_within};
-ghost use Rattle.image_docs.specs.EnvRows.{variable_in, is_name_byte, is_variable, env_in, env_of, is_env, variable_members, env_data};
+ghost use Rattle.image_docs.specs.EnvRows.{variable_in, is_name_byte, is_variable, env_in, env_of, is_env};
+ghost use Rattle.image_docs.specs.EnvRows.{variable_members, env_data};
 ghost use Rattle.image_docs.specs.EnvRowsLaws.{env_read, env_dates, env_within};
 
 use cnb_toml::{

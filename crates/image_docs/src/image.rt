@@ -6,7 +6,8 @@ ghost use Rattle.toml.specs.View.{table_view};
 ghost use Rattle.cnb_toml.specs.Document.{document_in};
 ghost use Rattle.cnb_toml.specs.Reading.{Answers};
 ghost use Rattle.cnb_toml.specs.WrittenLaws.{zero_within};
-ghost use Rattle.image_docs.specs.Image.{is_known, is_one, rows_of_version, version_in, version_of, provided_in, image_table_in, image_in, has_image_names, is_image_doc, image_members};
+ghost use Rattle.image_docs.specs.Image.{is_known, is_one, rows_of_version, version_in, version_of, provided_in};
+ghost use Rattle.image_docs.specs.Image.{image_table_in, image_in, has_image_names, is_image_doc, image_members};
 ghost use Rattle.image_docs.specs.ImageLaws.{version_read, image_read, image_dates, image_within};
 
 use crate::base::Base;

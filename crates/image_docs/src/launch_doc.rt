@@ -7,8 +7,10 @@ ghost use Rattle.cnb_toml.specs.Process.{process_members, has_type, is_process};
 ghost use Rattle.cnb_toml.specs.ProcessLaws.{process_dates};
 ghost use Rattle.cnb_toml.specs.Reading.{Answers};
 ghost use Rattle.image_docs.specs.DistinctRows.{may_follow};
-ghost use Rattle.image_docs.specs.LaunchDoc.{process_kind, process_row_in, launch_doc_table_in, launch_doc_in, has_launch_names, is_launch_doc, launch_doc_members};
-ghost use Rattle.image_docs.specs.LaunchDocLaws.{process_row_read, process_row_within, launch_doc_read, launch_doc_dates, launch_doc_within};
+ghost use Rattle.image_docs.specs.LaunchDoc.{process_kind, process_row_in, launch_doc_table_in, launch_doc_in};
+ghost use Rattle.image_docs.specs.LaunchDoc.{has_launch_names, is_launch_doc, launch_doc_members};
+ghost use Rattle.image_docs.specs.LaunchDocLaws.{process_row_read, process_row_within, launch_doc_read};
+ghost use Rattle.image_docs.specs.LaunchDocLaws.{launch_doc_dates, launch_doc_within};
 
 use cnb_toml::{
     DocFault, Key, ListOf, ProcType, Process, RowForm, RowsOf, TableForm, TableOf, WrittenRow,

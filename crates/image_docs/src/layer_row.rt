@@ -6,7 +6,8 @@ ghost use Rattle.cnb_toml.specs.Distinct.{HasKeysOf};
 ghost use Rattle.cnb_toml.specs.Reading.{Answers};
 ghost use Rattle.image_docs.specs.DistinctRows.{may_follow, unless_listed};
 ghost use Rattle.image_docs.specs.declared.layer_row.LayerRow.{LayerRow};
-ghost use Rattle.image_docs.specs.LayerRow.{cache_flag, layer_in, layer_key, same_layer, layer_row_in, has_layer_names, is_layer_row, layer_members};
+ghost use Rattle.image_docs.specs.LayerRow.{cache_flag, layer_in, layer_key, same_layer, layer_row_in, has_layer_names};
+ghost use Rattle.image_docs.specs.LayerRow.{is_layer_row, layer_members};
 ghost use Rattle.image_docs.specs.LayerRowLaws.{layer_dates, layer_row_read, layer_row_within};
 
 use crate::digest_text::DigestText;

@@ -5,7 +5,8 @@ ghost use Rattle.std.proofs.Common.{refl};
 ghost use Rattle.toml.specs.View.{table_view};
 ghost use Rattle.cnb_toml.specs.Reading.{Answers};
 ghost use Rattle.cnb_toml.specs.WrittenLaws.{zero_within};
-ghost use Rattle.image_docs.specs.Row.{role_text, role_in, role_of, role_data, row_in, is_run, run_rows_first, are_ordered, ordered_rows, rows_at, has_digest, is_row, row_members};
+ghost use Rattle.image_docs.specs.Row.{role_text, role_in, role_of, role_data, row_in, is_run, run_rows_first};
+ghost use Rattle.image_docs.specs.Row.{are_ordered, ordered_rows, rows_at, has_digest, is_row, row_members};
 ghost use Rattle.image_docs.specs.RowLaws.{role_read, row_read};
 
 use crate::by::ByText;

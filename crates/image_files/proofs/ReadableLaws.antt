@@ -12,7 +12,8 @@ use Rattle.steps.specs.Outside.{Seen}
 use Rattle.steps.specs.Steps.{LeavesSome, writes}
 use Rattle.image_files.specs.Documents.{IsRead}
 use Rattle.image_files.specs.Faults.{cause_of}
-use Rattle.image_files.specs.Images.{ReadsAsImage, ReadsAsRunImage, writes_image, writes_readable_image, writes_readable_run_image, writes_run_image}
+use Rattle.image_files.specs.Images.{ReadsAsImage, ReadsAsRunImage, writes_image, writes_readable_image}
+use Rattle.image_files.specs.Images.{writes_readable_run_image, writes_run_image}
 use Rattle.image_files.specs.Paths.{image_path, run_path}
 use Rattle.image_files.specs.declared.fault.ImageFault.{ImageFault}
 

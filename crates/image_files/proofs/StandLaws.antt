@@ -1,5 +1,6 @@
 -- An image that was written with bytes that read as it stands in the store.
-use Rattle.std.proofs.Common.{◌≡◌, ◌∙◌, ap, refl, subst, sym, ℕ, ◌<◌, false, cond, List, length, Option, Some, None, Result, Ok, arith}
+use Rattle.std.proofs.Common.{◌≡◌, ◌∙◌, ap, refl, subst, sym, ℕ, ◌<◌, false, cond, List, length, Option, Some, None}
+use Rattle.std.proofs.Common.{Result, Ok, arith}
 use Rattle.std.specs.Option.{option_map}
 use Rattle.std.specs.Prelude.{IsOk}
 use Rattle.std.specs.FinMap.{get}
@@ -15,7 +16,8 @@ use Rattle.image_docs.specs.declared.image.ImageDoc.{ImageDoc}
 use Rattle.image_docs.specs.declared.run_image.RunDoc.{RunDoc}
 use Rattle.steps.specs.Outside.{Seen}
 use Rattle.steps.specs.Steps.{Writes, writes}
-use Rattle.image_files.specs.Images.{ImageStands, ReadsAs, RunImageStands, Stands, writes_readable_image, writes_readable_run_image}
+use Rattle.image_files.specs.Images.{ImageStands, ReadsAs, RunImageStands, Stands, writes_readable_image}
+use Rattle.image_files.specs.Images.{writes_readable_run_image}
 use Rattle.image_files.specs.Paths.{document_name, image_path, images_folder, runs_folder}
 use Rattle.doc_files.proofs.Written.{no_root_below}
 use Rattle.image_files.proofs.PathLemmas.{document_length}

@@ -5,7 +5,8 @@ use Rattle.cnb_world.specs.Tree.{Tree}
 use Rattle.cnb_toml.specs.Form.{TableForm}
 use Rattle.doc_files.specs.Faults.{read_cause}
 use Rattle.doc_files.specs.declared.fault.ReadFault.{ReadFault}
-use Rattle.steps.specs.Causes.{Cause, FileFailed, ChildFailed, OutOfMemory, Decided, IsAnswer, IsGivenCause, IsReadCause, WhereDecided, FilesBy, ended_by}
+use Rattle.steps.specs.Causes.{Cause, FileFailed, ChildFailed, OutOfMemory, Decided, IsAnswer, IsGivenCause}
+use Rattle.steps.specs.Causes.{IsReadCause, WhereDecided, FilesBy, ended_by}
 use Rattle.steps.specs.Outside.{Seen}
 use Rattle.steps.specs.Reading.{ReadFrame}
 use Rattle.steps.specs.Results.{and_then, with_fault}

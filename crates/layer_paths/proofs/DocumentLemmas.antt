@@ -1,5 +1,6 @@
 -- The name of a layer's document is a part of a path.
-use Rattle.std.proofs.Common.{◌≡◌, refl, ℕ, ◌+◌, ◌≤◌, true, not, ◌&&◌, IsTrue, nat_le, List, ◌++◌, length, length-append, codes, arith}
+use Rattle.std.proofs.Common.{◌≡◌, refl, ℕ, ◌+◌, ◌≤◌, true, not, ◌&&◌, IsTrue, nat_le, List, ◌++◌, length}
+use Rattle.std.proofs.Common.{length-append, codes, arith}
 use Rattle.std.specs.List.{list_all}
 use Rattle.std.proofs.lemmas.Bool.{and_parts, leb-true}
 use Rattle.std.proofs.lemmas.List.Folds.{list_all-append}

@@ -1,5 +1,6 @@
 -- Names in front of `.toml`.
-use Rattle.std.proofs.Common.{◌≡◌, ◌∙◌, sym, ap, subst, ℕ, ◌-◌, true, false, cond, List, length, take, codes, arith, Bor, Option, Some, None}
+use Rattle.std.proofs.Common.{◌≡◌, ◌∙◌, sym, ap, subst, ℕ, ◌-◌, true, false, cond, List, length, take, codes, arith}
+use Rattle.std.proofs.Common.{Bor, Option, Some, None}
 use Rattle.std.specs.Prelude.{MatchOption}
 use Rattle.std.specs.Option.{option_copied}
 use Rattle.std.specs.Str.{IsCharBoundary}

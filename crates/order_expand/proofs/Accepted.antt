@@ -9,7 +9,8 @@ use Rattle.bp_docs.specs.declared.descriptor.Descriptor.{Descriptor}
 use Rattle.steps.specs.Causes.{IsAnswer}
 use Rattle.order_expand.specs.declared.order.OrderFault.{OrderFault}
 use Rattle.order_expand.specs.declared.order.OrderFault.TheVariants.{ManyGroups, LongGroup}
-use Rattle.order_expand.specs.Check.{meaning_fault, entry_fault, first_fault, met_entries, first_deep, fault_or_deep, deep_or_count, count_groups, cause_of, checked}
+use Rattle.order_expand.specs.Check.{meaning_fault, entry_fault, first_fault, met_entries, first_deep, fault_or_deep}
+use Rattle.order_expand.specs.Check.{deep_or_count, count_groups, cause_of, checked}
 use Rattle.order_expand.specs.Groups.{may_mean, named, the_only, raw_groups, listed_groups}
 use Rattle.order_expand.specs.Sizes.{longest}
 use Rattle.order_expand.proofs.Counted.{count_by_limits, length-listed}

@@ -1,5 +1,6 @@
 -- The groups of one that is begun, as it goes on.
-use Rattle.std.proofs.Common.{◌≡◌, ℕ, ◌+◌, Bool, true, false, cond, List, [], ◌∷◌, ◌++◌, map, refl, sym, ◌∙◌, ap, subst, append-nil, append_assoc}
+use Rattle.std.proofs.Common.{◌≡◌, ℕ, ◌+◌, Bool, true, false, cond, List, [], ◌∷◌, ◌++◌, map, refl, sym, ◌∙◌, ap, subst}
+use Rattle.std.proofs.Common.{append-nil, append_assoc}
 use Rattle.std.specs.Prelude.{Option, Some}
 use Rattle.std.specs.Borrow.{Bor}
 use Rattle.std.specs.List.{flat_map}
@@ -17,8 +18,10 @@ use Rattle.order_expand.specs.declared.begun.Begun.{Begun}
 use Rattle.order_expand.specs.Begun.{joined, IsEnd, groups_in, groups_later, groups_with, groups_of, groups_of_waiting}
 use Rattle.order_expand.specs.MemberComponent.{member_of, clears_env, targets_of}
 use Rattle.order_expand.specs.Groups.{in_front, in_front_of, raw_groups, expanded}
-use Rattle.order_expand.specs.Steps.{body_steps, named_steps, entries_steps, order_steps, place_steps, later_steps, steps_of, steps_of_waiting}
-use Rattle.order_expand.proofs.Joined.{map_same, fold-snoc, joined-append, joined-one, joined-last, joined-assoc, one_member_more}
+use Rattle.order_expand.specs.Steps.{body_steps, named_steps, entries_steps, order_steps, place_steps, later_steps}
+use Rattle.order_expand.specs.Steps.{steps_of, steps_of_waiting}
+use Rattle.order_expand.proofs.Joined.{map_same, fold-snoc, joined-append, joined-one, joined-last, joined-assoc}
+use Rattle.order_expand.proofs.Joined.{one_member_more}
 use Rattle.order_expand.proofs.Levels.{raw_groups_suc}
 
 -- ---- places that come later

@@ -1,5 +1,6 @@
 -- What the size of an order's groups says of the order.
-use Rattle.std.proofs.Common.{◌≡◌, ℕ, ◌<◌, ◌≤◌, Bool, cond, ◌||◌, List, [], ◌∷◌, refl, sym, ◌∙◌, ap, subst, inl, inr, length, arith}
+use Rattle.std.proofs.Common.{◌≡◌, ℕ, ◌<◌, ◌≤◌, Bool, cond, ◌||◌, List, [], ◌∷◌, refl, sym, ◌∙◌, ap, subst, inl, inr}
+use Rattle.std.proofs.Common.{length, arith}
 use Rattle.std.specs.Prelude.{max, nat_lt, Option, Some, None, Result, Ok, Err}
 use Rattle.std.specs.List.{list_any}
 use Rattle.std.proofs.lemmas.Bool.{lt-ltb, le-ltb, cases_lt}
@@ -9,8 +10,10 @@ use Rattle.steps.specs.Causes.{IsAnswer}
 use Rattle.order_expand.specs.declared.member.Member.{Member}
 use Rattle.order_expand.specs.declared.size.Size.{Size}
 use Rattle.order_expand.specs.declared.order.OrderFault.{OrderFault}
-use Rattle.order_expand.specs.declared.order.OrderFault.TheVariants.{Absent, Ambiguous, Api, Deep, ManyGroups, LongGroup, Memory}
-use Rattle.order_expand.specs.Check.{first_fault, met_entries, first_deep, fault_or_deep, deep_or_count, count_groups, cause_of, checked}
+use Rattle.order_expand.specs.declared.order.OrderFault.TheVariants.{Absent, Ambiguous, Api, Deep, ManyGroups}
+use Rattle.order_expand.specs.declared.order.OrderFault.TheVariants.{LongGroup, Memory}
+use Rattle.order_expand.specs.Check.{first_fault, met_entries, first_deep, fault_or_deep, deep_or_count, count_groups}
+use Rattle.order_expand.specs.Check.{cause_of, checked}
 use Rattle.order_expand.specs.Groups.{raw_groups, listed_groups, distinct, same_id}
 use Rattle.order_expand.specs.Sizes.{longest, size_of}
 use Rattle.order_expand.proofs.Sizes.{length_map, size_of-groups, size_of-longest}

@@ -1,5 +1,6 @@
 -- The first fault of the entries that are met, one entry after another.
-use Rattle.std.proofs.Common.{◌≡◌, ℕ, zero, suc, ◌+◌, ◌≤◌, Bor, Bool, true, false, List, [], ◌∷◌, ◌++◌, map, refl, sym, ◌∙◌, ap, length, arith}
+use Rattle.std.proofs.Common.{◌≡◌, ℕ, zero, suc, ◌+◌, ◌≤◌, Bor, Bool, true, false, List, [], ◌∷◌, ◌++◌, map, refl, sym}
+use Rattle.std.proofs.Common.{◌∙◌, ap, length, arith}
 use Rattle.std.specs.Prelude.{Option, Some, None, is_some, reverse, sum}
 use Rattle.std.proofs.lemmas.List.{map-append, reverse-append}
 use Rattle.std.proofs.lemmas.List.Sums.{sum_by-cons}
@@ -7,7 +8,8 @@ use Rattle.cnb_toml.specs.declared.names.Key.{Key}
 use Rattle.bp_docs.specs.declared.descriptor.Entry.{Entry}
 use Rattle.bp_docs.specs.declared.descriptor.Descriptor.{Descriptor}
 use Rattle.order_expand.specs.declared.order.OrderFault.{OrderFault}
-use Rattle.order_expand.specs.Check.{order_of_body, entry_count, entries_of, entries_behind, with_met, met_from, met_entries, entry_fault, first_fault}
+use Rattle.order_expand.specs.Check.{order_of_body, entry_count, entries_of, entries_behind, with_met, met_from}
+use Rattle.order_expand.specs.Check.{met_entries, entry_fault, first_fault}
 use Rattle.order_expand.specs.Groups.{named}
 use Rattle.order_expand.specs.Met.{waiting_in, marks_of, unmet_count}
 

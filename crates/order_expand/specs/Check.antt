@@ -1,5 +1,6 @@
 -- Which orders are refused, and for what (buildpack.md, "Order Resolution"; the limits are this implementation's own).
-use Rattle.std.specs.Prelude.{ℕ, zero, suc, ◌+◌, ◌≡◌, Bool, false, List, [], ◌∷◌, ◌++◌, map, length, sum, flat_map, nat_lt, if◌then◌else◌, Option, Some, None, Result, Ok, Err}
+use Rattle.std.specs.Prelude.{ℕ, zero, suc, ◌+◌, ◌≡◌, Bool, false, List, [], ◌∷◌, ◌++◌, map, length, sum, flat_map}
+use Rattle.std.specs.Prelude.{nat_lt, if◌then◌else◌, Option, Some, None, Result, Ok, Err}
 use Rattle.std.specs.List.{filter, find, list_any}
 use Rattle.cnb_toml.specs.declared.names.Key.{Key}
 use Rattle.cnb_toml.specs.Keys.{same_key}
@@ -8,7 +9,8 @@ use Rattle.bp_docs.specs.declared.descriptor.Body.{Body}
 use Rattle.bp_docs.specs.declared.descriptor.Body.TheVariants.{Component, Composite, Foreign}
 use Rattle.bp_docs.specs.declared.descriptor.Descriptor.{Descriptor}
 use Rattle.order_expand.specs.declared.order.OrderFault.{OrderFault}
-use Rattle.order_expand.specs.declared.order.OrderFault.TheVariants.{Absent, Ambiguous, Api, Deep, ManyGroups, LongGroup, Memory}
+use Rattle.order_expand.specs.declared.order.OrderFault.TheVariants.{Absent, Ambiguous, Api, Deep, ManyGroups}
+use Rattle.order_expand.specs.declared.order.OrderFault.TheVariants.{LongGroup, Memory}
 use Rattle.steps.specs.Causes.{Cause, OutOfMemory, Decided}
 use Rattle.order_expand.specs.Groups.{may_mean, named, raw_groups, listed_groups}
 

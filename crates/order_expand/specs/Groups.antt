@@ -1,5 +1,6 @@
 -- The groups that an order lists (buildpack.md, "Order Resolution").
-use Rattle.std.specs.Prelude.{ℕ, zero, suc, Bool, true, not, List, [], ◌∷◌, ◌++◌, map, ◌&&◌, if◌then◌else◌, Option, Some, None}
+use Rattle.std.specs.Prelude.{ℕ, zero, suc, Bool, true, not, List, [], ◌∷◌, ◌++◌, map, ◌&&◌, if◌then◌else◌, Option}
+use Rattle.std.specs.Prelude.{Some, None}
 use Rattle.std.specs.List.{filter, flat_map}
 use Rattle.std.specs.Option.{option_map_or}
 use Rattle.std.specs.Str.{bytes_eq}
@@ -27,8 +28,7 @@ abbrev pub named : List Descriptor → Entry → Option Descriptor
 named catalog entry = the_only (filter (may_mean entry) catalog)
 
 -- The groups of an entry and of those behind it. A component stands in front of each. A composite is replaced by each
--- of
--- its own groups in turn, and where it is optional, by none of them last.
+-- of its own groups in turn, and where it is optional, by none of them last.
 abbrev pub in_front : (List (List Entry) → List (List Member)) → Entry → Key → Body → List (List Member)
     → List (List Member)
 in_front groups_of entry key (Component clear_env targets) behind =

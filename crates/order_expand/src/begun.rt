@@ -1,13 +1,16 @@
 // Groups that are begun: members, and the places in the order and its composites where the group goes on.
-ghost use Rattle.std.specs.Prelude.{◌≡◌, ◌++◌, ◌∷◌, [], ◌<◌, ◌≤◌, ◌+◌, ℕ, List as Seq, true, false, map, if◌then◌else◌, IfOk, OnOk, OnErr};
+ghost use Rattle.std.specs.Prelude.{◌≡◌, ◌++◌, ◌∷◌, [], ◌<◌, ◌≤◌, ◌+◌, ℕ, List as Seq, true, false, map, if◌then◌else◌};
+ghost use Rattle.std.specs.Prelude.{IfOk, OnOk, OnErr};
 ghost use Rattle.std.specs.List.{flat_map};
 ghost use Rattle.bp_docs.specs.declared.descriptor.Descriptor.{Descriptor};
 ghost use Rattle.order_expand.specs.declared.begun.Begun.{Begun};
 ghost use Rattle.order_expand.specs.declared.begun.Place.TheVariants.{Entries, Nowhere};
-ghost use Rattle.order_expand.specs.Begun.{joined, groups_in, groups_of, groups_of_waiting, groups_with, groups_left, IsEnd, IsComplete, Reaches};
+ghost use Rattle.order_expand.specs.Begun.{joined, groups_in, groups_of, groups_of_waiting, groups_with, groups_left};
+ghost use Rattle.order_expand.specs.Begun.{IsEnd, IsComplete, Reaches};
 ghost use Rattle.order_expand.specs.MemberComponent.{member_of};
 ghost use Rattle.order_expand.specs.Groups.{raw_groups, expanded};
-ghost use Rattle.order_expand.specs.Steps.{entries_steps, groups_steps, order_steps, place_steps, later_steps, steps_of, steps_of_waiting, steps_left};
+ghost use Rattle.order_expand.specs.Steps.{entries_steps, groups_steps, order_steps, place_steps, later_steps};
+ghost use Rattle.order_expand.specs.Steps.{steps_of, steps_of_waiting, steps_left};
 
 use crate::catalog::Catalog;
 use bp_docs::{Body, Descriptor, Entry, Order};

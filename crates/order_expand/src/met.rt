@@ -2,7 +2,8 @@
 // composite's own.
 ghost use Rattle.std.specs.Prelude.{◌≡◌, ◌++◌, ◌+◌, [], List, IfOk, OnOk, length};
 ghost use Rattle.cnb_toml.specs.declared.names.Key.{Key};
-ghost use Rattle.order_expand.specs.Check.{order_of_body, entries_of, entries_behind, with_met, first_fault, met_entries};
+ghost use Rattle.order_expand.specs.Check.{order_of_body, entries_of, entries_behind, with_met, first_fault};
+ghost use Rattle.order_expand.specs.Check.{met_entries};
 ghost use Rattle.order_expand.specs.Groups.{named};
 ghost use Rattle.order_expand.specs.Met.{waiting_in, marks_of, unmet_count};
 

@@ -1,5 +1,6 @@
 -- Descriptors behind those of a catalog: how far a loop over names has come.
-use Rattle.std.proofs.Common.{◌≡◌, ◌∙◌, refl, sym, ap, subst, ℕ, Bool, true, false, cond, List, [], append_assoc, append-nil, Option, Some, None, Result, Ok, Err}
+use Rattle.std.proofs.Common.{◌≡◌, ◌∙◌, refl, sym, ap, subst, ℕ, Bool, true, false, cond, List, [], append_assoc}
+use Rattle.std.proofs.Common.{append-nil, Option, Some, None, Result, Ok, Err}
 use Rattle.std.specs.Prelude.{IfSome}
 use Rattle.cnb_world.specs.Tree.{Tree, is_folder, item_at}
 use Rattle.bp_docs.specs.declared.descriptor.Descriptor.{Descriptor}

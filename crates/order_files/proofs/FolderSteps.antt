@@ -8,7 +8,8 @@ use Rattle.cnb_world.specs.Path.{joined}
 use Rattle.cnb_world.specs.Steps.{◌>>=◌}
 use Rattle.cnb_world.specs.Tree.{Tree, can_list, is_file_or_absent, is_folder, item_at}
 use Rattle.bp_docs.specs.declared.descriptor.Descriptor.{Descriptor}
-use Rattle.order_files.specs.Catalog.{are_fit_versions, buildpack_in, followed_by, is_fit_buildpack, is_fit_version, listed, version_in, versions_in}
+use Rattle.order_files.specs.Catalog.{are_fit_versions, buildpack_in, followed_by, is_fit_buildpack, is_fit_version}
+use Rattle.order_files.specs.Catalog.{listed, version_in, versions_in}
 use Rattle.order_files.specs.Descriptor.{described, descriptor_at, descriptor_path, is_fit_descriptor}
 use Rattle.steps.specs.Causes.{IsAnswer}
 use Rattle.doc_files.specs.Faults.{read_cause}

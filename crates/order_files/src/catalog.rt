@@ -9,7 +9,8 @@ ghost use Rattle.steps.specs.Outside.{seen};
 ghost use Rattle.steps.specs.Reading.{ReadFrame};
 ghost use Rattle.doc_files.specs.Faults.{read_cause};
 ghost use Rattle.doc_files.specs.Reading.{BlamesOne};
-ghost use Rattle.order_files.specs.Catalog.{IsOfCatalog, IsOfId, buildpack_in, buildpacks_in, catalog_in, followed_by, is_fit_buildpack, is_fit_catalog};
+ghost use Rattle.order_files.specs.Catalog.{IsOfCatalog, IsOfId, buildpack_in, buildpacks_in, catalog_in, followed_by};
+ghost use Rattle.order_files.specs.Catalog.{is_fit_buildpack, is_fit_catalog};
 ghost use Rattle.order_files.specs.Places.{KeepsOtherIds, has_place};
 
 use crate::version::read_versions;

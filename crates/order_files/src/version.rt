@@ -8,7 +8,8 @@ ghost use Rattle.steps.specs.Outside.{seen};
 ghost use Rattle.steps.specs.Reading.{ReadFrame};
 ghost use Rattle.doc_files.specs.Faults.{read_cause};
 ghost use Rattle.doc_files.specs.Reading.{BlamesOne};
-ghost use Rattle.order_files.specs.Catalog.{IsOfId, IsOfVersion, are_fit_versions, followed_by, is_fit_version, listed, version_in, versions_in};
+ghost use Rattle.order_files.specs.Catalog.{IsOfId, IsOfVersion, are_fit_versions, followed_by, is_fit_version, listed};
+ghost use Rattle.order_files.specs.Catalog.{version_in, versions_in};
 ghost use Rattle.order_files.specs.Places.{IsPlaced, KeepsOtherIds, KeepsOthers, has_place};
 
 use crate::descriptor::read_descriptor;

@@ -1,5 +1,6 @@
 -- In an ascending set the places at or before one stand in front of it, and those at or after it stand behind.
-use Rattle.std.proofs.Common.{◌≡◌, ℕ, zero, suc, ◌<◌, Bool, true, false, cond, ◌&&◌, ◌||◌, List, [], ◌∷◌, ◌++◌, length, get_or, take, drop, reverse, refl, sym, ◌∙◌, ap, arith, Some, None}
+use Rattle.std.proofs.Common.{◌≡◌, ℕ, zero, suc, ◌<◌, Bool, true, false, cond, ◌&&◌, ◌||◌, List, [], ◌∷◌, ◌++◌, length}
+use Rattle.std.proofs.Common.{get_or, take, drop, reverse, refl, sym, ◌∙◌, ap, arith, Some, None}
 use Rattle.std.specs.Prelude.{nat_le, nat_lt, slice_get}
 use Rattle.std.specs.List.{filter, list_any, list_all}
 use Rattle.std.proofs.lemmas.Bool.{and_parts, and_from, ltb-true, lt-ltb, le-leb, lt-leb}
@@ -7,7 +8,8 @@ use Rattle.std.proofs.lemmas.List.{reverse-append}
 use Rattle.std.proofs.lemmas.List.Folds.{list_any-append, list_all-append}
 use Rattle.cnb_toml.specs.declared.meta.Need.{Need}
 use Rattle.plan_resolve.specs.declared.rows.TrialRow.{TrialRow}
-use Rattle.plan_resolve.specs.Trials.{has_name, has_need, provided_by, required_by, provided_at, required_at, is_provided, is_required, holds, numbers_below}
+use Rattle.plan_resolve.specs.Trials.{has_name, has_need, provided_by, required_by, provided_at, required_at}
+use Rattle.plan_resolve.specs.Trials.{is_provided, is_required, holds, numbers_below}
 use Rattle.plan_resolve.specs.Pruning.{is_ascending, is_provided_by, is_required_by, row_holds}
 
 -- ---- ascending sets

@@ -1,12 +1,17 @@
 -- Which places of a prefix a closed set may have, and what makes a prefix dead.
-use Rattle.std.proofs.Common.{◌≡◌, ℕ, zero, suc, ◌+◌, ◌<◌, Bool, true, false, ◌&&◌, ◌||◌, List, [], ◌∷◌, ◌++◌, length, reverse, take, refl, sym, ◌∙◌, ap, subst, inl, inr, arith, Some, None, not, append_assoc, length-append}
+use Rattle.std.proofs.Common.{◌≡◌, ℕ, zero, suc, ◌+◌, ◌<◌, Bool, true, false, ◌&&◌, ◌||◌, List, [], ◌∷◌, ◌++◌, length}
+use Rattle.std.proofs.Common.{reverse, take, refl, sym, ◌∙◌, ap, subst, inl, inr, arith, Some, None, not, append_assoc}
+use Rattle.std.proofs.Common.{length-append}
 use Rattle.std.specs.Prelude.{◌==◌, nat_le, nat_lt, slice_get}
 use Rattle.std.specs.List.{list_all}
-use Rattle.std.proofs.lemmas.Bool.{false≢true, eqb-true, eq-eqb, leb-true, and_parts, or_cases, or_left, or_right, cases_Bool, cases_lt, both_ways, cond-false}
+use Rattle.std.proofs.lemmas.Bool.{false≢true, eqb-true, eq-eqb, leb-true, and_parts, or_cases, or_left, or_right}
+use Rattle.std.proofs.lemmas.Bool.{cases_Bool, cases_lt, both_ways, cond-false}
 use Rattle.std.proofs.lemmas.List.Folds.{list_any-append}
 use Rattle.cnb_toml.specs.declared.meta.Need.{Need}
 use Rattle.plan_resolve.specs.declared.rows.TrialRow.{TrialRow}
-use Rattle.plan_resolve.specs.Trials.{has_name, provided_by, required_by, provided_at, required_at, is_provided, is_required, holds, is_closed, is_in, is_optional_at, is_passing, largest, numbers_below, places}
+use Rattle.plan_resolve.specs.Trials.{has_name, provided_by, required_by, provided_at, required_at, is_provided}
+use Rattle.plan_resolve.specs.Trials.{is_required, holds, is_closed, is_in, is_optional_at, is_passing, largest}
+use Rattle.plan_resolve.specs.Trials.{numbers_below, places}
 use Rattle.plan_resolve.specs.Pruning.{is_provided_by}
 use Rattle.plan_resolve.specs.Prefixes.{IsDead, CoversClosed}
 use Rattle.plan_resolve.proofs.ChoiceLemmas.{slice_get-append_within, slice_get-append_past}

@@ -1,16 +1,20 @@
 -- Taking away, round after round, the places that do not hold.
-use Rattle.std.proofs.Common.{◌≡◌, ℕ, Bool, true, false, cond, ◌&&◌, ◌||◌, List, [], ◌∷◌, refl, sym, ◌∙◌, ap, subst, inl, inr, suc, length, ◌<◌, zero, arith, not, get_or, Some, None}
+use Rattle.std.proofs.Common.{◌≡◌, ℕ, Bool, true, false, cond, ◌&&◌, ◌||◌, List, [], ◌∷◌, refl, sym, ◌∙◌, ap, subst}
+use Rattle.std.proofs.Common.{inl, inr, suc, length, ◌<◌, zero, arith, not, get_or, Some, None}
 use Rattle.std.specs.Bool.{then_some}
 use Rattle.std.specs.Option.{option_map}
 use Rattle.std.specs.Prelude.{◌==◌, nat_lt, slice_get}
 use Rattle.std.specs.List.{filter, list_all, remove}
-use Rattle.std.proofs.lemmas.Bool.{and_parts, and_from, or_cases, or_left, or_right, cases_Bool, both_ways, cond-false, cases_lt, ne_eqb, eq-eqb, eqb-true, ltb-true, lt-ltb, le-ltb}
+use Rattle.std.proofs.lemmas.Bool.{and_parts, and_from, or_cases, or_left, or_right, cases_Bool, both_ways, cond-false}
+use Rattle.std.proofs.lemmas.Bool.{cases_lt, ne_eqb, eq-eqb, eqb-true, ltb-true, lt-ltb, le-ltb}
 use Rattle.std.proofs.lemmas.List.Elements.{filter_agree}
 use Rattle.plan_resolve.specs.declared.rows.TrialRow.{TrialRow}
-use Rattle.plan_resolve.specs.Trials.{is_in, holds, is_closed, places, largest, is_optional_at, is_passing, kept_if, kept_of}
+use Rattle.plan_resolve.specs.Trials.{is_in, holds, is_closed, places, largest, is_optional_at, is_passing, kept_if}
+use Rattle.plan_resolve.specs.Trials.{kept_of}
 use Rattle.plan_resolve.specs.Pruning.{fails, required_hold, is_ascending, Within, IsOnTheWay}
 use Rattle.plan_resolve.proofs.NearLemmas.{all_get, ascending_part}
-use Rattle.plan_resolve.proofs.LargestLemmas.{holds_within, all_at, all_from, all_mono, in_filter, filter_filter, closed_within_filter, in_largest, in_some, largest_closed, largest_is}
+use Rattle.plan_resolve.proofs.LargestLemmas.{holds_within, all_at, all_from, all_mono, in_filter, filter_filter}
+use Rattle.plan_resolve.proofs.LargestLemmas.{closed_within_filter, in_largest, in_some, largest_closed, largest_is}
 
 -- whether a required place is in the set
 abbrev stays : List TrialRow → List ℕ → ℕ → Bool

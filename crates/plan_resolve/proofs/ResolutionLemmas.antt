@@ -1,5 +1,6 @@
 -- The first passing trial, found by one trial after another.
-use Rattle.std.proofs.Common.{◌≡◌, ℕ, zero, suc, ◌+◌, ◌<◌, ◌≤◌, List, [], ◌∷◌, length, get_or, arith, drop, refl, ◌∙◌, ap, Option, Some, None, Ok, Err, Bool, true, false, cond}
+use Rattle.std.proofs.Common.{◌≡◌, ℕ, zero, suc, ◌+◌, ◌<◌, ◌≤◌, List, [], ◌∷◌, length, get_or, arith, drop, refl, ◌∙◌}
+use Rattle.std.proofs.Common.{ap, Option, Some, None, Ok, Err, Bool, true, false, cond}
 use Rattle.std.specs.Prelude.{slice_get, nat_lt}
 use Rattle.std.proofs.lemmas.List.{drop_more, drop_all}
 use Rattle.std.proofs.lemmas.Option.{slice_get_within, slice_get-get_or, get_or_from_slice_get}
@@ -10,7 +11,8 @@ use Rattle.plan_resolve.specs.declared.rows.AliveRow.{AliveRow}
 use Rattle.plan_resolve.specs.declared.rows.Resolved.{Resolved}
 use Rattle.plan_resolve.specs.Trials.{kept_of}
 use Rattle.plan_resolve.specs.Choices.{choices_of, choice_count}
-use Rattle.plan_resolve.specs.Resolution.{first_passing, resolved_at, Resolution, TooMany, Passes, Fails, cause_of, passes_or_fails, resolution, resolution_answer}
+use Rattle.plan_resolve.specs.Resolution.{first_passing, resolved_at, Resolution, TooMany, Passes, Fails, cause_of}
+use Rattle.plan_resolve.specs.Resolution.{passes_or_fails, resolution, resolution_answer}
 
 drop_at : (trials : List (List TrialRow)) (number : ℕ) (trial : List TrialRow)
     → slice_get trials number ≡ Some trial → drop number trials ≡ trial ∷ drop (number + 1) trials

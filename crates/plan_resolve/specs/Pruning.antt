@@ -2,7 +2,8 @@
 use Rattle.std.specs.Prelude.{ℕ, ◌≡◌, Bool, true, List, [], ◌∷◌, ◌&&◌, ◌||◌, not, nat_lt, reverse, slice_get}
 use Rattle.std.specs.List.{filter, list_any, list_all}
 use Rattle.plan_resolve.specs.declared.rows.TrialRow.{TrialRow}
-use Rattle.plan_resolve.specs.Trials.{has_name, has_need, provided_at, required_at, holds, is_closed, places, is_in, is_optional_at}
+use Rattle.plan_resolve.specs.Trials.{has_name, has_need, provided_at, required_at, holds, is_closed, places, is_in}
+use Rattle.plan_resolve.specs.Trials.{is_optional_at}
 
 -- each place is greater than those before it
 abbrev pub is_ascending : List ℕ → Bool

@@ -1,5 +1,6 @@
 -- The first trial of a group that passes.
-use Rattle.std.specs.Prelude.{ℕ, ◌+◌, ◌≡◌, Bool, true, false, List, [], ◌∷◌, length, nat_lt, Option, Some, None, Result, Ok, Err}
+use Rattle.std.specs.Prelude.{ℕ, ◌+◌, ◌≡◌, Bool, true, false, List, [], ◌∷◌, length, nat_lt, Option, Some, None, Result}
+use Rattle.std.specs.Prelude.{Ok, Err}
 use Rattle.steps.specs.Causes.{Cause, OutOfMemory, Decided}
 use Rattle.plan_resolve.specs.declared.rows.TrialRow.{TrialRow}
 use Rattle.plan_resolve.specs.declared.rows.AliveRow.{AliveRow}

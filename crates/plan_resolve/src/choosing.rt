@@ -1,5 +1,6 @@
 // The trials of a group by their numbers.
-ghost use Rattle.std.specs.Prelude.{◌≡◌, ◌<◌, ◌^◌, IsTrue, IfOk, IfSome, IfNone, OnOk, Some, None, length, slice_get, nat_lt, if◌then◌else◌};
+ghost use Rattle.std.specs.Prelude.{◌≡◌, ◌<◌, ◌^◌, IsTrue, IfOk, IfSome, IfNone, OnOk, Some, None, length, slice_get};
+ghost use Rattle.std.specs.Prelude.{nat_lt, if◌then◌else◌};
 ghost use Rattle.std.specs.List.{list_all};
 ghost use Rattle.plan_resolve.specs.Choices.{choices_of, choice_count};
 ghost use Rattle.plan_resolve.specs.Prefixes.{AllFail};

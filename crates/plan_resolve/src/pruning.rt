@@ -1,10 +1,13 @@
 // Which buildpacks of a trial hold together: those that do not are taken away until nothing changes.
-ghost use Rattle.std.specs.Prelude.{◌≡◌, ◌<◌, ◌≤◌, ◌^◌, IsTrue, IfOk, IfSome, IfNone, None, length, reverse, slice_get, slice_index};
+ghost use Rattle.std.specs.Prelude.{◌≡◌, ◌<◌, ◌≤◌, ◌^◌, IsTrue, IfOk, IfSome, IfNone, None, length, reverse, slice_get};
+ghost use Rattle.std.specs.Prelude.{slice_index};
 ghost use Rattle.std.specs.Bool.{OnTrue, OnFalse};
 ghost use Rattle.std.specs.Option.{option_map};
 ghost use Rattle.std.specs.List.{list_all};
-ghost use Rattle.plan_resolve.specs.Trials.{has_name, has_need, provided_at, required_at, holds, is_optional_at, is_closed, numbers_below, kept_of};
-ghost use Rattle.plan_resolve.specs.Pruning.{is_ascending, is_provided_by, is_required_by, row_holds, fails, required_hold, IsOnTheWay};
+ghost use Rattle.plan_resolve.specs.Trials.{has_name, has_need, provided_at, required_at, holds, is_optional_at};
+ghost use Rattle.plan_resolve.specs.Trials.{is_closed, numbers_below, kept_of};
+ghost use Rattle.plan_resolve.specs.Pruning.{is_ascending, is_provided_by, is_required_by, row_holds, fails};
+ghost use Rattle.plan_resolve.specs.Pruning.{required_hold, IsOnTheWay};
 
 use crate::borrowed::BorrowedRow;
 use cnb_toml::Need;

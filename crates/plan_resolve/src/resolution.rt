@@ -3,7 +3,8 @@ ghost use Rattle.std.specs.Prelude.{◌≡◌, ◌<◌, ◌^◌, IsTrue, IfOk, l
 ghost use Rattle.std.specs.List.{list_all};
 ghost use Rattle.steps.specs.Causes.{IsAnswer};
 ghost use Rattle.plan_resolve.specs.Choices.{choices_of, choice_count};
-ghost use Rattle.plan_resolve.specs.Resolution.{resolution_answer, cause_of, resolution, has_options, first_passing, resolved_at};
+ghost use Rattle.plan_resolve.specs.Resolution.{resolution_answer, cause_of, resolution, has_options, first_passing};
+ghost use Rattle.plan_resolve.specs.Resolution.{resolved_at};
 
 use crate::borrowed::BorrowedRow;
 use crate::choosing::{choose, trial_count};

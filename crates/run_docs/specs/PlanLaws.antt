@@ -15,10 +15,12 @@ use Rattle.cnb_toml.specs.Meta.{is_kept}
 use Rattle.cnb_toml.specs.Need.{need_members}
 use Rattle.cnb_toml.proofs.NeedLaws.{need_dates, need_within}
 use Rattle.cnb_toml.specs.Written.{table_data, all_follow}
-use Rattle.cnb_toml.specs.WrittenLaws.{all_true, zero_within, suc_within, key_read, list_read, list_dates, list_within, rows_read, rows_within}
+use Rattle.cnb_toml.specs.WrittenLaws.{all_true, zero_within, suc_within, key_read, list_read, list_dates, list_within}
+use Rattle.cnb_toml.specs.WrittenLaws.{rows_read, rows_within}
 use Rattle.cnb_toml.proofs.RoundTrip.{kept_read}
 use Rattle.run_docs.specs.declared.plan.PlanEntry.{PlanEntry}
-use Rattle.run_docs.specs.Plan.{first_name, same_name, need_in, entry_of, entry_in, entries_in, has_needs, is_need_of, is_entry, is_plan_doc, has_key_providers, entry_members, plan_members}
+use Rattle.run_docs.specs.Plan.{first_name, same_name, need_in, entry_of, entry_in, entries_in, has_needs, is_need_of}
+use Rattle.run_docs.specs.Plan.{is_entry, is_plan_doc, has_key_providers, entry_members, plan_members}
 
 -- a requirement that can be read behind others
 abbrev pub is_named : Option (List ℕ) → List ℕ → Bool

@@ -8,7 +8,8 @@ ghost use Rattle.cnb_toml.specs.Distinct.{is_new, HasKeysOf};
 ghost use Rattle.cnb_toml.specs.Document.{document_in};
 ghost use Rattle.cnb_toml.specs.Reading.{Answers};
 ghost use Rattle.cnb_toml.specs.WrittenLaws.{zero_within};
-ghost use Rattle.run_docs.specs.Group.{foreign_among, row_id, row_in, rows_in, group_in, is_row, is_group_doc, row_members, group_members};
+ghost use Rattle.run_docs.specs.Group.{foreign_among, row_id, row_in, rows_in, group_in, is_row, is_group_doc};
+ghost use Rattle.run_docs.specs.Group.{row_members, group_members};
 ghost use Rattle.run_docs.specs.GroupLaws.{row_read, group_read, group_dates, group_within};
 
 use cnb_toml::{

@@ -2,8 +2,10 @@
 ghost use Rattle.std.specs.Prelude.{◌≡◌, true, IfOk, IsTrue, Ok};
 ghost use Rattle.cnb_toml.specs.Document.{document_in};
 ghost use Rattle.cnb_toml.specs.Reading.{Answers};
-ghost use Rattle.run_docs.specs.Launch.{slice_in, slice_members, table_in, launch_in, has_types, is_launch_toml, launch_members};
-ghost use Rattle.run_docs.specs.LaunchLaws.{slice_read, slice_dates, slice_within, launch_read, launch_dates, launch_within};
+ghost use Rattle.run_docs.specs.Launch.{slice_in, slice_members, table_in, launch_in, has_types, is_launch_toml};
+ghost use Rattle.run_docs.specs.Launch.{launch_members};
+ghost use Rattle.run_docs.specs.LaunchLaws.{slice_read, slice_dates, slice_within, launch_read, launch_dates};
+ghost use Rattle.run_docs.specs.LaunchLaws.{launch_within};
 
 use cnb_toml::{
     DocFault, Label, ListOf, Process, TableForm, TableOf, WrittenTable, list_at, put_at,

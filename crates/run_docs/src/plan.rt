@@ -5,8 +5,10 @@ ghost use Rattle.cnb_toml.specs.Document.{document_in};
 ghost use Rattle.cnb_toml.specs.Need.{need_members};
 ghost use Rattle.cnb_toml.proofs.NeedLaws.{need_dates};
 ghost use Rattle.cnb_toml.specs.Reading.{Answers};
-ghost use Rattle.run_docs.specs.Plan.{first_name, same_name, need_in, entry_of, entry_in, entries_in, plan_in, is_entry, is_plan_doc, has_key_providers, entry_members, plan_members};
-ghost use Rattle.run_docs.specs.PlanLaws.{may_follow, entry_need_read, entry_need_within, entry_read, entry_dates, entry_within, plan_read, plan_dates, plan_within};
+ghost use Rattle.run_docs.specs.Plan.{first_name, same_name, need_in, entry_of, entry_in, entries_in, plan_in};
+ghost use Rattle.run_docs.specs.Plan.{is_entry, is_plan_doc, has_key_providers, entry_members, plan_members};
+ghost use Rattle.run_docs.specs.PlanLaws.{may_follow, entry_need_read, entry_need_within, entry_read, entry_dates};
+ghost use Rattle.run_docs.specs.PlanLaws.{entry_within, plan_read, plan_dates, plan_within};
 
 use cnb_toml::{
     DocFault, Key, ListOf, Need, RowForm, RowsOf, TableForm, TableOf, WrittenRow, WrittenTable,

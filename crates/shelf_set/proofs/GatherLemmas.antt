@@ -1,5 +1,6 @@
 -- Gathering the rows of one shelf after another.
-use Rattle.std.proofs.Common.{◌≡◌, ℕ, ◌+◌, ◌-◌, ◌<◌, List, [], ◌∷◌, ◌++◌, map, length, take, drop, get_or, refl, sym, ap, subst, ◌∙◌, arith, Result, Ok, Err, Option, append-nil}
+use Rattle.std.proofs.Common.{◌≡◌, ℕ, ◌+◌, ◌-◌, ◌<◌, List, [], ◌∷◌, ◌++◌, map, length, take, drop, get_or, refl, sym}
+use Rattle.std.proofs.Common.{ap, subst, ◌∙◌, arith, Result, Ok, Err, Option, append-nil}
 use Rattle.std.specs.Prelude.{Some, None, IfSome, is_some}
 use Rattle.std.specs.List.{AllByRecursion}
 use Rattle.std.specs.FinMap.{get}
@@ -16,11 +17,13 @@ use Rattle.shelf_set.specs.ShelfState.{ShelfState}
 use Rattle.shelf_set.specs.Dropping.{Turn, number_of, left_of, failed_of, Drops, AreStanding}
 use Rattle.shelf_set.specs.Turns.{Goes, TakesTurn, is_failed}
 use Rattle.shelf_set.specs.Finding.{TellsSame, LeavesSame}
-use Rattle.shelf_set.specs.Gathering.{held_rows, given_by, HasGiven, HaveGiven, all_rows, first_rows, unread_of, Gathers}
+use Rattle.shelf_set.specs.Gathering.{held_rows, given_by, HasGiven, HaveGiven, all_rows, first_rows, unread_of}
+use Rattle.shelf_set.specs.Gathering.{Gathers}
 use Rattle.shelf_set.specs.Giving.{KeepsRow, Keeping, KeepsRows, GivesMore, Giving, GivesEach}
 use Rattle.shelf_set.specs.declared.giving.Given.{Given}
 use Rattle.shelf_set.proofs.Lists.{all_both, map-last, onto}
-use Rattle.shelf_set.proofs.TurnLemmas.{counted, OneMore, one_more, left-kept, left-dropped, still, all_still, none_yet, finish, ends_at, standing_again}
+use Rattle.shelf_set.proofs.TurnLemmas.{counted, OneMore, one_more, left-kept, left-dropped, still, all_still, none_yet}
+use Rattle.shelf_set.proofs.TurnLemmas.{finish, ends_at, standing_again}
 
 -- ---- the rows of one shelf
 

@@ -1,5 +1,6 @@
 -- Lists in which an item is replaced or moved.
-use Rattle.std.proofs.Common.{◌≡◌, ℕ, ◌<◌, List, [], ◌∷◌, ◌++◌, map, length, take, drop, get_or, set, refl, sym, ap, ◌∙◌, arith, suc, drop-cons, append_assoc}
+use Rattle.std.proofs.Common.{◌≡◌, ℕ, ◌<◌, List, [], ◌∷◌, ◌++◌, map, length, take, drop, get_or, set, refl, sym, ap}
+use Rattle.std.proofs.Common.{◌∙◌, arith, suc, drop-cons, append_assoc}
 use Rattle.std.proofs.lemmas.List.{map-append, take-append-drop, length-take-le, length-map}
 use Rattle.std.proofs.Math.Seq.{set-append_seam}
 use Rattle.std.specs.List.{AllByRecursion}

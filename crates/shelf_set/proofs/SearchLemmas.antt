@@ -1,5 +1,6 @@
 -- Searching shelves for bytes.
-use Rattle.std.proofs.Common.{◌≡◌, ℕ, ◌+◌, ◌-◌, ◌<◌, ◌≤◌, Bool, true, false, cond, not, List, [], ◌∷◌, ◌++◌, map, length, refl, sym, ap, subst, ◌∙◌, arith, Result, Ok, Err, Option, is_some, append-nil}
+use Rattle.std.proofs.Common.{◌≡◌, ℕ, ◌+◌, ◌-◌, ◌<◌, ◌≤◌, Bool, true, false, cond, not, List, [], ◌∷◌, ◌++◌, map}
+use Rattle.std.proofs.Common.{length, refl, sym, ap, subst, ◌∙◌, arith, Result, Ok, Err, Option, is_some, append-nil}
 use Rattle.std.specs.Prelude.{Some, None, IfSome}
 use Rattle.std.specs.List.{AllByRecursion}
 use Rattle.std.specs.FinMap.{get}
@@ -14,7 +15,8 @@ use Rattle.shelf_set.specs.Turns.{TakesTurn, is_failed}
 use Rattle.shelf_set.specs.Finding.{TellsSame, IsFirst, IsUnasked, NoneBehind, holds_first, tells_of}
 use Rattle.shelf_set.specs.Searching.{Asks, Lacks, Searching, Searches}
 use Rattle.shelf_set.proofs.Lists.{map-last, onto, all_both}
-use Rattle.shelf_set.proofs.TurnLemmas.{counted, OneMore, one_more, left-kept, left-dropped, still, all_still, none_yet, finish, left_tell, ends_at}
+use Rattle.shelf_set.proofs.TurnLemmas.{counted, OneMore, one_more, left-kept, left-dropped, still, all_still, none_yet}
+use Rattle.shelf_set.proofs.TurnLemmas.{finish, left_tell, ends_at}
 
 first_none : (ss : List ShelfState) (digest : List ℕ) → AllByRecursion (Lacks digest) ss → IsFirst ss digest None
 first_none [] digest all = refl

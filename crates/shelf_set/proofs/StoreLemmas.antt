@@ -1,5 +1,6 @@
 -- Storing trees on one shelf after another.
-use Rattle.std.proofs.Common.{◌≡◌, ℕ, ◌+◌, ◌-◌, ◌<◌, ◌≤◌, Bool, true, false, List, [], ◌∷◌, ◌++◌, length, take, drop, get_or, refl, sym, ap, subst, ◌∙◌, arith, suc, Result, Ok, Err, Option, inl, inr}
+use Rattle.std.proofs.Common.{◌≡◌, ℕ, ◌+◌, ◌-◌, ◌<◌, ◌≤◌, Bool, true, false, List, [], ◌∷◌, ◌++◌, length, take, drop}
+use Rattle.std.proofs.Common.{get_or, refl, sym, ap, subst, ◌∙◌, arith, suc, Result, Ok, Err, Option, inl, inr}
 use Rattle.std.specs.Prelude.{Some, None}
 use Rattle.std.specs.List.{AllByRecursion}
 use Rattle.std.specs.Option.{option_map}
@@ -18,7 +19,8 @@ use Rattle.shelf_set.specs.Storing.{with_trees, HasEither, IsStored, MayBeStored
 use Rattle.shelf_set.specs.StoringEach.{Puts, SetsRows, Putting, Stores, Storing, StoresEach}
 use Rattle.shelf_set.specs.declared.storing.TreeBytes.{TreeBytes}
 use Rattle.shelf_set.proofs.Lists.{all_both}
-use Rattle.shelf_set.proofs.TurnLemmas.{counted, OneMore, one_more, still, all_still, none_yet, finish, ends_at, standing_again}
+use Rattle.shelf_set.proofs.TurnLemmas.{counted, OneMore, one_more, still, all_still, none_yet, finish, ends_at}
+use Rattle.shelf_set.proofs.TurnLemmas.{standing_again}
 
 -- ---- one shelf
 

@@ -1,5 +1,6 @@
 -- Shelves that have their turns one after another, of all calls of this crate.
-use Rattle.std.proofs.Common.{◌≡◌, ℕ, ◌+◌, ◌<◌, ◌≤◌, Bool, true, false, cond, not, List, [], ◌∷◌, ◌++◌, map, length, take, drop, refl, sym, ap, subst, ◌∙◌, arith, append_assoc, Result, Ok, Err, append-nil}
+use Rattle.std.proofs.Common.{◌≡◌, ℕ, ◌+◌, ◌<◌, ◌≤◌, Bool, true, false, cond, not, List, [], ◌∷◌, ◌++◌, map, length}
+use Rattle.std.proofs.Common.{take, drop, refl, sym, ap, subst, ◌∙◌, arith, append_assoc, Result, Ok, Err, append-nil}
 use Rattle.std.specs.List.{AllByRecursion}
 use Rattle.std.proofs.Math.Seq.{take-append_seam, drop-append_seam}
 use Rattle.std.proofs.lemmas.List.{length-append, map-append, length-map, length-take-le, take-append-drop}
@@ -8,7 +9,8 @@ use Rattle.cnb_world.specs.Calls.{CountsShelf}
 use Rattle.cnb_world.specs.declared.shelf.ShelfFault.{ShelfFault}
 use Rattle.cnb_world.specs.declared.shelf.ShelfFault.TheVariants as shelf
 use Rattle.shelf_set.specs.ShelfState.{ShelfState}
-use Rattle.shelf_set.specs.Dropping.{Turn, has_failed, number_of, before_of, after_of, failed_of, left_of, Counted, IsCounted, AreStanding, Drops}
+use Rattle.shelf_set.specs.Dropping.{Turn, has_failed, number_of, before_of, after_of, failed_of, left_of, Counted}
+use Rattle.shelf_set.specs.Dropping.{IsCounted, AreStanding, Drops}
 use Rattle.shelf_set.specs.Turns.{Replaces, Goes, Settles, TakesTurn, is_failed}
 use Rattle.shelf_set.proofs.Lists.{same_split, SameSplit, moved, regroup2, regroup3, map-last, onto, all_both}
 

@@ -23,8 +23,7 @@ abbrev pub spelled : Node → TreeBytes
 spelled root = record { digest = digest_of_tree root; bytes = spelling_of root }
 
 -- The failed shelves are dropped, and all others hold the spellings of the trees and have a document that reads as the
--- rows,
--- where these can be read.
+-- rows, where these can be read.
 pub record StoresRows (readable : Bool) (rows : List LayerRow) (trees : List Node) (old : List ShelfState)
     (places : List ℕ) (new : List ShelfState) (standing gone : List ℕ) : Type 0 where
   pub document : List ℕ

@@ -44,9 +44,8 @@ abbrev pub left_of : List Turn → List Turn
 left_of turns = filter (λ t. not (has_failed t)) turns
 
 -- Of the shelves that stood, exactly those that failed are dropped, and exactly their counts rose. The others stand in
--- their
--- old order. The dropped ones are at the end, behind those that were dropped before, which are as they were; `gone` has
--- their numbers.
+-- their old order. The dropped ones are at the end, behind those that were dropped before, which are as they were;
+-- `gone` has their numbers.
 pub record Drops (turns : List Turn) (old new : List ShelfState) (places standing gone : List ℕ) : Type 0 where
   pub counted : AllByRecursion IsCounted turns
   pub earlier : List ShelfState

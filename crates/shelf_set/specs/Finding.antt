@@ -47,8 +47,7 @@ IsFound digest (Some bytes) (found.Tree tree) = IsJudged digest bytes (judged.Tr
 IsFound digest (Some bytes) (found.Damaged asked is bad) = IsJudged digest bytes (judged.Damaged asked is bad)
 
 -- What is answered and left: the failed shelves are dropped, all shelves tell what they told, and the first of those
--- left
--- that holds the digest decides. Those behind it aren't asked.
+-- left that holds the digest decides. Those behind it aren't asked.
 pub record Finds (old : List ShelfState) (places digest : List ℕ) (answer : Found) (new : List ShelfState)
     (standing gone : List ℕ) : Type 0 where
   pub turns : List Turn

@@ -1,5 +1,6 @@
 -- Gathering the rows of caches.
-use Rattle.std.specs.Prelude.{ℕ, ◌≡◌, List, [], ◌∷◌, ◌++◌, length, map, fold, filter, flat_map, nat_lt, Option, None, is_some, is_none, unwrap_or, IfSome, if◌then◌else◌}
+use Rattle.std.specs.Prelude.{ℕ, ◌≡◌, List, [], ◌∷◌, ◌++◌, length, map, fold, filter, flat_map, nat_lt, Option, None}
+use Rattle.std.specs.Prelude.{is_some, is_none, unwrap_or, IfSome, if◌then◌else◌}
 use Rattle.std.specs.List.{AllByRecursion}
 use Rattle.std.specs.Option.{option_map}
 use Rattle.std.specs.Result.{result_ok}
@@ -54,8 +55,7 @@ abbrev pub unread_of : List Given → List ℕ
 unread_of given = map (λ one. one.number) (filter (λ one. is_none one.rows) given)
 
 -- What is answered and left: the failed shelves are dropped, all shelves tell what they told, and the rows are those
--- that
--- the shelves left gave, in order, of one layer the first.
+-- that the shelves left gave, in order, of one layer the first.
 pub record Gathers (old : List ShelfState) (places : List ℕ) (answer : Gathered) (new : List ShelfState)
     (standing : List ℕ) : Type 0 where
   pub turns : List Turn

@@ -1,5 +1,6 @@
 -- Rows of one shelf after another, which private calls alone speak of.
-use Rattle.std.specs.Prelude.{ℕ, ◌≡◌, ◌≤◌, List, [], ◌∷◌, ◌++◌, length, take, drop, Option, Result, IfSome, IfOk, OnOk, OnErr}
+use Rattle.std.specs.Prelude.{ℕ, ◌≡◌, ◌≤◌, List, [], ◌∷◌, ◌++◌, length, take, drop, Option, Result, IfSome, IfOk, OnOk}
+use Rattle.std.specs.Prelude.{OnErr}
 use Rattle.std.specs.List.{AllByRecursion}
 use Rattle.cnb_world.specs.Calls.{CountsShelf}
 use Rattle.cnb_world.specs.declared.shelf.ShelfFault.{ShelfFault}

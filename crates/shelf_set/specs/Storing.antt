@@ -42,8 +42,7 @@ pub record StoresAll (trees : List TreeBytes) (rows : List ℕ) (old : List Shel
   pub stored : AllByRecursion (IsStored trees rows) turns
 
 -- What is left where memory ran out: the failed shelves are dropped, and each shelf has all the trees and the rows, or
--- some
--- of the trees and its old rows.
+-- some of the trees and its old rows.
 pub record StoresSome (trees : List TreeBytes) (rows : List ℕ) (old : List ShelfState) (places : List ℕ)
     (new : List ShelfState) (standing : List ℕ) : Type 0 where
   pub turns : List Turn

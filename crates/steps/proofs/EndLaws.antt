@@ -1,9 +1,11 @@
 -- What holds of each of some steps, by what ended it, holds of them one after another.
-use Rattle.std.proofs.Common.{◌≡◌, ◌∙◌, refl, sym, ap, subst, ℕ, Bool, List, [], ◌∷◌, Option, Some, None, Result, Ok, Err, inl, inr, arith}
+use Rattle.std.proofs.Common.{◌≡◌, ◌∙◌, refl, sym, ap, subst, ℕ, Bool, List, [], ◌∷◌, Option, Some, None, Result, Ok}
+use Rattle.std.proofs.Common.{Err, inl, inr, arith}
 use Rattle.std.specs.Prelude.{IfErr}
 use Rattle.cnb_world.specs.Tree.{Tree}
 use Rattle.cnb_world.specs.declared.child.ChildJob.{ChildJob}
-use Rattle.steps.specs.Causes.{Cause, FileFailed, ChildFailed, OutOfMemory, Decided, FilesEnd, ChildrenEnd, IsGivenCause, IsReadCause, IsWriteCause, ended_by}
+use Rattle.steps.specs.Causes.{Cause, FileFailed, ChildFailed, OutOfMemory, Decided, FilesEnd, ChildrenEnd}
+use Rattle.steps.specs.Causes.{IsGivenCause, IsReadCause, IsWriteCause, ended_by}
 use Rattle.steps.specs.Counts.{AllCounts, FileCounts, IsFileEnd}
 use Rattle.steps.specs.Each.{for_each}
 use Rattle.steps.specs.Outside.{Outside, Seen}

@@ -1,5 +1,6 @@
 -- What steps leave alone.
-use Rattle.std.proofs.Common.{◌≡◌, ◌∙◌, refl, sym, ap, ℕ, ◌++◌, ◌||◌, ◌&&◌, List, [], ◌∷◌, Bool, true, false, not, cond, Option, Some, None, Result, Ok, Err, inl, inr, append_assoc, append-nil, take}
+use Rattle.std.proofs.Common.{◌≡◌, ◌∙◌, refl, sym, ap, ℕ, ◌++◌, ◌||◌, ◌&&◌, List, [], ◌∷◌, Bool, true, false, not, cond}
+use Rattle.std.proofs.Common.{Option, Some, None, Result, Ok, Err, inl, inr, append_assoc, append-nil, take}
 use Rattle.std.specs.List.{AllByRecursion, list_any}
 use Rattle.std.specs.Str.{bytes_eq}
 use Rattle.std.specs.Option.{option_map}

@@ -3,7 +3,8 @@ use Rattle.std.proofs.Common.{◌≡◌, refl, sym, subst, ℕ, List, Option, So
 use Rattle.cnb_world.specs.Runs.{Ran}
 use Rattle.cnb_world.specs.declared.child.DetectJob.{DetectJob}
 use Rattle.steps.specs.Asking.{AsksBy, MeetsAnswers, SpawnersEnd, asks}
-use Rattle.steps.specs.Causes.{Cause, FileFailed, ChildFailed, OutOfMemory, Decided, FilesBy, FilesEnd, ChildrenEnd, ended_by}
+use Rattle.steps.specs.Causes.{Cause, FileFailed, ChildFailed, OutOfMemory, Decided, FilesBy, FilesEnd, ChildrenEnd}
+use Rattle.steps.specs.Causes.{ended_by}
 use Rattle.steps.specs.Counts.{AllCounts}
 use Rattle.steps.specs.EitherCounts.{EitherEnd, OutsideCounts}
 use Rattle.steps.specs.Outside.{Outside, Seen, SpawnerSeen, faults_of}

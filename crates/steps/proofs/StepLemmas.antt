@@ -1,11 +1,13 @@
 -- Steps that go on, and steps that end.
-use Rattle.std.proofs.Common.{◌≡◌, refl, sym, subst, arith, ℕ, List, Bool, true, false, Option, Some, None, Result, Ok, Err, inl, inr}
+use Rattle.std.proofs.Common.{◌≡◌, refl, sym, subst, arith, ℕ, List, Bool, true, false, Option, Some, None, Result, Ok}
+use Rattle.std.proofs.Common.{Err, inl, inr}
 use Rattle.std.specs.Prelude.{IfErr, IfSome, IsTrue}
 use Rattle.std.specs.Option.{option_map}
 use Rattle.cnb_world.specs.Calls.{MayMisuse}
 use Rattle.cnb_world.specs.Tree.{Tree}
 use Rattle.cnb_world.specs.Whole.{LeavesPart, can_write, written}
-use Rattle.steps.specs.Causes.{Cause, OutOfMemory, ended_by, WhereDecided, IsAnswer, IsGivenCause, IsReadCause, IsWriteCause}
+use Rattle.steps.specs.Causes.{Cause, OutOfMemory, ended_by, WhereDecided, IsAnswer, IsGivenCause, IsReadCause}
+use Rattle.steps.specs.Causes.{IsWriteCause}
 use Rattle.cnb_world.specs.declared.world.World as world
 use Rattle.steps.specs.Counts.{FileCounts}
 use Rattle.steps.specs.Outside.{Seen, SpawnerSeen, seen}

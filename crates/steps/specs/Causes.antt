@@ -41,8 +41,7 @@ FilesEnd None before now = now ≡ before
 FilesEnd (Some cause) before now = FilesBy cause before now
 
 -- the count of failed calls on files: a refusal for one comes where the count rose, and the count stays at any other
--- answer
--- but want of memory
+-- answer but want of memory
 abbrev pub CountsFiles : {A E : Type 0} → (E → Cause) → Result A E → ℕ → ℕ → Type 0
 CountsFiles cause_of result before now = FilesEnd (ended_by cause_of result) before now
 
@@ -61,8 +60,7 @@ abbrev pub CountsChildren : {A E : Type 0} → (E → Cause) → Result A E → 
 CountsChildren cause_of result before now = ChildrenEnd (ended_by cause_of result) before now
 
 -- What each kind of step may be refused for: reading for a failed call, which is told with the path whose call failed
--- last,
--- want of memory or what was read;
+-- last, want of memory or what was read;
 abbrev pub IsReadCause : Option (List ℕ) → Cause → Type 0
 IsReadCause last (FileFailed path) = last ≡ Some path
 IsReadCause last ChildFailed = ⊥

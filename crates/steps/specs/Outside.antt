@@ -7,8 +7,7 @@ use Rattle.cnb_world.specs.declared.child.Spawner as spawner
 use Rattle.cnb_world.specs.declared.world.World as world
 
 -- of a world: its files, where they are told, the children that ran in it, its counts of failed calls on files, of
--- children
--- that gave no end, and of calls on a path of the wrong kind, and the path whose call failed last
+-- children that gave no end, and of calls on a path of the wrong kind, and the path whose call failed last
 pub record Seen : Type 0 where
   pub files : Option Tree
   pub runs : List Run
@@ -28,8 +27,7 @@ seen ghosts w = record {
 }
 
 -- of a spawner: the detect children that it ran, what each buildpack's child says, where that is fixed, and its count
--- of
--- children that gave no answer
+-- of children that gave no answer
 pub record SpawnerSeen : Type 0 where
   pub runs : List Ran
   pub says : Option (List Reply)

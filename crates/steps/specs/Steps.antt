@@ -1,5 +1,6 @@
 -- Steps, one after another: each from what is seen before, by an answer, to what is seen after.
-use Rattle.std.specs.Prelude.{ℕ, Bool, not, ◌≡◌, ◌⊎◌, ◌++◌, List, [], ◌∷◌, Option, Some, None, Result, Ok, Err, IfErr, IfSome, IsTrue}
+use Rattle.std.specs.Prelude.{ℕ, Bool, not, ◌≡◌, ◌⊎◌, ◌++◌, List, [], ◌∷◌, Option, Some, None, Result, Ok, Err, IfErr}
+use Rattle.std.specs.Prelude.{IfSome, IsTrue}
 use Rattle.std.specs.Option.{option_map}
 use Rattle.cnb_world.specs.Calls.{MayMisuse, RemovesSome}
 use Rattle.cnb_world.specs.Tree.{Tree, folder_made, can_make_folder, is_root, without}

@@ -13,14 +13,16 @@ use Rattle.image_files.specs.Paths.{images_folder, runs_folder}
 use Rattle.image_files.specs.declared.fault.ImageFault.{ImageFault}
 use Rattle.image_files.specs.declared.fault.ImageFault.TheVariants as image
 use Rattle.steps.specs.Counts.{FileCounts}
-use Rattle.steps.proofs.EndLaws.{Obeys, files_link, files_rest, obeys_bind, obeys_each, obeys_gives, obeys_told, obeys_yields, reads_counts, removes_counts}
+use Rattle.steps.proofs.EndLaws.{Obeys, files_link, files_rest, obeys_bind, obeys_each, obeys_gives, obeys_told}
+use Rattle.steps.proofs.EndLaws.{obeys_yields, reads_counts, removes_counts}
 use Rattle.tree_store.proofs.CountLaws.{check_tree_counts}
 use Rattle.tree_store.specs.Answers as tree_store
 use Rattle.tree_store.specs.Writing.{trees_of}
 use Rattle.store_prune.specs.Digests.{tree_digest}
 use Rattle.store_prune.specs.Faults.{cause_of, of_image_fault, verify_cause}
 use Rattle.store_prune.specs.Listing.{lists, lists_where, looks_for, looks_for_file}
-use Rattle.store_prune.specs.Named.{adds_document, adds_folder, adds_if, adds_name, adds_where, digests_of_image, digests_of_run, is_document_name, reads_named, reads_names}
+use Rattle.store_prune.specs.Named.{adds_document, adds_folder, adds_if, adds_name, adds_where, digests_of_image}
+use Rattle.store_prune.specs.Named.{digests_of_run, is_document_name, reads_named, reads_names}
 use Rattle.store_prune.specs.Prunes.{prunes_command, removes_all, removes_trees}
 use Rattle.store_prune.specs.Surveys.{surveys}
 use Rattle.store_prune.specs.Trees.{adds_digest, adds_tree, reads_trees}

@@ -1,5 +1,6 @@
 -- Each image is as before, and so are its trees, whatever a prune answers.
-use Rattle.std.proofs.Common.{◌≡◌, ◌∙◌, refl, sym, ap, subst, arith, ℕ, ◌<◌, Bool, true, false, not, cond, List, [], ◌∷◌, ◌++◌, codes, length, map, Option, Some, None, Result, Ok, Err}
+use Rattle.std.proofs.Common.{◌≡◌, ◌∙◌, refl, sym, ap, subst, arith, ℕ, ◌<◌, Bool, true, false, not, cond, List, []}
+use Rattle.std.proofs.Common.{◌∷◌, ◌++◌, codes, length, map, Option, Some, None, Result, Ok, Err}
 use Rattle.std.specs.Prelude.{◌↔◌, IfOk, IfSome, IsTrue, fold}
 use Rattle.std.specs.List.{AllByRecursion, list_any}
 use Rattle.std.specs.Option.{option_map}
@@ -23,7 +24,8 @@ use Rattle.tree_store.proofs.Apart.{apart_child, siblings_apart}
 use Rattle.tree_store.proofs.Places.{longer_child, part_form}
 use Rattle.store_prune.specs.Digests.{is_among, unnamed, with_digest}
 use Rattle.store_prune.specs.Named.{digests_of_image}
-use Rattle.store_prune.specs.Pruning.{KeepsImage, KeepsImages, KeepsNamed, KeepsWhere, StandNamed, named_in, pruned_in, trees_in}
+use Rattle.store_prune.specs.Pruning.{KeepsImage, KeepsImages, KeepsNamed, KeepsWhere, StandNamed, named_in, pruned_in}
+use Rattle.store_prune.specs.Pruning.{trees_in}
 use Rattle.store_prune.specs.Surveys.{pruned_of}
 use Rattle.store_prune.specs.Verifies.{trees_of_rows}
 use Rattle.store_prune.specs.Verifying.{HasTreeFile, IsWhole}

@@ -1,5 +1,6 @@
 -- The names of documents and of tree files.
-use Rattle.std.proofs.Common.{◌≡◌, ◌≢◌, ◌∙◌, cond, ap, sym, ℕ, ◌-◌, true, false, List, [], ◌++◌, length, take, codes, Some, None, Err, refl}
+use Rattle.std.proofs.Common.{◌≡◌, ◌≢◌, ◌∙◌, cond, ap, sym, ℕ, ◌-◌, true, false, List, [], ◌++◌, length, take, codes}
+use Rattle.std.proofs.Common.{Some, None, Err, refl}
 use Rattle.std.specs.Prelude.{◌&&◌, nat_eq}
 use Rattle.std.specs.List.{ends_with}
 use Rattle.std.specs.Result.{result_ok}

@@ -1,5 +1,6 @@
 -- The files of named trees are as before, whatever a prune answers.
-use Rattle.std.proofs.Common.{◌≡◌, ◌≢◌, ◌∙◌, refl, sym, ap, subst, ℕ, Bool, true, false, not, cond, List, [], ◌∷◌, ◌++◌, map, Option, Some, None, Result, Ok, Err}
+use Rattle.std.proofs.Common.{◌≡◌, ◌≢◌, ◌∙◌, refl, sym, ap, subst, ℕ, Bool, true, false, not, cond, List, [], ◌∷◌, ◌++◌}
+use Rattle.std.proofs.Common.{map, Option, Some, None, Result, Ok, Err}
 use Rattle.std.specs.Prelude.{IfOk, IsTrue}
 use Rattle.std.specs.List.{AllByRecursion, list_any}
 use Rattle.std.specs.Str.{bytes_eq}
@@ -14,7 +15,8 @@ use Rattle.tree_store.specs.Store.{tree_path}
 use Rattle.tree_store.specs.Writing.{trees_of}
 use Rattle.tree_store.proofs.Apart.{siblings_apart}
 use Rattle.store_prune.specs.Digests.{is_among, tree_digest, unnamed}
-use Rattle.store_prune.specs.Pruning.{KeepsNamed, KeepsNamedTrees, KeepsWhere, StandNamed, digest_at, each_in, listed_in, named_in, pruned_in, trees_in}
+use Rattle.store_prune.specs.Pruning.{KeepsNamed, KeepsNamedTrees, KeepsWhere, StandNamed, digest_at, each_in}
+use Rattle.store_prune.specs.Pruning.{listed_in, named_in, pruned_in, trees_in}
 use Rattle.store_prune.specs.Surveys.{pruned_of}
 use Rattle.store_prune.specs.Trees.{with_tree}
 use Rattle.store_prune.specs.declared.fault.PruneFault.{PruneFault}

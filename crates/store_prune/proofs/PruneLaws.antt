@@ -1,11 +1,13 @@
 -- What a prune removes, and what it leaves, whatever it answers.
-use Rattle.std.proofs.Common.{◌≡◌, ◌∙◌, sym, ap, subst, ℕ, List, [], ◌∷◌, map, Option, Some, None, Result, Ok, Err, inl, inr}
+use Rattle.std.proofs.Common.{◌≡◌, ◌∙◌, sym, ap, subst, ℕ, List, [], ◌∷◌, map, Option, Some, None, Result, Ok, Err, inl}
+use Rattle.std.proofs.Common.{inr}
 use Rattle.std.specs.Prelude.{IfSome}
 use Rattle.std.specs.Option.{option_map}
 use Rattle.cnb_words.specs.declared.prune.PruneWords.{PruneWords}
 use Rattle.cnb_world.specs.Memory.{all_without}
 use Rattle.cnb_world.specs.Tree.{Tree}
-use Rattle.steps.specs.Causes.{Cause, FileFailed, ChildFailed, OutOfMemory, Decided, IsAnswer, IsWriteCause, WhereDecided}
+use Rattle.steps.specs.Causes.{Cause, FileFailed, ChildFailed, OutOfMemory, Decided, IsAnswer, IsWriteCause}
+use Rattle.steps.specs.Causes.{WhereDecided}
 use Rattle.steps.specs.Each.{for_each}
 use Rattle.steps.specs.Frames.{standing}
 use Rattle.steps.specs.Outside.{Seen}

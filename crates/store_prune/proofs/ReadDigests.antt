@@ -1,5 +1,6 @@
 -- A digest in a document that was read is 64 digits, which can be the name of a file.
-use Rattle.std.proofs.Common.{◌≡◌, ◌∙◌, refl, sym, ap, arith, ℕ, ℤ, ◌==◌, ◌&&◌, Bool, true, false, cond, List, [], ◌∷◌, codes, length, map, Option, Some, None, Result, Ok, Err}
+use Rattle.std.proofs.Common.{◌≡◌, ◌∙◌, refl, sym, ap, arith, ℕ, ℤ, ◌==◌, ◌&&◌, Bool, true, false, cond, List, [], ◌∷◌}
+use Rattle.std.proofs.Common.{codes, length, map, Option, Some, None, Result, Ok, Err}
 use Rattle.std.specs.Prelude.{if◌then◌else◌}
 use Rattle.std.specs.List.{list_all}
 use Rattle.std.specs.Result.{result_ok}
@@ -45,7 +46,8 @@ use Rattle.image_docs.specs.OldRow.{migrated, old_row_in, old_rows_at}
 use Rattle.image_docs.specs.Row.{are_ordered, ordered_rows, role_of, row_in, rows_at}
 use Rattle.image_docs.specs.RunImage.{table_in}
 use Rattle.image_docs.specs.StoreRow.{store_row_in}
-use Rattle.image_docs.proofs.Answered.{Holds, all_distinct, and_then, at_list, at_or, at_required, holds_by, in_distinct_row, in_document, in_rows, in_table}
+use Rattle.image_docs.proofs.Answered.{Holds, all_distinct, and_then, at_list, at_or, at_required, holds_by}
+use Rattle.image_docs.proofs.Answered.{in_distinct_row, in_document, in_rows, in_table}
 use Rattle.tree_canon.specs.Digest.{is_digest_text, is_lower_digit}
 use Rattle.tree_canon.proofs.DigestTexts.{lower_read}
 use Rattle.tree_store.proofs.StorePaths.{digest_part}

@@ -1,5 +1,6 @@
 -- What removals leave, and what they leave alone.
-use Rattle.std.proofs.Common.{◌≡◌, ◌∙◌, refl, sym, ap, ℕ, ◌||◌, Bool, false, not, cond, List, [], ◌∷◌, map, Option, Some, None, Result, Ok, Err, inl, inr}
+use Rattle.std.proofs.Common.{◌≡◌, ◌∙◌, refl, sym, ap, ℕ, ◌||◌, Bool, false, not, cond, List, [], ◌∷◌, map, Option}
+use Rattle.std.proofs.Common.{Some, None, Result, Ok, Err, inl, inr}
 use Rattle.std.specs.FinMap.{get, get-retain_keys, retain_keys, slice_cmp-IsAntisymmetric, nat_cmp-IsAntisymmetric}
 use Rattle.std.specs.List.{list_any}
 use Rattle.std.specs.Option.{option_map}

@@ -1,5 +1,6 @@
 -- What the steps that read a store come to, by the files at one moment.
-use Rattle.std.proofs.Common.{◌≡◌, ◌∙◌, sym, ap, ℕ, ◌++◌, Bool, true, false, List, [], ◌∷◌, Option, Some, None, Result, Ok, Err, inl, inr}
+use Rattle.std.proofs.Common.{◌≡◌, ◌∙◌, sym, ap, ℕ, ◌++◌, Bool, true, false, List, [], ◌∷◌, Option, Some, None, Result}
+use Rattle.std.proofs.Common.{Ok, Err, inl, inr}
 use Rattle.std.specs.Prelude.{IfSome, is_some, if◌then◌else◌}
 use Rattle.cnb_toml.specs.Form.{TableForm}
 use Rattle.cnb_world.specs.Path.{joined}
@@ -18,8 +19,10 @@ use Rattle.tree_store.specs.Writing.{trees_of}
 use Rattle.store_prune.specs.Digests.{tree_digest}
 use Rattle.store_prune.specs.Faults.{cause_of}
 use Rattle.store_prune.specs.Listing.{lists, lists_where, looks_for, looks_for_file}
-use Rattle.store_prune.specs.Named.{adds_document, adds_folder, adds_if, adds_name, adds_where, digests_of_image, digests_of_run, is_document_name, names_of_document, reads_named, reads_names}
-use Rattle.store_prune.specs.Pruning.{digest_at, each_in, folder_in, found_in, listed_in, listed_where, name_in, named_in, pruned_in, trees_in}
+use Rattle.store_prune.specs.Named.{adds_document, adds_folder, adds_if, adds_name, adds_where, digests_of_image}
+use Rattle.store_prune.specs.Named.{digests_of_run, is_document_name, names_of_document, reads_named, reads_names}
+use Rattle.store_prune.specs.Pruning.{digest_at, each_in, folder_in, found_in, listed_in, listed_where, name_in}
+use Rattle.store_prune.specs.Pruning.{named_in, pruned_in, trees_in}
 use Rattle.store_prune.specs.Surveys.{pruned_of, surveys}
 use Rattle.store_prune.specs.Trees.{adds_digest, adds_tree, reads_trees, with_tree}
 use Rattle.store_prune.specs.declared.fault.PruneFault.{PruneFault}

@@ -1,5 +1,6 @@
 -- What a prune removes, by the files at one moment, and what it leaves.
-use Rattle.std.specs.Prelude.{ℕ, ◌≡◌, ◌++◌, ◌↔◌, Bool, true, false, List, [], ◌∷◌, map, is_some, Option, Some, None, Result, Ok, Err, IfOk, IfSome, IsTrue, if◌then◌else◌}
+use Rattle.std.specs.Prelude.{ℕ, ◌≡◌, ◌++◌, ◌↔◌, Bool, true, false, List, [], ◌∷◌, map, is_some, Option, Some, None}
+use Rattle.std.specs.Prelude.{Result, Ok, Err, IfOk, IfSome, IsTrue, if◌then◌else◌}
 use Rattle.std.specs.List.{list_any}
 use Rattle.std.specs.Option.{option_map}
 use Rattle.cnb_toml.specs.Form.{TableForm}

@@ -6,7 +6,8 @@ ghost use Rattle.steps.specs.Causes.{IsAnswer, IsGivenCause};
 ghost use Rattle.steps.specs.Each.{for_each};
 ghost use Rattle.steps.specs.Outside.{seen};
 ghost use Rattle.store_prune.specs.Faults.{cause_of};
-ghost use Rattle.store_prune.specs.Named.{adds_document, adds_folder, adds_name, adds_where, digests_of_image, digests_of_run, is_document_name, named_by, reads_names};
+ghost use Rattle.store_prune.specs.Named.{adds_document, adds_folder, adds_name, adds_where, digests_of_image};
+ghost use Rattle.store_prune.specs.Named.{digests_of_run, is_document_name, named_by, reads_names};
 
 use crate::fault::PruneFault;
 use crate::listing::{is_file_at, list_folder};

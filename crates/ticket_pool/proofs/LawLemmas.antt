@@ -1,5 +1,6 @@
 -- Each job has one answer.
-use Rattle.std.proofs.Common.{◌≡◌, ℕ, ◌+◌, ◌<◌, ◌≤◌, ◌≢◌, cond, eqb, List, [], ◌∷◌, ◌++◌, refl, sym, ap, ◌∙◌, subst, arith, lt-ltb, le-ltb, eq-eqb, ne_eqb}
+use Rattle.std.proofs.Common.{◌≡◌, ℕ, ◌+◌, ◌<◌, ◌≤◌, ◌≢◌, cond, eqb, List, [], ◌∷◌, ◌++◌, refl, sym, ap, ◌∙◌, subst}
+use Rattle.std.proofs.Common.{arith, lt-ltb, le-ltb, eq-eqb, ne_eqb}
 use Rattle.std.specs.Prelude.{Option, Some, None}
 use mathlib.Core.Logic.{dite}
 use native.Mathlib.Decide.{ℕ_discrete, dec_lt}
@@ -7,7 +8,8 @@ use Rattle.cnb_world.specs.declared.child.Probed.{Probed}
 use Rattle.ticket_pool.specs.declared.round.Event.{Event}
 use Rattle.ticket_pool.specs.declared.round.Event.TheVariants.{Draw, End}
 use Rattle.ticket_pool.specs.Round.{Round, put, start, draw, give, end, after}
-use Rattle.ticket_pool.specs.Law.{AreLawful, after_all, IsOver, drawn_by, draws, given_to, ended_by, ends, EachJobHasOneAnswer}
+use Rattle.ticket_pool.specs.Law.{AreLawful, after_all, IsOver, drawn_by, draws, given_to, ended_by, ends}
+use Rattle.ticket_pool.specs.Law.{EachJobHasOneAnswer}
 
 pub some_inj : {A : Type 0} (a b : A) → Some a ≡ Some b → a ≡ b
 some_inj a b e = cc

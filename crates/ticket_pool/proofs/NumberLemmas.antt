@@ -1,9 +1,11 @@
 -- Lists of numbers, weighed, and the merge of two that ascend.
-use Rattle.std.proofs.Common.{◌≡◌, ℕ, zero, suc, ◌+◌, ◌-◌, ◌<◌, ◌≤◌, ◌≢◌, cond, List, [], ◌∷◌, ◌++◌, length, refl, sym, ap, subst, arith, lt-ltb, le-ltb, le-leb, eq-eqb, ne_eqb, length-append}
+use Rattle.std.proofs.Common.{◌≡◌, ℕ, zero, suc, ◌+◌, ◌-◌, ◌<◌, ◌≤◌, ◌≢◌, cond, List, [], ◌∷◌, ◌++◌, length, refl, sym}
+use Rattle.std.proofs.Common.{ap, subst, arith, lt-ltb, le-ltb, le-leb, eq-eqb, ne_eqb, length-append}
 use Rattle.std.proofs.lemmas.Bool.{lt-leb}
 use mathlib.Core.Logic.{dite}
 use native.Mathlib.Decide.{dec_le, dec_lt, ℕ_discrete}
-use Rattle.ticket_pool.specs.Numbers.{weigh, same, late_one, late_of, upto, AllAbove, AllBelow, IsAscending, placed, merged, Apart}
+use Rattle.ticket_pool.specs.Numbers.{weigh, same, late_one, late_of, upto, AllAbove, AllBelow, IsAscending, placed}
+use Rattle.ticket_pool.specs.Numbers.{merged, Apart}
 
 pub weigh-append : (h : ℕ → ℕ) (xs ys : List ℕ) → weigh h (xs ++ ys) ≡ weigh h xs + weigh h ys
 weigh-append h [] ys = omega arith

@@ -1,5 +1,6 @@
 -- What workers did together, once one pass has all spawners again.
-use Rattle.std.proofs.Common.{◌≡◌, ℕ, zero, suc, ◌+◌, ◌≤◌, cond, List, [], ◌∷◌, ◌++◌, length, map, take, refl, sym, ap, ◌∙◌, subst, arith, lt-ltb, le-ltb, length-append}
+use Rattle.std.proofs.Common.{◌≡◌, ℕ, zero, suc, ◌+◌, ◌≤◌, cond, List, [], ◌∷◌, ◌++◌, length, map, take, refl, sym, ap}
+use Rattle.std.proofs.Common.{◌∙◌, subst, arith, lt-ltb, le-ltb, length-append}
 use Rattle.std.specs.Prelude.{Option, Some, None, Result, Ok, Err, OnErr, slice_get}
 use Rattle.std.specs.List.{AllByRecursion, AllZip, cons_option}
 use Rattle.std.specs.Option.{option_map}
@@ -23,7 +24,8 @@ use Rattle.ticket_pool.specs.declared.fault.PoolFault.{PoolFault}
 use Rattle.ticket_pool.specs.declared.rule.View.{View}
 use Rattle.ticket_pool.proofs.CountLemmas.{counts_beside}
 use Rattle.ticket_pool.proofs.ListLemmas.{zip-append, zip_self}
-use Rattle.ticket_pool.proofs.NumberLemmas.{weigh-snoc, same-upto-high, same-upto-le, late-upto, below_from, ascending-once}
+use Rattle.ticket_pool.proofs.NumberLemmas.{weigh-snoc, same-upto-high, same-upto-le, late-upto, below_from}
+use Rattle.ticket_pool.proofs.NumberLemmas.{ascending-once}
 use Rattle.ticket_pool.proofs.ReplayLemmas.{deal_is_round}
 use Rattle.ticket_pool.proofs.WorkLemmas.{weigh-on_jobs}
 

@@ -1,13 +1,17 @@
 -- Each kind of step keeps the ticket rule.
-use Rattle.std.proofs.Common.{◌≡◌, ℕ, zero, suc, ◌+◌, ◌%◌, ◌^◌, ◌<◌, ◌≤◌, ◌≢◌, List, [], ◌∷◌, ◌++◌, length, get_or, set, refl, sym, ap, ◌∙◌, subst, ⊎_elim, arith, length-set, get_or-set_same}
+use Rattle.std.proofs.Common.{◌≡◌, ℕ, zero, suc, ◌+◌, ◌%◌, ◌^◌, ◌<◌, ◌≤◌, ◌≢◌, List, [], ◌∷◌, ◌++◌, length, get_or, set}
+use Rattle.std.proofs.Common.{refl, sym, ap, ◌∙◌, subst, ⊎_elim, arith, length-set, get_or-set_same}
 use mathlib.Core.Option.{some, some-ne-none, some-injective}
 use lib.ListN.{get_elem?}
 use Rattle.atomic_table.specs.Table.{State, Me, keeps, stepped, Allows, Splits, Joins, opening, Final, Seen}
 use Rattle.atomic_table.proofs.Lists.{at_set, at_snoc, set_again, set_else}
 use Rattle.ticket_pool.specs.declared.rule.View.{View}
 use Rattle.ticket_pool.specs.Numbers.{weigh, same, late_one, late_of, upto, AllBelow, merged, Apart}
-use Rattle.ticket_pool.specs.TicketRule.{view, total, IsView, TicketRule, drew, IsWhole, Drew, Looked, kept_part, given_part, joined, spent}
-use Rattle.ticket_pool.proofs.NumberLemmas.{merged-empty, weigh-snoc, weigh-merged, same-upto-high, same-upto-le, late_one-le, late-upto, length-upto, below_from, ascending-snoc, ascending-merged, ascending_same, ascending-upto}
+use Rattle.ticket_pool.specs.TicketRule.{view, total, IsView, TicketRule, drew, IsWhole, Drew, Looked, kept_part}
+use Rattle.ticket_pool.specs.TicketRule.{given_part, joined, spent}
+use Rattle.ticket_pool.proofs.NumberLemmas.{merged-empty, weigh-snoc, weigh-merged, same-upto-high, same-upto-le}
+use Rattle.ticket_pool.proofs.NumberLemmas.{late_one-le, late-upto, length-upto, below_from, ascending-snoc}
+use Rattle.ticket_pool.proofs.NumberLemmas.{ascending-merged, ascending_same, ascending-upto}
 
 pub total-set : (f : View → ℕ) (l : List View) (i : ℕ) (v w : View) → get_elem? l i ≡ some v
     → total f (set l i w) + f v ≡ total f l + f w

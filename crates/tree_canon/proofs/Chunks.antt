@@ -1,10 +1,12 @@
 -- What the machine does with a whole field, and what stands behind it.
-use Rattle.std.proofs.Common.{◌≡◌, ℕ, ◌+◌, ◌<◌, ◌∙◌, List, [], ◌∷◌, ◌++◌, length, arith, refl, sym, ap, subst, Option, Some, None, Bool, true, false, if◌then◌else◌, ◌&&◌}
+use Rattle.std.proofs.Common.{◌≡◌, ℕ, ◌+◌, ◌<◌, ◌∙◌, List, [], ◌∷◌, ◌++◌, length, arith, refl, sym, ap, subst, Option}
+use Rattle.std.proofs.Common.{Some, None, Bool, true, false, if◌then◌else◌, ◌&&◌}
 use Rattle.std.specs.Prelude.{nat_lt, nat_le, ◌==◌}
 use Rattle.std.specs.Int.{from_be_bytes, w16, w32, w64}
 use Rattle.std.proofs.lemmas.Bool.{ltb-true, and_parts, eqb-false}
 use Rattle.std.proofs.lemmas.List.{append-nil}
-use Rattle.tree_canon.specs.CutTree.{OpenFolder, Hole, Magic, Tag, Count, NameLength, Name, Executable, FileLength, Contents, TargetLength, Target, End, CutTree, width}
+use Rattle.tree_canon.specs.CutTree.{OpenFolder, Hole, Magic, Tag, Count, NameLength, Name, Executable, FileLength}
+use Rattle.tree_canon.specs.CutTree.{Contents, TargetLength, Target, End, CutTree, width}
 use Rattle.tree_canon.specs.Rules.{reason_of, either_reason, unless, large_past, first_byte}
 use Rattle.tree_canon.specs.Reading.{entry, cut_at, filled, after, Going, with_field, run}
 use Rattle.tree_canon.specs.declared.node.Node.{Node}

@@ -1,5 +1,6 @@
 -- What the events of cut trees tell, field by field.
-use Rattle.std.proofs.Common.{◌≡◌, ℕ, suc, ◌+◌, ◌-◌, ◌<◌, ◌∙◌, List, [], ◌∷◌, ◌++◌, length, map, drop, length-append, append_assoc, arith, refl, sym, ap, subst, Bool, true, false, if◌then◌else◌}
+use Rattle.std.proofs.Common.{◌≡◌, ℕ, suc, ◌+◌, ◌-◌, ◌<◌, ◌∙◌, List, [], ◌∷◌, ◌++◌, length, map, drop, length-append}
+use Rattle.std.proofs.Common.{append_assoc, arith, refl, sym, ap, subst, Bool, true, false, if◌then◌else◌}
 use Rattle.std.specs.Prelude.{nat_lt, ◌==◌}
 use Rattle.std.specs.Int.{from_be_bytes, w32, w64}
 use Rattle.std.proofs.lemmas.Bool.{eqb-true, ltb-false}
@@ -10,12 +11,15 @@ use Rattle.tree_canon.specs.declared.node.Named.{Named}
 use Rattle.tree_canon.specs.declared.node.Node.TheVariants.{Folder, File, Link, rolls-Folder, rolls-File, rolls-Link}
 use Rattle.tree_canon.specs.declared.node.Node.TheOpen as layer
 use Rattle.tree_canon.specs.declared.node.Node.TheFolds.{fold-roll-Node, fold_out-Named}
-use Rattle.tree_canon.specs.CutTree.{OpenFolder, Hole, Magic, Tag, Count, NameLength, Name, Executable, FileLength, Contents, TargetLength, Target, End, CutTree, width}
+use Rattle.tree_canon.specs.CutTree.{OpenFolder, Hole, Magic, Tag, Count, NameLength, Name, Executable, FileLength}
+use Rattle.tree_canon.specs.CutTree.{Contents, TargetLength, Target, End, CutTree, width}
 use Rattle.tree_canon.specs.Division.{OpenFoldersFit}
 use Rattle.tree_canon.specs.Rules.{first_byte}
 use Rattle.tree_canon.specs.Reading.{entry, cut_at, filled, opened, after}
 use Rattle.tree_canon.specs.Scanning.{scanned_folder, next_field, closes, closes_behind, IsContents}
-use Rattle.tree_canon.specs.Events.{Told, Opened, NamedAs, FileOf, Content, LinkTo, Closed, told, told_step, told_entry_step, events_of, entry_events, entries_events, open_folders_events, events_before, closed}
+use Rattle.tree_canon.specs.Events.{Told, Opened, NamedAs, FileOf, Content, LinkTo, Closed, told, told_step}
+use Rattle.tree_canon.specs.Events.{told_entry_step, events_of, entry_events, entries_events, open_folders_events}
+use Rattle.tree_canon.specs.Events.{events_before, closed}
 use Rattle.tree_canon.specs.Fields.{event_by}
 
 -- ---- the equations of the folds

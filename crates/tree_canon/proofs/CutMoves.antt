@@ -1,5 +1,7 @@
 -- The machine reaches each sound cut tree.
-use Rattle.std.proofs.Common.{◌≡◌, ℕ, zero, suc, ◌+◌, ◌≤◌, ◌<◌, ◌∙◌, List, [], ◌∷◌, ◌++◌, length, take, arith, refl, sym, ap, subst, append_assoc, false, Bool, if◌then◌else◌, true, w16, w32, w64, length-append}
+use Rattle.std.proofs.Common.{◌≡◌, ℕ, zero, suc, ◌+◌, ◌≤◌, ◌<◌, ◌∙◌, List, [], ◌∷◌, ◌++◌, length, take, arith, refl}
+use Rattle.std.proofs.Common.{sym, ap, subst, append_assoc, false, Bool, if◌then◌else◌, true, w16, w32, w64}
+use Rattle.std.proofs.Common.{length-append}
 use Rattle.std.specs.Prelude.{nat_le}
 use Rattle.std.specs.Int.{to_be_bytes}
 use Rattle.std.proofs.lemmas.Bool.{le-leb, ne_eqb}
@@ -7,15 +9,20 @@ use Rattle.std.proofs.lemmas.List.{append-nil}
 use Rattle.tree_canon.specs.declared.fault.Reason.{Reason}
 use Rattle.tree_canon.specs.Spelling.{limit, magic, node_bytes, entries_bytes, folder_head, name_bytes}
 use Rattle.tree_canon.specs.Fits.{fits, entries_fit}
-use Rattle.tree_canon.specs.CutTree.{OpenFolder, Hole, Magic, Tag, Count, NameLength, Name, Executable, FileLength, Contents, TargetLength, Target, End, CutTree, last_name, open_folders_bytes, open_folder_bytes, cut_bytes, bytes_before, width}
+use Rattle.tree_canon.specs.CutTree.{OpenFolder, Hole, Magic, Tag, Count, NameLength, Name, Executable, FileLength}
+use Rattle.tree_canon.specs.CutTree.{Contents, TargetLength, Target, End, CutTree, last_name, open_folders_bytes}
+use Rattle.tree_canon.specs.CutTree.{open_folder_bytes, cut_bytes, bytes_before, width}
 use Rattle.tree_canon.specs.Rules.{reason_of}
 use Rattle.tree_canon.specs.Reading.{cut_at, filled, opened, State, Stuck, Going, moved, run, start}
-use Rattle.tree_canon.specs.Division.{FolderFits, OpenFoldersFit, HoleFits, IsSound, announced, Spells, IsBroken, IsShort, has_ended}
+use Rattle.tree_canon.specs.Division.{FolderFits, OpenFoldersFit, HoleFits, IsSound, announced, Spells, IsBroken}
+use Rattle.tree_canon.specs.Division.{IsShort, has_ended}
 use Rattle.tree_canon.specs.declared.node.Node.{Node}
 use Rattle.tree_canon.specs.declared.node.Named.{Named}
 use Rattle.tree_canon.specs.declared.node.Node.TheVariants.{File}
-use Rattle.tree_canon.proofs.Reach.{Moves, moves-then, tag_moves, count_moves, name_moves, name_len_moves, run-append, whole_field, goes_on}
-use Rattle.tree_canon.proofs.Nodes.{Seen, bare, entries_move, node_moves, opened_more, exec_moves, file_len_moves, after_len, target_len_moves}
+use Rattle.tree_canon.proofs.Reach.{Moves, moves-then, tag_moves, count_moves, name_moves, name_len_moves, run-append}
+use Rattle.tree_canon.proofs.Reach.{whole_field, goes_on}
+use Rattle.tree_canon.proofs.Nodes.{Seen, bare, entries_move, node_moves, opened_more, exec_moves, file_len_moves}
+use Rattle.tree_canon.proofs.Nodes.{after_len, target_len_moves}
 
 seen_of : List Named → List Seen
 seen_of [] = []

@@ -1,9 +1,11 @@
 -- The equations of the folds.
-use Rattle.std.proofs.Common.{None, ◌≡◌, ℕ, suc, ◌^◌, ◌∙◌, List, ◌∷◌, ◌++◌, length, sym, ap, append_assoc, Bool, if◌then◌else◌, ◌&&◌, w16, w64}
+use Rattle.std.proofs.Common.{None, ◌≡◌, ℕ, suc, ◌^◌, ◌∙◌, List, ◌∷◌, ◌++◌, length, sym, ap, append_assoc, Bool}
+use Rattle.std.proofs.Common.{if◌then◌else◌, ◌&&◌, w16, w64}
 use Rattle.std.specs.Prelude.{nat_lt, nat_le}
 use Rattle.std.specs.Int.{to_be_bytes}
 use Rattle.std.proofs.lemmas.List.{length-map}
-use Rattle.tree_canon.specs.Spelling.{node_bytes, entry_bytes, entries_bytes, node_step, entry_step, folder_head, file_head, link_head, name_bytes}
+use Rattle.tree_canon.specs.Spelling.{node_bytes, entry_bytes, entries_bytes, node_step, entry_step, folder_head}
+use Rattle.tree_canon.specs.Spelling.{file_head, link_head, name_bytes}
 use Rattle.tree_canon.specs.Fits.{fits, entry_fits, entries_fit, fit_step, fit_entry_step}
 use Rattle.tree_canon.specs.Names.{is_target}
 use Rattle.tree_canon.specs.declared.node.Named.{Named}

@@ -1,7 +1,8 @@
 -- What a decoder's calls say of the bytes that it was fed.
 use Rattle.std.specs.Prelude.{◌↔◌, min}
 use Rattle.std.proofs.Math.Nat.{min-eq_left}
-use Rattle.std.proofs.Common.{◌≡◌, ℕ, ◌+◌, ◌<◌, ◌≤◌, ◌∙◌, List, [], ◌++◌, length, refl, sym, ap, subst, arith, length-append, Option, None, Result, Ok, Err, false}
+use Rattle.std.proofs.Common.{◌≡◌, ℕ, ◌+◌, ◌<◌, ◌≤◌, ◌∙◌, List, [], ◌++◌, length, refl, sym, ap, subst, arith}
+use Rattle.std.proofs.Common.{length-append, Option, None, Result, Ok, Err, false}
 use Rattle.tree_canon.specs.declared.node.Node.{Node}
 use Rattle.tree_canon.specs.declared.fault.Reason.{Reason}
 use Rattle.tree_canon.specs.declared.fault.Reason.TheVariants as reasons
@@ -10,7 +11,8 @@ use Rattle.tree_canon.specs.declared.fault.DecodeFault.TheVariants as faults
 use Rattle.tree_canon.specs.declared.scanner.Scanner.{Scanner}
 use Rattle.tree_canon.specs.declared.building.Building.{Building}
 use Rattle.tree_canon.specs.declared.building.Current.TheVariants as current
-use Rattle.tree_canon.specs.CutTree.{OpenFolder, CutTree, Hole, Magic, Tag, Count, NameLength, Name, Executable, FileLength, Contents, TargetLength, Target, End, cut_bytes, width}
+use Rattle.tree_canon.specs.CutTree.{OpenFolder, CutTree, Hole, Magic, Tag, Count, NameLength, Name, Executable}
+use Rattle.tree_canon.specs.CutTree.{FileLength, Contents, TargetLength, Target, End, cut_bytes, width}
 use Rattle.tree_canon.specs.Division.{Spells, IsBroken, IsShort, IsDivided, announced, has_ended}
 use Rattle.tree_canon.specs.Writing.{IsMeasured}
 use Rattle.tree_canon.specs.Reading.{State, Stuck, Going, run, start, cut_at, IsBytes, SpellsUpTo}
@@ -18,7 +20,8 @@ use Rattle.tree_canon.specs.Scanning.{next_field, kept_part, bytes_taken, field_
 use Rattle.tree_canon.specs.Events.{events_before}
 use Rattle.tree_canon.specs.Telling.{HasTold}
 use Rattle.tree_canon.specs.Making.{Made, made_none, made_from, current_of, made_of}
-use Rattle.tree_canon.specs.Decoding.{made, hole_of, part_of, cut_of, bytes_read, HasMade, IsBetween, fed_by, IsDecoding}
+use Rattle.tree_canon.specs.Decoding.{made, hole_of, part_of, cut_of, bytes_read, HasMade, IsBetween, fed_by}
+use Rattle.tree_canon.specs.Decoding.{IsDecoding}
 use Rattle.tree_canon.specs.Feeding.{Fed, FeedsTo, Feeds, IsUnbroken, Ends}
 use Rattle.tree_canon.proofs.Reach.{run-append}
 use Rattle.tree_canon.proofs.CutMoves.{cut_moves, part_kept, broken_runs, one_tree, short_not_spelled}

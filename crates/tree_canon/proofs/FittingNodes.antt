@@ -1,5 +1,6 @@
 -- What fits in a folder.
-use Rattle.std.proofs.Common.{◌≡◌, ℕ, suc, ◌+◌, ◌^◌, ◌<◌, ◌∙◌, List, ◌∷◌, ◌++◌, length, drop, get_or, arith, sym, ap, subst, true, ◌&&◌, Some, None, drop-cons, add-one}
+use Rattle.std.proofs.Common.{◌≡◌, ℕ, suc, ◌+◌, ◌^◌, ◌<◌, ◌∙◌, List, ◌∷◌, ◌++◌, length, drop, get_or, arith, sym, ap}
+use Rattle.std.proofs.Common.{subst, true, ◌&&◌, Some, None, drop-cons, add-one}
 use Rattle.std.specs.Prelude.{nat_lt, nat_le}
 use Rattle.std.proofs.lemmas.Bool.{and_parts, ltb-true}
 use Rattle.tree_canon.specs.declared.node.Named.{Named}

@@ -1,5 +1,6 @@
 -- What a scanner keeps stays within the rules of depth, names and targets, and so do its bytes.
-use Rattle.std.proofs.Common.{◌≡◌, ℕ, ◌+◌, ◌*◌, ◌-◌, ◌<◌, ◌≤◌, ◌∙◌, List, [], ◌∷◌, length, map, reverse, arith, refl, sym, ap, subst, Some, None, Bool, true, false, if◌then◌else◌, ◌&&◌}
+use Rattle.std.proofs.Common.{◌≡◌, ℕ, ◌+◌, ◌*◌, ◌-◌, ◌<◌, ◌≤◌, ◌∙◌, List, [], ◌∷◌, length, map, reverse, arith, refl}
+use Rattle.std.proofs.Common.{sym, ap, subst, Some, None, Bool, true, false, if◌then◌else◌, ◌&&◌}
 use Rattle.std.specs.Prelude.{nat_lt, nat_le, ◌==◌, sum, All}
 use Rattle.std.specs.List.{sum_by}
 use Rattle.std.specs.Int.{from_be_bytes, w16, w32, w64}
@@ -14,7 +15,9 @@ use Rattle.tree_canon.specs.declared.next_field.NextField.{NextField}
 use Rattle.tree_canon.specs.declared.next_field.NextField.TheVariants as field
 use Rattle.tree_canon.specs.declared.scanner.Scanner.{Scanner}
 use Rattle.tree_canon.specs.Rules.{unless, either_reason, large_past, first_byte}
-use Rattle.tree_canon.specs.Scanning.{field_width, bytes_taken, IsWholeField, with_bytes, reason_at, Place, place, behind_node, behind, length_before, bytes_held, kept_width, most_kept, most_open, IsSmallPlace, IsSmall}
+use Rattle.tree_canon.specs.Scanning.{field_width, bytes_taken, IsWholeField, with_bytes, reason_at, Place, place}
+use Rattle.tree_canon.specs.Scanning.{behind_node, behind, length_before, bytes_held, kept_width, most_kept, most_open}
+use Rattle.tree_canon.specs.Scanning.{IsSmallPlace, IsSmall}
 use Rattle.tree_canon.proofs.Keeps.{first_parts, ok_true}
 use Rattle.tree_canon.proofs.Scans.{HasTaken}
 

@@ -1,14 +1,19 @@
 -- What the machine has read is a sound cut tree.
-use Rattle.std.proofs.Common.{◌≡◌, ℕ, suc, ◌+◌, ◌^◌, ◌≤◌, ◌<◌, ◌∙◌, List, [], ◌∷◌, ◌++◌, length, arith, refl, sym, ap, subst, append_assoc, false, Bool, if◌then◌else◌, true, ◌&&◌, ◌||◌, w16, w32, w64, length-append, Option, Some, None, ◌⊎◌, inl, inr}
+use Rattle.std.proofs.Common.{◌≡◌, ℕ, suc, ◌+◌, ◌^◌, ◌≤◌, ◌<◌, ◌∙◌, List, [], ◌∷◌, ◌++◌, length, arith, refl, sym, ap}
+use Rattle.std.proofs.Common.{subst, append_assoc, false, Bool, if◌then◌else◌, true, ◌&&◌, ◌||◌, w16, w32, w64}
+use Rattle.std.proofs.Common.{length-append, Option, Some, None, ◌⊎◌, inl, inr}
 use Rattle.std.specs.Prelude.{nat_lt, nat_le, ◌==◌}
 use Rattle.std.specs.Int.{to_be_bytes, from_be_bytes}
-use Rattle.std.proofs.lemmas.Bool.{lt-ltb, le-leb, ltb-true, ltb-false, leb-true, eqb-true, eqb-false, and_parts, and_from}
+use Rattle.std.proofs.lemmas.Bool.{lt-ltb, le-leb, ltb-true, ltb-false, leb-true, eqb-true, eqb-false, and_parts}
+use Rattle.std.proofs.lemmas.Bool.{and_from}
 use Rattle.std.proofs.lemmas.List.{append-nil}
 use Rattle.std.proofs.lemmas.Nat.{be_bytes_2, be_bytes_4, be_bytes_8}
 use Rattle.tree_canon.specs.Spelling.{limit, node_bytes, entry_bytes, entries_bytes, folder_head, name_bytes}
 use Rattle.tree_canon.specs.Fits.{Fitting, fits, entries_fit, name_fits}
 use Rattle.tree_canon.specs.Names.{is_name, is_target, follows}
-use Rattle.tree_canon.specs.CutTree.{OpenFolder, Hole, Tag, Count, NameLength, Name, Executable, FileLength, Contents, TargetLength, Target, CutTree, last_from, last_name, open_folders_bytes, open_folder_bytes, cut_bytes, width}
+use Rattle.tree_canon.specs.CutTree.{OpenFolder, Hole, Tag, Count, NameLength, Name, Executable, FileLength, Contents}
+use Rattle.tree_canon.specs.CutTree.{TargetLength, Target, CutTree, last_from, last_name, open_folders_bytes}
+use Rattle.tree_canon.specs.CutTree.{open_folder_bytes, cut_bytes, width}
 use Rattle.tree_canon.specs.Rules.{reason_of, either_reason, unless, large_past, first_byte}
 use Rattle.tree_canon.specs.Reading.{IsBytes}
 use Rattle.tree_canon.specs.Reading.{entry, cut_at, filled, opened, after}
@@ -18,7 +23,8 @@ use Rattle.tree_canon.specs.declared.node.Named.{Named}
 use Rattle.tree_canon.specs.declared.node.Node.TheVariants.{Folder, File, Link}
 use Rattle.tree_canon.specs.declared.fault.Reason.{Reason}
 use Rattle.tree_canon.specs.declared.fault.Reason.TheVariants as reasons
-use Rattle.tree_canon.proofs.Equations.{node_bytes_folder, node_bytes_file, node_bytes_link, entry_bytes_is, fits_folder, fits_file, fits_link, fits_named}
+use Rattle.tree_canon.proofs.Equations.{node_bytes_folder, node_bytes_file, node_bytes_link, entry_bytes_is}
+use Rattle.tree_canon.proofs.Equations.{fits_folder, fits_file, fits_link, fits_named}
 use Rattle.tree_canon.proofs.Nodes.{fits_cons}
 
 -- the next cut tree is sound, and its bytes are these and a field

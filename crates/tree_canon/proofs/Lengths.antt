@@ -1,11 +1,13 @@
 -- The lengths of spellings.
-use Rattle.std.proofs.Common.{◌≡◌, ℕ, ◌+◌, ◌≤◌, ◌∙◌, List, length, arith, refl, ap, true, false, Bool, if◌then◌else◌, w16, length-append, Some, None}
+use Rattle.std.proofs.Common.{◌≡◌, ℕ, ◌+◌, ◌≤◌, ◌∙◌, List, length, arith, refl, ap, true, false, Bool, if◌then◌else◌}
+use Rattle.std.proofs.Common.{w16, length-append, Some, None}
 use Rattle.std.specs.Prelude.{nat_le}
 use Rattle.std.specs.Int.{to_be_bytes}
 use Rattle.std.proofs.lemmas.Bool.{leb-true, le-leb}
 use Rattle.tree_canon.specs.declared.node.Named.{Named}
 use Rattle.tree_canon.specs.declared.node.Node.TheVariants.{Folder, File, Link}
-use Rattle.tree_canon.specs.Spelling.{limit, folder_head, file_head, link_head, name_bytes, node_bytes, entry_bytes, entries_bytes}
+use Rattle.tree_canon.specs.Spelling.{limit, folder_head, file_head, link_head, name_bytes, node_bytes, entry_bytes}
+use Rattle.tree_canon.specs.Spelling.{entries_bytes}
 use Rattle.tree_canon.specs.Writing.{room}
 use Rattle.tree_canon.proofs.Equations.{node_bytes_folder, node_bytes_file, node_bytes_link, entry_bytes_is}
 

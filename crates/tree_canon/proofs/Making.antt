@@ -1,5 +1,7 @@
 -- What is made of the events of a cut tree: its open folders, and what there is of the node at its hole.
-use Rattle.std.proofs.Common.{◌≡◌, ℕ, zero, suc, ◌+◌, ◌-◌, ◌<◌, ◌≤◌, ◌∙◌, List, [], ◌∷◌, ◌++◌, length, map, take, length-append, append_assoc, arith, refl, sym, ap, subst, Bool, true, false, if◌then◌else◌}
+use Rattle.std.proofs.Common.{◌≡◌, ℕ, zero, suc, ◌+◌, ◌-◌, ◌<◌, ◌≤◌, ◌∙◌, List, [], ◌∷◌, ◌++◌, length, map, take}
+use Rattle.std.proofs.Common.{length-append, append_assoc, arith, refl, sym, ap, subst, Bool, true, false}
+use Rattle.std.proofs.Common.{if◌then◌else◌}
 use Rattle.std.specs.Prelude.{nat_lt, min}
 use Rattle.std.proofs.Math.Seq.{take-length}
 use Rattle.std.proofs.lemmas.Bool.{lt-ltb, le-ltb, ltb-true, ltb-false}
@@ -13,11 +15,14 @@ use Rattle.tree_canon.specs.declared.node.Node.TheViews.{roll-Node, roll-Named}
 use Rattle.tree_canon.specs.declared.node.Node.TheFolds.{map-Node, ind-Node}
 use Rattle.tree_canon.specs.declared.building.Current.{Current}
 use Rattle.tree_canon.specs.declared.building.Current.TheVariants as current
-use Rattle.tree_canon.specs.CutTree.{OpenFolder, Hole, Magic, Tag, Count, NameLength, Name, Executable, FileLength, Contents, TargetLength, Target, End, CutTree, width}
+use Rattle.tree_canon.specs.CutTree.{OpenFolder, Hole, Magic, Tag, Count, NameLength, Name, Executable, FileLength}
+use Rattle.tree_canon.specs.CutTree.{Contents, TargetLength, Target, End, CutTree, width}
 use Rattle.tree_canon.specs.Division.{HoleFits, IsSound}
 use Rattle.tree_canon.specs.Reading.{entry}
-use Rattle.tree_canon.specs.Events.{Told, Opened, NamedAs, FileOf, Content, Closed, events_of, entry_events, entries_events, open_folders_events, hole_events, events_before}
-use Rattle.tree_canon.specs.Making.{Made, made_at, made_none, with_node, with_contents, with_told, made_from, current_of, made_of}
+use Rattle.tree_canon.specs.Events.{Told, Opened, NamedAs, FileOf, Content, Closed, events_of, entry_events}
+use Rattle.tree_canon.specs.Events.{entries_events, open_folders_events, hole_events, events_before}
+use Rattle.tree_canon.specs.Making.{Made, made_at, made_none, with_node, with_contents, with_told, made_from}
+use Rattle.tree_canon.specs.Making.{current_of, made_of}
 use Rattle.tree_canon.proofs.CutEvents.{events_folder, events_file, events_link, entry_events_is}
 
 pub made_from-append : (m : Made) (xs ys : List Told) → made_from m (xs ++ ys) ≡ made_from (made_from m xs) ys

@@ -1,5 +1,7 @@
 -- The machine reads each node that fits.
-use Rattle.std.proofs.Common.{Option, Some, ◌≡◌, ℕ, suc, ◌+◌, ◌^◌, ◌≤◌, ◌<◌, ◌∙◌, List, [], ◌∷◌, ◌++◌, map, length, arith, refl, sym, ap, subst, append_assoc, false, Bool, if◌then◌else◌, true, ◌&&◌, w16, w32, w64, length-append, None}
+use Rattle.std.proofs.Common.{Option, Some, ◌≡◌, ℕ, suc, ◌+◌, ◌^◌, ◌≤◌, ◌<◌, ◌∙◌, List, [], ◌∷◌, ◌++◌, map, length}
+use Rattle.std.proofs.Common.{arith, refl, sym, ap, subst, append_assoc, false, Bool, if◌then◌else◌, true, ◌&&◌, w16}
+use Rattle.std.proofs.Common.{w32, w64, length-append, None}
 use Rattle.std.specs.Prelude.{nat_lt, nat_le, ◌==◌}
 use Rattle.std.specs.Int.{to_be_bytes, from_be_bytes}
 use Rattle.std.proofs.lemmas.Bool.{lt-ltb, le-ltb, le-leb, and_parts, and_from, ltb-true, ne_eqb}
@@ -7,7 +9,8 @@ use Rattle.std.proofs.lemmas.List.{append-nil}
 use Rattle.std.proofs.lemmas.Nat.{from_be_bytes-to_be_bytes_2, from_be_bytes-to_be_bytes_8}
 use Rattle.tree_canon.specs.Spelling.{limit, node_bytes, entry_bytes, entries_bytes, folder_head, name_bytes}
 use Rattle.tree_canon.specs.Fits.{Fitting, fits, entries_fit, name_fits}
-use Rattle.tree_canon.specs.CutTree.{OpenFolder, Tag, Count, NameLength, Executable, FileLength, Contents, TargetLength, Target, CutTree, last_name}
+use Rattle.tree_canon.specs.CutTree.{OpenFolder, Tag, Count, NameLength, Executable, FileLength, Contents, TargetLength}
+use Rattle.tree_canon.specs.CutTree.{Target, CutTree, last_name}
 use Rattle.tree_canon.specs.Rules.{unless}
 use Rattle.tree_canon.proofs.Texts.{target_sizes}
 use Rattle.tree_canon.proofs.LastNames.{last_from-push}
@@ -19,8 +22,10 @@ use Rattle.tree_canon.specs.declared.node.Node.TheVariants.{Folder, File, Link, 
 use Rattle.tree_canon.specs.declared.node.Node.TheOpen as layer
 use Rattle.tree_canon.specs.declared.node.Node.TheViews.{roll-Node, roll-Named}
 use Rattle.tree_canon.specs.declared.node.Node.TheFolds.{map-Node, ind-Node}
-use Rattle.tree_canon.proofs.Equations.{node_bytes_folder, node_bytes_file, node_bytes_link, entry_bytes_is, fits_folder, fits_file, fits_link, fits_named}
-use Rattle.tree_canon.proofs.Reach.{Moves, moves_none, moves-then, one_field, within_ok, first_ok, ok_ok, tag_moves, count_moves, name_moves, level}
+use Rattle.tree_canon.proofs.Equations.{node_bytes_folder, node_bytes_file, node_bytes_link, entry_bytes_is}
+use Rattle.tree_canon.proofs.Equations.{fits_folder, fits_file, fits_link, fits_named}
+use Rattle.tree_canon.proofs.Reach.{Moves, moves_none, moves-then, one_field, within_ok, first_ok, ok_ok, tag_moves}
+use Rattle.tree_canon.proofs.Reach.{count_moves, name_moves, level}
 
 -- ---- files
 

@@ -1,5 +1,6 @@
 -- What a decoder does with a piece: it has read the front of it.
-use Rattle.std.proofs.Common.{◌≡◌, ℕ, ◌-◌, ◌<◌, ◌≤◌, ◌∙◌, List, [], ◌∷◌, ◌++◌, length, take, reverse, append_assoc, sym, ap, subst}
+use Rattle.std.proofs.Common.{◌≡◌, ℕ, ◌-◌, ◌<◌, ◌≤◌, ◌∙◌, List, [], ◌∷◌, ◌++◌, length, take, reverse, append_assoc, sym}
+use Rattle.std.proofs.Common.{ap, subst}
 use Rattle.std.proofs.lemmas.List.{append-nil, take-append-le}
 use Rattle.tree_canon.specs.declared.event.Event.{Event}
 use Rattle.tree_canon.specs.declared.fault.Reason.{Reason}

@@ -1,5 +1,7 @@
 -- The machine reaches each cut tree that is sound.
-use Rattle.std.proofs.Common.{◌≡◌, ℕ, ◌+◌, ◌^◌, ◌≤◌, ◌<◌, ◌∙◌, List, [], ◌∷◌, ◌++◌, length, arith, refl, ap, subst, append_assoc, Bool, if◌then◌else◌, true, ◌||◌, w16, w32, Option, None, Some, length-append}
+use Rattle.std.proofs.Common.{◌≡◌, ℕ, ◌+◌, ◌^◌, ◌≤◌, ◌<◌, ◌∙◌, List, [], ◌∷◌, ◌++◌, length, arith, refl, ap, subst}
+use Rattle.std.proofs.Common.{append_assoc, Bool, if◌then◌else◌, true, ◌||◌, w16, w32, Option, None, Some}
+use Rattle.std.proofs.Common.{length-append}
 use Rattle.std.specs.Prelude.{nat_le, ◌==◌}
 use Rattle.std.specs.Int.{to_be_bytes, from_be_bytes}
 use Rattle.std.proofs.lemmas.Bool.{lt-ltb, le-ltb, le-leb, and_parts, and_from}

@@ -1,6 +1,7 @@
 -- What a scan's calls say of the bytes that it was fed.
 use Rattle.std.specs.Prelude.{min}
-use Rattle.std.proofs.Common.{◌≡◌, ℕ, zero, suc, ◌+◌, ◌∙◌, List, [], ◌∷◌, ◌++◌, length, take, reverse, arith, refl, sym, ap, subst, None, Some, Ok, Err, false}
+use Rattle.std.proofs.Common.{◌≡◌, ℕ, zero, suc, ◌+◌, ◌∙◌, List, [], ◌∷◌, ◌++◌, length, take, reverse, arith, refl, sym}
+use Rattle.std.proofs.Common.{ap, subst, None, Some, Ok, Err, false}
 use Rattle.tree_canon.specs.declared.node.Node.{Node}
 use Rattle.tree_canon.specs.declared.fault.Reason.{Reason}
 use Rattle.tree_canon.specs.declared.fault.Reason.TheVariants as reasons
@@ -10,7 +11,8 @@ use Rattle.tree_canon.specs.declared.next_field.NextField.TheVariants as field
 use Rattle.tree_canon.specs.declared.scanner.Scanner.{Scanner}
 use Rattle.tree_canon.specs.declared.event.Step.{Step}
 use Rattle.tree_canon.specs.declared.scan.Scan.{Scan}
-use Rattle.tree_canon.specs.CutTree.{OpenFolder, Hole, Magic, Tag, Count, NameLength, Name, Executable, FileLength, Contents, TargetLength, Target, End}
+use Rattle.tree_canon.specs.CutTree.{OpenFolder, Hole, Magic, Tag, Count, NameLength, Name, Executable, FileLength}
+use Rattle.tree_canon.specs.CutTree.{Contents, TargetLength, Target, End}
 use Rattle.tree_canon.specs.Division.{Spells, has_ended}
 use Rattle.tree_canon.specs.Reading.{State, Stuck, Going, run, cut_at, IsBytes, SpellsUpTo}
 use Rattle.tree_canon.specs.Feeding.{Fed}

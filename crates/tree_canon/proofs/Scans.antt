@@ -1,5 +1,6 @@
 -- A scanner beside the machine that keeps the whole tree: what it keeps is what the machine's state determines.
-use Rattle.std.proofs.Common.{◌≡◌, ℕ, ◌+◌, ◌-◌, ◌<◌, ◌∙◌, List, [], ◌∷◌, ◌++◌, length, map, reverse, length-append, arith, refl, sym, ap, subst, Some, None, Bool, true, false, if◌then◌else◌}
+use Rattle.std.proofs.Common.{◌≡◌, ℕ, ◌+◌, ◌-◌, ◌<◌, ◌∙◌, List, [], ◌∷◌, ◌++◌, length, map, reverse, length-append}
+use Rattle.std.proofs.Common.{arith, refl, sym, ap, subst, Some, None, Bool, true, false, if◌then◌else◌}
 use Rattle.std.specs.Prelude.{nat_lt, ◌==◌}
 use Rattle.std.specs.Int.{from_be_bytes, w16, w32, w64}
 use Rattle.std.proofs.lemmas.Bool.{eqb-false}
@@ -13,10 +14,13 @@ use Rattle.tree_canon.specs.declared.next_field.ScannedFolder.{ScannedFolder}
 use Rattle.tree_canon.specs.declared.next_field.NextField.{NextField}
 use Rattle.tree_canon.specs.declared.next_field.NextField.TheVariants as field
 use Rattle.tree_canon.specs.declared.scanner.Scanner.{Scanner}
-use Rattle.tree_canon.specs.CutTree.{OpenFolder, Hole, Magic, Tag, Count, NameLength, Name, Executable, FileLength, Contents, TargetLength, Target, End, CutTree, width, last_name}
+use Rattle.tree_canon.specs.CutTree.{OpenFolder, Hole, Magic, Tag, Count, NameLength, Name, Executable, FileLength}
+use Rattle.tree_canon.specs.CutTree.{Contents, TargetLength, Target, End, CutTree, width, last_name}
 use Rattle.tree_canon.specs.Rules.{reason_of, large_past, first_byte}
 use Rattle.tree_canon.specs.Reading.{entry, cut_at, filled, opened, after_tag, after, State, Stuck, Going, moved, run}
-use Rattle.tree_canon.specs.Scanning.{scanned_folder, next_field, kept_part, field_width, bytes_taken, with_bytes, Taken, reason_at, Place, place, behind_node, behind_tag, behind_count, behind_file_length, behind, place_of, HasReached, IsAt}
+use Rattle.tree_canon.specs.Scanning.{scanned_folder, next_field, kept_part, field_width, bytes_taken, with_bytes}
+use Rattle.tree_canon.specs.Scanning.{Taken, reason_at, Place, place, behind_node, behind_tag, behind_count}
+use Rattle.tree_canon.specs.Scanning.{behind_file_length, behind, place_of, HasReached, IsAt}
 use Rattle.tree_canon.proofs.LastNames.{last_from-push}
 use Rattle.tree_canon.proofs.Reach.{is_whole, run-append}
 use Rattle.tree_canon.proofs.CutMoves.{part_kept, stuck_stays}

@@ -1,7 +1,8 @@
 -- What a scanner does with the bytes that make a field whole.
 use Rattle.std.specs.Prelude.{◌==◌, OnOk}
 use Rattle.std.proofs.lemmas.Bool.{eqb-true, eqb-false}
-use Rattle.std.proofs.Common.{◌≡◌, ◌∙◌, arith, refl, ap, true, false, ℕ, ◌+◌, List, [], ◌∷◌, length, reverse, sym, subst, Some, None, Result, Ok, Err}
+use Rattle.std.proofs.Common.{◌≡◌, ◌∙◌, arith, refl, ap, true, false, ℕ, ◌+◌, List, [], ◌∷◌, length, reverse, sym}
+use Rattle.std.proofs.Common.{subst, Some, None, Result, Ok, Err}
 use Rattle.tree_canon.specs.declared.event.Event.{Event}
 use Rattle.tree_canon.specs.declared.fault.Reason.{Reason}
 use Rattle.tree_canon.specs.declared.fault.DecodeFault.{DecodeFault}
@@ -9,7 +10,8 @@ use Rattle.tree_canon.specs.declared.scanner.Scanner.{Scanner}
 use Rattle.tree_canon.specs.CutTree.{CutTree}
 use Rattle.tree_canon.specs.Reading.{State, Stuck, Going, run}
 use Rattle.tree_canon.specs.Scanning.{bytes_taken, field_width, reason_at, place, behind, HasReached, IsAt}
-use Rattle.tree_canon.proofs.Scans.{HasTaken, HasMoved, IsAtField, field_runs, field_reached, field_breaks, field_direct, field_kept}
+use Rattle.tree_canon.proofs.Scans.{HasTaken, HasMoved, IsAtField, field_runs, field_reached, field_breaks}
+use Rattle.tree_canon.proofs.Scans.{field_direct, field_kept}
 
 pub is_none : (n : ℕ) (xs : List ℕ) → n ≡ length xs → (n == 0) ≡ true → xs ≡ []
 is_none n [] len is = refl

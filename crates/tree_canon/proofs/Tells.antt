@@ -1,6 +1,8 @@
 -- What a scanner has told, at each of its moves.
 use Rattle.std.specs.Prelude.{IfOk, OnOk, IsTrue, nat_lt}
-use Rattle.std.proofs.Common.{◌≡◌, ℕ, suc, Bool, true, false, if◌then◌else◌, Some, Result, Ok, Err, ◌+◌, ◌-◌, ◌<◌, ◌≤◌, ◌∙◌, List, [], ◌∷◌, ◌++◌, length, map, take, drop, reverse, length-append, length-drop, length-take, append_assoc, arith, refl, sym, ap, subst}
+use Rattle.std.proofs.Common.{◌≡◌, ℕ, suc, Bool, true, false, if◌then◌else◌, Some, Result, Ok, Err, ◌+◌, ◌-◌, ◌<◌, ◌≤◌}
+use Rattle.std.proofs.Common.{◌∙◌, List, [], ◌∷◌, ◌++◌, length, map, take, drop, reverse, length-append, length-drop}
+use Rattle.std.proofs.Common.{length-take, append_assoc, arith, refl, sym, ap, subst}
 use Rattle.std.proofs.Math.Nat.{min-eq_left}
 use Rattle.std.proofs.Math.Seq.{drop-append_seam, take-add}
 use Rattle.std.proofs.lemmas.List.{append-nil, take-append-drop, take_all}
@@ -14,7 +16,8 @@ use Rattle.tree_canon.specs.declared.next_field.NextField.TheVariants as field
 use Rattle.tree_canon.specs.declared.scanner.Scanner.{Scanner}
 use Rattle.tree_canon.specs.CutTree.{Magic, width}
 use Rattle.tree_canon.specs.Reading.{State, Stuck, Going, cut_at, after, IsBytes, SpellsUpTo, run}
-use Rattle.tree_canon.specs.Scanning.{next_field, bytes_taken, field_width, closes_behind, kept_width, IsContents, scanned_folder, Place, place, behind, behind_node}
+use Rattle.tree_canon.specs.Scanning.{next_field, bytes_taken, field_width, closes_behind, kept_width, IsContents}
+use Rattle.tree_canon.specs.Scanning.{scanned_folder, Place, place, behind, behind_node}
 use Rattle.tree_canon.specs.Events.{Told, Content, Closed, told, events_before, closed}
 use Rattle.tree_canon.specs.Fields.{event_by}
 use Rattle.tree_canon.specs.Telling.{HasTold, FaultFollows}

@@ -1,11 +1,14 @@
 -- Every list of bytes is node_bytes, broken or short.
-use Rattle.std.proofs.Common.{◌≡◌, ℕ, zero, suc, ◌+◌, ◌<◌, ◌∙◌, List, [], ◌∷◌, ◌++◌, length, take, arith, refl, sym, ap, subst, append_assoc, false, Bool, if◌then◌else◌, true, length-append, Option, Some, None}
+use Rattle.std.proofs.Common.{◌≡◌, ℕ, zero, suc, ◌+◌, ◌<◌, ◌∙◌, List, [], ◌∷◌, ◌++◌, length, take, arith, refl, sym, ap}
+use Rattle.std.proofs.Common.{subst, append_assoc, false, Bool, if◌then◌else◌, true, length-append, Option, Some, None}
 use Rattle.std.specs.Prelude.{nat_lt, ◌==◌, slice_index}
 use Rattle.std.proofs.lemmas.Bool.{ltb-true, ltb-false, eqb-true}
 use Rattle.std.proofs.lemmas.List.{append-nil}
 use Rattle.tree_canon.specs.Spelling.{magic, node_bytes}
 use Rattle.tree_canon.specs.Fits.{fits}
-use Rattle.tree_canon.specs.CutTree.{OpenFolder, Hole, Magic, Tag, Count, NameLength, Name, Executable, FileLength, Contents, TargetLength, Target, End, CutTree, open_folders_bytes, cut_bytes, bytes_before, width}
+use Rattle.tree_canon.specs.CutTree.{OpenFolder, Hole, Magic, Tag, Count, NameLength, Name, Executable, FileLength}
+use Rattle.tree_canon.specs.CutTree.{Contents, TargetLength, Target, End, CutTree, open_folders_bytes, cut_bytes}
+use Rattle.tree_canon.specs.CutTree.{bytes_before, width}
 use Rattle.tree_canon.specs.Rules.{reason_of, large_past, first_byte}
 use Rattle.tree_canon.specs.Reading.{IsBytes, SpellsUpTo}
 use Rattle.tree_canon.specs.Reading.{cut_at, after, State, Stuck, Going, moved, step, run, start}
@@ -14,7 +17,9 @@ use Rattle.tree_canon.specs.declared.node.Node.{Node}
 use Rattle.tree_canon.specs.declared.fault.Reason.{Reason}
 use Rattle.tree_canon.specs.declared.fault.Reason.TheVariants as reasons
 use Rattle.tree_canon.proofs.CutMoves.{some_width}
-use Rattle.tree_canon.proofs.Keeps.{Keeps, single, first_parts, ok_true, keeps_tag, keeps_count, keeps_name_len, keeps_name, keeps_exec, keeps_file_len, keeps_contents, keeps_target_len, keeps_target}
+use Rattle.tree_canon.proofs.Keeps.{Keeps, single, first_parts, ok_true, keeps_tag, keeps_count, keeps_name_len}
+use Rattle.tree_canon.proofs.Keeps.{keeps_name, keeps_exec, keeps_file_len, keeps_contents, keeps_target_len}
+use Rattle.tree_canon.proofs.Keeps.{keeps_target}
 
 keeps_magic : (k : ℕ) (b : ℕ) → k < 5 → b ≡ slice_index magic k
     → Keeps (after [] (Magic k) (b ∷ [])) (take k magic ++ b ∷ [])

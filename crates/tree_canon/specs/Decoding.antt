@@ -7,7 +7,8 @@ use Rattle.tree_canon.specs.declared.scanner.Scanner.{Scanner}
 use Rattle.tree_canon.specs.declared.building.Building.{Building}
 use Rattle.tree_canon.specs.declared.building.Current.{Current}
 use Rattle.tree_canon.specs.declared.building.Current.TheVariants as current
-use Rattle.tree_canon.specs.CutTree.{Hole, Magic, Tag, Count, NameLength, Name, Executable, FileLength, Contents, TargetLength, Target, End, CutTree, cut_bytes}
+use Rattle.tree_canon.specs.CutTree.{Hole, Magic, Tag, Count, NameLength, Name, Executable, FileLength, Contents}
+use Rattle.tree_canon.specs.CutTree.{TargetLength, Target, End, CutTree, cut_bytes}
 use Rattle.tree_canon.specs.Reading.{cut_at}
 use Rattle.tree_canon.specs.Feeding.{Fed}
 use Rattle.tree_canon.specs.Scanning.{bytes_taken, field_width, IsSmall}

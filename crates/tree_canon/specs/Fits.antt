@@ -1,5 +1,6 @@
 -- Which nodes have a spelling.
-use Rattle.std.specs.Prelude.{ℕ, suc, Bool, true, ◌&&◌, ◌^◌, List, [], ◌∷◌, length, nat_lt, nat_le, map, Option, Some, None}
+use Rattle.std.specs.Prelude.{ℕ, suc, Bool, true, ◌&&◌, ◌^◌, List, [], ◌∷◌, length, nat_lt, nat_le, map, Option, Some}
+use Rattle.std.specs.Prelude.{None}
 use Rattle.tree_canon.specs.declared.node.Node.{Node}
 use Rattle.tree_canon.specs.declared.node.Named.{Named}
 use Rattle.tree_canon.specs.declared.node.Node.TheOpen.{Node-F, Named-F, Folder, File, Link}

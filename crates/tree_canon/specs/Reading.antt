@@ -1,11 +1,13 @@
 -- Reading a spelling byte by byte, which private calls alone speak of.
-use Rattle.std.specs.Prelude.{◌≡◌, ℕ, ◌==◌, ◌+◌, ◌<◌, ◌++◌, List, [], ◌∷◌, length, slice_index, if◌then◌else◌, nat_lt, Option, None, Some}
+use Rattle.std.specs.Prelude.{◌≡◌, ℕ, ◌==◌, ◌+◌, ◌<◌, ◌++◌, List, [], ◌∷◌, length, slice_index, if◌then◌else◌, nat_lt}
+use Rattle.std.specs.Prelude.{Option, None, Some}
 use Rattle.std.specs.Int.{from_be_bytes, w16, w32, w64}
 use Rattle.tree_canon.specs.declared.node.Node.{Node}
 use Rattle.tree_canon.specs.declared.node.Named.{Named}
 use Rattle.tree_canon.specs.declared.node.Node.TheVariants.{Folder, File, Link}
 use Rattle.tree_canon.specs.declared.fault.Reason.{Reason}
-use Rattle.tree_canon.specs.CutTree.{OpenFolder, Hole, Magic, Tag, Count, NameLength, Name, Executable, FileLength, Contents, TargetLength, Target, End, CutTree, width, cut_bytes}
+use Rattle.tree_canon.specs.CutTree.{OpenFolder, Hole, Magic, Tag, Count, NameLength, Name, Executable, FileLength}
+use Rattle.tree_canon.specs.CutTree.{Contents, TargetLength, Target, End, CutTree, width, cut_bytes}
 use Rattle.tree_canon.specs.Rules.{reason_of, first_byte}
 use Rattle.tree_canon.specs.Division.{IsSound}
 

@@ -1,11 +1,13 @@
 -- The rules of fields: the reason that a whole field gives for its bytes to be no spelling.
-use Rattle.std.specs.Prelude.{ℕ, Bool, true, false, ◌&&◌, ◌||◌, ◌==◌, ◌+◌, List, [], ◌∷◌, slice_index, nat_lt, nat_le, Option, None, Some}
+use Rattle.std.specs.Prelude.{ℕ, Bool, true, false, ◌&&◌, ◌||◌, ◌==◌, ◌+◌, List, [], ◌∷◌, slice_index, nat_lt, nat_le}
+use Rattle.std.specs.Prelude.{Option, None, Some}
 use Rattle.std.specs.Int.{from_be_bytes, w16, w64}
 use Rattle.tree_canon.specs.declared.fault.Reason.{Reason}
 use Rattle.tree_canon.specs.declared.fault.Reason.TheVariants as reasons
 use Rattle.tree_canon.specs.Spelling.{limit, magic}
 use Rattle.tree_canon.specs.Names.{is_name, is_target, follows}
-use Rattle.tree_canon.specs.CutTree.{Hole, Magic, Tag, Count, NameLength, Name, Executable, FileLength, Contents, TargetLength, Target, End, width, last_name}
+use Rattle.tree_canon.specs.CutTree.{Hole, Magic, Tag, Count, NameLength, Name, Executable, FileLength, Contents}
+use Rattle.tree_canon.specs.CutTree.{TargetLength, Target, End, width, last_name}
 
 -- this reason, unless the test passed
 abbrev pub unless : Bool → Reason → Option Reason

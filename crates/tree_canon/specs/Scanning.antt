@@ -1,7 +1,8 @@
 -- What a scan keeps of a cut tree, which private calls alone speak of: no file's contents, and of the entries of an
--- open
--- folder the number of those to come and one name.
-use Rattle.std.specs.Prelude.{◌≡◌, ℕ, suc, true, ◌==◌, ◌||◌, ◌+◌, ◌-◌, ◌<◌, ◌≤◌, ◌++◌, List, [], ◌∷◌, length, map, reverse, sum, All, slice_index, unwrap_or, if◌then◌else◌, nat_lt, nat_le, Option, None, Some}
+-- open folder the number of those to come and one name.
+use Rattle.std.specs.Prelude.{◌≡◌, ℕ, suc, true, ◌==◌, ◌||◌, ◌+◌, ◌-◌, ◌<◌, ◌≤◌, ◌++◌, List, [], ◌∷◌, length, map}
+use Rattle.std.specs.Prelude.{reverse, sum, All, slice_index, unwrap_or, if◌then◌else◌, nat_lt, nat_le, Option, None}
+use Rattle.std.specs.Prelude.{Some}
 use Rattle.std.specs.Int.{from_be_bytes, w16, w32, w64}
 use Rattle.std.specs.Str.{is_utf8}
 use Rattle.tree_canon.specs.declared.fault.Reason.{Reason}
@@ -12,7 +13,8 @@ use Rattle.tree_canon.specs.declared.next_field.NextField.TheVariants as field
 use Rattle.tree_canon.specs.declared.scanner.Scanner.{Scanner}
 use Rattle.tree_canon.specs.Names.{is_name, is_target, follows}
 use Rattle.tree_canon.specs.Spelling.{magic}
-use Rattle.tree_canon.specs.CutTree.{OpenFolder, Hole, Magic, Tag, Count, NameLength, Name, Executable, FileLength, Contents, TargetLength, Target, End, CutTree, width, last_name}
+use Rattle.tree_canon.specs.CutTree.{OpenFolder, Hole, Magic, Tag, Count, NameLength, Name, Executable, FileLength}
+use Rattle.tree_canon.specs.CutTree.{Contents, TargetLength, Target, End, CutTree, width, last_name}
 use Rattle.tree_canon.specs.Rules.{unless, either_reason, large_past, first_byte, is_tag, length_reason}
 use Rattle.tree_canon.specs.Reading.{State, Stuck, Going}
 

@@ -2,7 +2,8 @@
 ghost use Rattle.std.specs.Prelude.{◌≡◌, ◌≤◌, ℕ, [], length, map, reverse, OnOk};
 ghost use Rattle.tree_canon.specs.declared.event.Event.TheVariants as events;
 ghost use Rattle.tree_canon.specs.Events.{told, Content};
-ghost use Rattle.tree_canon.specs.Making.{made_from, made_none, with_node, with_name, with_end, with_contents, IsPartial};
+ghost use Rattle.tree_canon.specs.Making.{made_from, made_none, with_node, with_name, with_end, with_contents};
+ghost use Rattle.tree_canon.specs.Making.{IsPartial};
 
 use crate::event::Event;
 use crate::node::{Named, Node};

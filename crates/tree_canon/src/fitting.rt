@@ -2,7 +2,8 @@
 ghost use Rattle.std.specs.Prelude.{◌≡◌, ◌&&◌, ◌||◌, ◌==◌, not, ◌+◌, length, nat_le, if◌then◌else◌, None, Some};
 ghost use Rattle.std.specs.Option.{option_copied};
 ghost use Rattle.std.specs.Str.{is_utf8};
-ghost use Rattle.tree_canon.specs.Names.{is_text, is_plain, is_dots, is_name, has_no_zero, is_target, is_below, follows};
+ghost use Rattle.tree_canon.specs.Names.{is_text, is_plain, is_dots, is_name, has_no_zero, is_target, is_below};
+ghost use Rattle.tree_canon.specs.Names.{follows};
 ghost use Rattle.tree_canon.specs.Fits.{fits, name_fits, entry_fits, entries_fit};
 
 use crate::node::{Named, Node};

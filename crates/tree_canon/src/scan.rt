@@ -28,7 +28,8 @@ pub struct Scan {
 }
 
 impl Scan {
-    ghost use Rattle.tree_canon.specs.Scans.{Scans, ScanFeeds, ScanTakes, ScanEnds, HasGiven, GivesTree, IsInContents, held, owed};
+    ghost use Rattle.tree_canon.specs.Scans.{Scans, ScanFeeds, ScanTakes, ScanEnds, HasGiven, GivesTree, IsInContents};
+    ghost use Rattle.tree_canon.specs.Scans.{held, owed};
 
     /// A scan that was fed no byte.
     pub fn new(alloc: Global) -> Result<Scan, Memory>

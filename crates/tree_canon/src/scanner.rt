@@ -1,11 +1,15 @@
 // Scanning a spelling field by field, over the names of the open folders.
-ghost use Rattle.std.specs.Prelude.{◌≡◌, ◌+◌, ◌-◌, ◌<◌, ◌≤◌, ◌++◌, ℕ, List as Seq, [], length, nat_lt, suc, take, ◌==◌, if◌then◌else◌, reverse, IfOk, OnOk, IsTrue, Err, None, Some};
+ghost use Rattle.std.specs.Prelude.{◌≡◌, ◌+◌, ◌-◌, ◌<◌, ◌≤◌, ◌++◌, ℕ, List as Seq, [], length, nat_lt, suc, take, ◌==◌};
+ghost use Rattle.std.specs.Prelude.{if◌then◌else◌, reverse, IfOk, OnOk, IsTrue, Err, None, Some};
 ghost use Rattle.tree_canon.specs.declared.fault.Reason.{Reason};
 ghost use Rattle.tree_canon.specs.declared.fault.DecodeFault.TheVariants as faults;
 ghost use Rattle.tree_canon.specs.declared.event.Event.TheVariants as events;
 ghost use Rattle.tree_canon.specs.declared.next_field.NextField.TheVariants as next_fields;
 ghost use Rattle.tree_canon.specs.declared.next_field.ScannedFolder.{ScannedFolder};
-ghost use Rattle.tree_canon.specs.Scanning.{behind, behind_count, behind_file_length, behind_node, behind_tag, bytes_taken, closes, closes_behind, field_width, place, reason_at, with_bytes, bytes_held, IsContents, IsWholeField, IsSmallPlace, IsSmall, IsAt};
+ghost use Rattle.tree_canon.specs.Scanning.{behind, behind_count, behind_file_length, behind_node, behind_tag};
+ghost use Rattle.tree_canon.specs.Scanning.{bytes_taken, closes, closes_behind, field_width, place, reason_at};
+ghost use Rattle.tree_canon.specs.Scanning.{with_bytes, bytes_held, IsContents, IsWholeField, IsSmallPlace, IsSmall};
+ghost use Rattle.tree_canon.specs.Scanning.{IsAt};
 ghost use Rattle.tree_canon.specs.Reading.{State, Stuck, run};
 ghost use Rattle.tree_canon.specs.Events.{Told, told};
 ghost use Rattle.tree_canon.specs.Fields.{event_by};

@@ -1,5 +1,7 @@
 -- Paths of which neither lies in the other, and what a file that is written leaves of the others.
-use Rattle.std.proofs.Common.{◌≡◌, ◌≢◌, ◌<◌, ◌∙◌, refl, sym, ap, subst, arith, ℕ, Bool, true, false, not, cond, ◌||◌, ◌&&◌, ◌==◌, ◌⊎◌, inl, inr, ◌++◌, List, [], ◌∷◌, append-nil, append_assoc, length, nat_eq, Option, Some, None, is_some}
+use Rattle.std.proofs.Common.{◌≡◌, ◌≢◌, ◌<◌, ◌∙◌, refl, sym, ap, subst, arith, ℕ, Bool, true, false, not, cond, ◌||◌}
+use Rattle.std.proofs.Common.{◌&&◌, ◌==◌, ◌⊎◌, inl, inr, ◌++◌, List, [], ◌∷◌, append-nil, append_assoc, length, nat_eq}
+use Rattle.std.proofs.Common.{Option, Some, None, is_some}
 use Rattle.std.specs.Prelude.{IfSome, IsTrue}
 use Rattle.std.specs.List.{list_any, starts_with}
 use Rattle.std.specs.Str.{bytes_eq}
@@ -8,7 +10,8 @@ use Rattle.std.proofs.lemmas.Bool.{eqb-true, false_from_ne_true}
 use Rattle.std.proofs.lemmas.List.Folds.{list_any-append}
 use Rattle.std.proofs.lemmas.Slice.Eq.{bytes_eq-Decides}
 use Rattle.cnb_world.specs.Path.{is_part, joined}
-use Rattle.cnb_world.specs.Tree.{Tree, can_make_folder, folder_made, folders_above, folders_from, is_folder, is_root, is_under, is_within, item_at}
+use Rattle.cnb_world.specs.Tree.{Tree, can_make_folder, folder_made, folders_above, folders_from, is_folder, is_root}
+use Rattle.cnb_world.specs.Tree.{is_under, is_within, item_at}
 use Rattle.cnb_world.specs.declared.world.Item.{Item}
 use Rattle.cnb_world.specs.declared.world.Item.TheVariants as item
 use Rattle.cnb_world.proofs.Folders.{get-with_folders}
@@ -18,7 +21,8 @@ use Rattle.tree_store.specs.Around.{IsMadeAbove, KeepsAround, KeptAround}
 use Rattle.tree_store.specs.Writing.{AreApart}
 use Rattle.tree_store.proofs.Around.{at_one}
 use Rattle.tree_store.proofs.Blames.{within_child, within_itself}
-use Rattle.tree_store.proofs.Places.{above_child, child_not_root, is_at_or_below, named, not_below, or_from, or_parts, or_right, part_form, starts_itself, starts_split}
+use Rattle.tree_store.proofs.Places.{above_child, child_not_root, is_at_or_below, named, not_below, or_from, or_parts}
+use Rattle.tree_store.proofs.Places.{or_right, part_form, starts_itself, starts_split}
 
 -- ---- the folders above a path
 

@@ -1,16 +1,21 @@
 -- What laying leaves of all that isn't at a path or below it.
-use Rattle.std.proofs.Common.{length, ◌≡◌, ◌≤◌, ◌<◌, ◌∙◌, refl, sym, ap, subst, arith, ℕ, Bool, true, false, not, cond, ◌||◌, ◌&&◌, ◌⊎◌, inl, inr, ◌++◌, List, [], ◌∷◌, Option, Some, None, is_some, Result, Ok, Err, take}
+use Rattle.std.proofs.Common.{length, ◌≡◌, ◌≤◌, ◌<◌, ◌∙◌, refl, sym, ap, subst, arith, ℕ, Bool, true, false, not, cond}
+use Rattle.std.proofs.Common.{◌||◌, ◌&&◌, ◌⊎◌, inl, inr, ◌++◌, List, [], ◌∷◌, Option, Some, None, is_some, Result, Ok}
+use Rattle.std.proofs.Common.{Err, take}
 use Rattle.std.specs.Prelude.{IfSome, IsTrue, OnErr, OnOk}
 use Rattle.std.specs.List.{list_all, list_any}
 use Rattle.std.specs.Str.{bytes_eq}
 use Rattle.std.specs.Option.{option_map}
-use Rattle.std.specs.FinMap.{get, insert, retain_keys, get-retain_keys, slice_cmp-IsAntisymmetric, nat_cmp-IsAntisymmetric}
+use Rattle.std.specs.FinMap.{get, insert, retain_keys, get-retain_keys, slice_cmp-IsAntisymmetric}
+use Rattle.std.specs.FinMap.{nat_cmp-IsAntisymmetric}
 use Rattle.std.proofs.lemmas.Bool.{and_parts, false_from_ne_true}
 use Rattle.std.proofs.lemmas.List.Folds.{list_any-append}
 use Rattle.std.proofs.lemmas.Slice.Eq.{bytes_eq-Decides}
 use Rattle.cnb_world.specs.Calls.{AppendsSome, CountsMisuse, RemovesSome}
 use Rattle.cnb_world.specs.Path.{is_part, joined}
-use Rattle.cnb_world.specs.Tree.{Tree, appended, can_create, can_make_folder, can_make_link, can_read, created, folder_made, folders_above, is_folder, is_root, is_under, is_within, item_at, linked, without}
+use Rattle.cnb_world.specs.Tree.{Tree, appended, can_create, can_make_folder, can_make_link, can_read, created}
+use Rattle.cnb_world.specs.Tree.{folder_made, folders_above, is_folder, is_root, is_under, is_within, item_at, linked}
+use Rattle.cnb_world.specs.Tree.{without}
 use Rattle.cnb_world.specs.declared.world.FileFault.{FileFault}
 use Rattle.cnb_world.specs.declared.world.FileFault.TheVariants as file_fault
 use Rattle.cnb_world.specs.declared.world.Item.{Item}

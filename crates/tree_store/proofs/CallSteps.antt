@@ -20,7 +20,8 @@ use Rattle.tree_store.specs.Around.{LeavesAround}
 use Rattle.tree_store.specs.Overlay.{tree_laid}
 use Rattle.tree_store.specs.Partly.{LaidPartly, items_placed}
 use Rattle.tree_store.specs.Reading.{tree_in}
-use Rattle.tree_store.specs.Steps.{IsCauseWithin, can_lay, can_put, gets_tree, lays_tree, looks_for_tree, puts_tree, reads_tree}
+use Rattle.tree_store.specs.Steps.{IsCauseWithin, can_lay, can_put, gets_tree, lays_tree, looks_for_tree, puts_tree}
+use Rattle.tree_store.specs.Steps.{reads_tree}
 use Rattle.tree_store.specs.Store.{Gets, LeavesStore, Puts, tree_path, tree_put}
 use Rattle.tree_store.specs.declared.fault.StoreFault.{StoreFault}
 use Rattle.tree_store.proofs.Around.{itself}

@@ -1,5 +1,7 @@
 -- Laying a node by its first byte, and the entries of a folder one after another.
-use Rattle.std.proofs.Common.{◌≡◌, ◌≤◌, ◌<◌, ◌+◌, ◌-◌, ◌^◌, ◌∙◌, refl, sym, ap, subst, arith, ℕ, suc, Bool, true, if◌then◌else◌, List, [], ◌∷◌, ◌++◌, append_assoc, map, length, length-append, Option, Some, None, Result, Ok, Err}
+use Rattle.std.proofs.Common.{◌≡◌, ◌≤◌, ◌<◌, ◌+◌, ◌-◌, ◌^◌, ◌∙◌, refl, sym, ap, subst, arith, ℕ, suc, Bool, true}
+use Rattle.std.proofs.Common.{if◌then◌else◌, List, [], ◌∷◌, ◌++◌, append_assoc, map, length, length-append, Option}
+use Rattle.std.proofs.Common.{Some, None, Result, Ok, Err}
 use Rattle.std.specs.Prelude.{nat_le, nat_lt, IsTrue}
 use Rattle.std.specs.Option.{option_map}
 use Rattle.std.specs.Int.{from_be_bytes, to_be_bytes, w16, w32, w64}
@@ -17,7 +19,8 @@ use Rattle.tree_canon.specs.declared.node.Node.TheFolds.{map-Node, ind-Node}
 use Rattle.tree_canon.specs.Fits.{fits, entries_fit}
 use Rattle.tree_canon.specs.Names.{follows, is_name, is_target}
 use Rattle.tree_canon.specs.Spelling.{entries_bytes, entry_bytes, limit, name_bytes, node_bytes}
-use Rattle.tree_canon.proofs.Equations.{entry_bytes_is, fits_file, fits_folder, fits_link, node_bytes_file, node_bytes_folder, node_bytes_link}
+use Rattle.tree_canon.proofs.Equations.{entry_bytes_is, fits_file, fits_folder, fits_link, node_bytes_file}
+use Rattle.tree_canon.proofs.Equations.{node_bytes_folder, node_bytes_link}
 use Rattle.tree_canon.proofs.Nodes.{fits_cons}
 use Rattle.tree_store.specs.Ahead.{Ahead, Did, Lays, Reading}
 use Rattle.tree_store.specs.Around.{KeptAround, LeavesAround}

@@ -1,5 +1,6 @@
 -- Checking a tree's file: what is hashed and scanned as it comes, and what that says of getting the tree.
-use Rattle.std.proofs.Common.{◌≡◌, ℕ, ◌*◌, ◌≤◌, ◌∙◌, List, [], ◌++◌, length, take, refl, sym, ap, subst, Option, Some, None, Bool, true, false, Result, Ok, Err}
+use Rattle.std.proofs.Common.{◌≡◌, ℕ, ◌*◌, ◌≤◌, ◌∙◌, List, [], ◌++◌, length, take, refl, sym, ap, subst, Option, Some}
+use Rattle.std.proofs.Common.{None, Bool, true, false, Result, Ok, Err}
 use Rattle.std.specs.Prelude.{IfErr, IfSome, IsTrue, OnOk, ◌↔◌}
 use Rattle.std.specs.Option.{option_map}
 use Rattle.std.proofs.lemmas.List.{take_all}

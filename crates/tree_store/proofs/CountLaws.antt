@@ -7,7 +7,8 @@ use Rattle.steps.specs.Counts.{FileCounts, IsFileEnd}
 use Rattle.steps.specs.Outside.{Seen}
 use Rattle.steps.specs.Steps.{yields}
 use Rattle.tree_store.specs.Answers.{cause_of}
-use Rattle.tree_store.specs.Steps.{checks_tree, gets_tree, lays_kept, lays_stored, lays_tree, looks_for_tree, puts_folder, puts_tree, reads_tree}
+use Rattle.tree_store.specs.Steps.{checks_tree, gets_tree, lays_kept, lays_stored, lays_tree, looks_for_tree}
+use Rattle.tree_store.specs.Steps.{puts_folder, puts_tree, reads_tree}
 use Rattle.tree_store.specs.declared.fault.StoreFault.{StoreFault}
 use Rattle.tree_store.specs.declared.fault.StoreFault.TheVariants.{OddFile, Limit, File, NoTree, Damaged, Clash, Memory}
 

@@ -1,5 +1,7 @@
 -- What is written of a folder's tree, as it is read.
-use Rattle.std.proofs.Common.{◌≡◌, ◌≤◌, ◌<◌, ◌∙◌, refl, sym, ap, subst, arith, ℕ, Bool, true, false, cond, ◌+◌, ◌-◌, ◌%◌, ◌++◌, List, [], ◌∷◌, append-nil, append_assoc, drop, take, length, get_or, length-append, Option, Some, None, Result, Ok, Err}
+use Rattle.std.proofs.Common.{◌≡◌, ◌≤◌, ◌<◌, ◌∙◌, refl, sym, ap, subst, arith, ℕ, Bool, true, false, cond, ◌+◌, ◌-◌}
+use Rattle.std.proofs.Common.{◌%◌, ◌++◌, List, [], ◌∷◌, append-nil, append_assoc, drop, take, length, get_or}
+use Rattle.std.proofs.Common.{length-append, Option, Some, None, Result, Ok, Err}
 use Rattle.std.specs.Prelude.{IfErr, IfOk, IfSome, IsTrue, codes, is_some, nat_le, nat_lt, min}
 use Rattle.std.specs.Option.{option_map}
 use Rattle.std.proofs.Math.Seq.{take-add}
@@ -14,20 +16,24 @@ use Rattle.cnb_world.specs.declared.world.Item.TheVariants as item
 use Rattle.cnb_world.specs.declared.world.Kind.{Kind}
 use Rattle.cnb_world.specs.declared.world.Kind.TheVariants as kind
 use Rattle.cnb_world.specs.declared.limits.LimitKind.TheVariants.{Depth, Tree as TreeLimit}
-use Rattle.steps.specs.Causes.{Cause, FileFailed, ChildFailed, OutOfMemory, Decided, CountsFiles, IsAnswer, WhereDecided}
+use Rattle.steps.specs.Causes.{Cause, FileFailed, ChildFailed, OutOfMemory, Decided, CountsFiles, IsAnswer}
+use Rattle.steps.specs.Causes.{WhereDecided}
 use Rattle.steps.specs.Outside.{Seen}
 use Rattle.steps.specs.Reading.{ReadFrame}
 use Rattle.tree_canon.specs.CutTree.{last_name}
 use Rattle.tree_canon.specs.Fits.{entries_fit}
 use Rattle.tree_canon.specs.Names.{is_name, is_target}
-use Rattle.tree_canon.specs.Spelling.{limit, magic, entries_bytes, entry_bytes, file_head, folder_head, link_head, name_bytes, node_bytes}
+use Rattle.tree_canon.specs.Spelling.{limit, magic, entries_bytes, entry_bytes, file_head, folder_head, link_head}
+use Rattle.tree_canon.specs.Spelling.{name_bytes, node_bytes}
 use Rattle.tree_canon.specs.declared.node.Named.{Named}
 use Rattle.tree_canon.specs.declared.node.Node.TheVariants as node
 use Rattle.tree_canon.proofs.Equations.{entry_bytes_is, node_bytes_file, node_bytes_folder, node_bytes_link}
 use Rattle.tree_store.specs.Answers.{BlamesAt, cause_of, is_free}
 use Rattle.tree_store.specs.Around.{KeepsAround, KeptAround}
-use Rattle.tree_store.specs.Reading.{◌>>=◌, FitsFrom, Sized, in_order, entry_in_front, folder_of, link_of, node_at, node_of, room, sized, tree_in}
-use Rattle.tree_store.specs.Writing.{Added, AreApart, AreEntriesOf, HasLength, HasWritten, IsNodeOf, IsPart, IsRootOf, IsTreeOf, LeavesNew, Refuses, new_path, sized_as, trees_of}
+use Rattle.tree_store.specs.Reading.{◌>>=◌, FitsFrom, Sized, in_order, entry_in_front, folder_of, link_of, node_at}
+use Rattle.tree_store.specs.Reading.{node_of, room, sized, tree_in}
+use Rattle.tree_store.specs.Writing.{Added, AreApart, AreEntriesOf, HasLength, HasWritten, IsNodeOf, IsPart, IsRootOf}
+use Rattle.tree_store.specs.Writing.{IsTreeOf, LeavesNew, Refuses, new_path, sized_as, trees_of}
 use Rattle.tree_store.specs.declared.fault.StoreFault.{StoreFault}
 use Rattle.tree_store.specs.declared.fault.StoreFault.TheVariants.{Limit}
 use Rattle.tree_store.specs.declared.writing.Writer.{Writer}
@@ -37,8 +43,10 @@ use Rattle.tree_store.proofs.Places.{longer_child, part_form}
 use Rattle.cnb_world.proofs.Listing.{names_listed}
 use Rattle.steps.proofs.ReadingLaws.{where_map}
 use Rattle.tree_store.proofs.Entries.{Leaves, Read, in_front, leaves_on, reader}
-use Rattle.tree_store.proofs.Fitting.{FollowAll, any_follows, few_entries, file_fits, link_fits, next_name, pushed_behind, pushed_bytes, pushed_fits, read_folder_fits}
-use Rattle.tree_store.proofs.Nodes.{deep_file_told, deep_folder_told, folder_is, folder_reads, folder_refused, link_is, link_node, node_above}
+use Rattle.tree_store.proofs.Fitting.{FollowAll, any_follows, few_entries, file_fits, link_fits, next_name}
+use Rattle.tree_store.proofs.Fitting.{pushed_behind, pushed_bytes, pushed_fits, read_folder_fits}
+use Rattle.tree_store.proofs.Nodes.{deep_file_told, deep_folder_told, folder_is, folder_reads, folder_refused, link_is}
+use Rattle.tree_store.proofs.Nodes.{link_node, node_above}
 use Rattle.tree_store.proofs.Puts.{unless_free}
 use Rattle.tree_store.proofs.Written.{frame_read, leaves_local}
 use Rattle.tree_store.proofs.Roots.{below, root_read, root_refused}

@@ -1,5 +1,6 @@
 -- What putting a folder's tree comes to.
-use Rattle.std.proofs.Common.{◌≡◌, ◌∙◌, refl, sym, ap, subst, ℕ, Bool, true, false, ◌⊎◌, inl, inr, List, Option, Some, None, Result, Ok, Err}
+use Rattle.std.proofs.Common.{◌≡◌, ◌∙◌, refl, sym, ap, subst, ℕ, Bool, true, false, ◌⊎◌, inl, inr, List, Option, Some}
+use Rattle.std.proofs.Common.{None, Result, Ok, Err}
 use Rattle.std.specs.Prelude.{IfErr, IfOk, IfSome, IsTrue, OnErr, OnOk}
 use Rattle.std.specs.Option.{option_map}
 use Rattle.sha2.specs.Sha256.{sha256}
@@ -18,9 +19,11 @@ use Rattle.tree_store.specs.Ahead.{BlamesEither}
 use Rattle.tree_store.specs.Answers.{BlamesWithin, cause_of, is_free}
 use Rattle.tree_store.specs.Around.{KeptAround}
 use Rattle.tree_store.specs.Reading.{tree_in}
-use Rattle.tree_store.specs.Steps.{BlamesFolder, LeavesFolder, PutsRead, can_name, can_put_folder, folder_put, puts_folder, reads_tree}
+use Rattle.tree_store.specs.Steps.{BlamesFolder, LeavesFolder, PutsRead, can_name, can_put_folder, folder_put}
+use Rattle.tree_store.specs.Steps.{puts_folder, reads_tree}
 use Rattle.tree_store.specs.Store.{Keeps, done_of, tree_path}
-use Rattle.tree_store.specs.Writing.{IsCleared, IsClearedOf, KeptFile, LeavesNew, NewFrame, PutFrame, PutsBytes, Refuses, bytes_put, can_begin, new_path, trees_of}
+use Rattle.tree_store.specs.Writing.{IsCleared, IsClearedOf, KeptFile, LeavesNew, NewFrame, PutFrame, PutsBytes}
+use Rattle.tree_store.specs.Writing.{Refuses, bytes_put, can_begin, new_path, trees_of}
 use Rattle.tree_store.specs.declared.fault.StoreFault.{StoreFault}
 use Rattle.tree_store.specs.declared.fault.StoreFault.TheVariants.{OddFile, Limit, File, NoTree, Damaged, Clash, Memory}
 use Rattle.tree_store.specs.declared.writing.Writer.{Writer}

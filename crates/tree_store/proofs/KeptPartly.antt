@@ -1,5 +1,7 @@
 -- What stands where laying a stored tree was cut off.
-use Rattle.std.proofs.Common.{◌≡◌, ◌≤◌, ◌+◌, ◌-◌, ◌∙◌, refl, sym, ap, subst, arith, ℕ, zero, suc, Bool, true, false, if◌then◌else◌, ◌⊎◌, inl, inr, ◌++◌, append_assoc, List, [], ◌∷◌, length, length-append, take, drop, Option, Some, None, Result, Ok, Err}
+use Rattle.std.proofs.Common.{◌≡◌, ◌≤◌, ◌+◌, ◌-◌, ◌∙◌, refl, sym, ap, subst, arith, ℕ, zero, suc, Bool, true, false}
+use Rattle.std.proofs.Common.{if◌then◌else◌, ◌⊎◌, inl, inr, ◌++◌, append_assoc, List, [], ◌∷◌, length, length-append}
+use Rattle.std.proofs.Common.{take, drop, Option, Some, None, Result, Ok, Err}
 use Rattle.std.specs.Prelude.{Contains, IsTrue, OnErr, OnOk, min}
 use Rattle.std.specs.Int.{to_be_bytes, w16, w32, w64}
 use Rattle.std.specs.List.{list_any}
@@ -35,9 +37,11 @@ use Rattle.tree_store.proofs.Contents.{ContentsLeft, one_more}
 use Rattle.tree_store.proofs.Fields.{ahead_few}
 use Rattle.tree_store.proofs.Fit.{FitsAt}
 use Rattle.tree_store.proofs.Overlays.{items_entry, items_folder, items_in}
-use Rattle.tree_store.proofs.Partly.{AreAmong, cleared_partly, folder_has, one_has, partly_itself, partly_more, partly_then, partly_wider, written_partly}
+use Rattle.tree_store.proofs.Partly.{AreAmong, cleared_partly, folder_has, one_has, partly_itself, partly_more}
+use Rattle.tree_store.proofs.Partly.{partly_then, partly_wider, written_partly}
 use Rattle.tree_store.proofs.PartlyLaid.{folder_among}
-use Rattle.tree_store.proofs.Places.{is_at_or_below, name_form, not_below, or_from, or_parts, shorter_away, starts_split}
+use Rattle.tree_store.proofs.Places.{is_at_or_below, name_form, not_below, or_from, or_parts, shorter_away}
+use Rattle.tree_store.proofs.Places.{starts_split}
 use Rattle.tree_store.proofs.Right.{name_way}
 
 -- ---- what is read only

@@ -1,5 +1,7 @@
 -- The tree that is read of a folder is what the files hold at each path.
-use Rattle.std.proofs.Common.{◌≡◌, ℕ, zero, suc, ◌+◌, ◌<◌, ◌==◌, ◌&&◌, ◌||◌, Bool, true, false, cond, List, [], ◌∷◌, ◌++◌, length, drop, nat_eq, refl, sym, ap, ◌∙◌, arith, Option, Some, None, is_some, Result, Ok, Err, ◌⊎◌, inl, inr, append-nil, append_assoc}
+use Rattle.std.proofs.Common.{◌≡◌, ℕ, zero, suc, ◌+◌, ◌<◌, ◌==◌, ◌&&◌, ◌||◌, Bool, true, false, cond, List, [], ◌∷◌}
+use Rattle.std.proofs.Common.{◌++◌, length, drop, nat_eq, refl, sym, ap, ◌∙◌, arith, Option, Some, None, is_some}
+use Rattle.std.proofs.Common.{Result, Ok, Err, ◌⊎◌, inl, inr, append-nil, append_assoc}
 use Rattle.std.specs.Prelude.{IsTrue, IfOk, IfSome, nat_le}
 use Rattle.std.specs.Option.{option_or}
 use Rattle.std.specs.Cmp.Lexicographic.{slice_cmp}
@@ -27,10 +29,13 @@ use Rattle.tree_canon.specs.declared.node.Node.TheVariants as node
 use Rattle.tree_store.specs.Answers.{cause_of}
 use Rattle.tree_store.specs.Matching.{Matches, ReadTreesMatch}
 use Rattle.tree_store.specs.Overlay.{folder_at, given_at, items_of, items_of_entry}
-use Rattle.tree_store.specs.Reading.{◌>>=◌, Sized, entry_in_front, folder_of, folder_root, in_order, node_at, node_of, room, sized, too_deep, tree_in}
+use Rattle.tree_store.specs.Reading.{◌>>=◌, Sized, entry_in_front, folder_of, folder_root, in_order, node_at, node_of}
+use Rattle.tree_store.specs.Reading.{room, sized, too_deep, tree_in}
 use Rattle.tree_store.specs.declared.fault.StoreFault.{StoreFault}
-use Rattle.tree_store.proofs.Overlays.{given-append, items_entry, items_file, items_folder, items_in, items_link, node_away}
-use Rattle.tree_store.proofs.Places.{child_not_root, is_at_or_below, joined_front, longer_child, name_in, part_form, slash_front, starts_itself, starts_split, until_slash}
+use Rattle.tree_store.proofs.Overlays.{given-append, items_entry, items_file, items_folder, items_in, items_link}
+use Rattle.tree_store.proofs.Overlays.{node_away}
+use Rattle.tree_store.proofs.Places.{child_not_root, is_at_or_below, joined_front, longer_child, name_in, part_form}
+use Rattle.tree_store.proofs.Places.{slash_front, starts_itself, starts_split, until_slash}
 use Rattle.tree_store.proofs.Standing.{InFolders, filled, nothing_below}
 
 -- ---- the name of what is below a folder

@@ -1,10 +1,12 @@
 -- What calls leave at the path where a tree's file is written.
-use Rattle.std.proofs.Common.{◌≡◌, ◌<◌, ◌∙◌, refl, sym, ap, subst, arith, ℕ, Bool, true, false, cond, not, ◌||◌, inl, inr, List, [], length, take, Option, Some, None, Result, Ok, Err}
+use Rattle.std.proofs.Common.{◌≡◌, ◌<◌, ◌∙◌, refl, sym, ap, subst, arith, ℕ, Bool, true, false, cond, not, ◌||◌, inl}
+use Rattle.std.proofs.Common.{inr, List, [], length, take, Option, Some, None, Result, Ok, Err}
 use Rattle.std.specs.Prelude.{IsTrue, OnErr, OnOk, codes}
 use Rattle.std.specs.Option.{option_map}
 use Rattle.std.specs.FinMap.{get, retain_keys, get-retain_keys, slice_cmp-IsAntisymmetric, nat_cmp-IsAntisymmetric}
 use Rattle.cnb_world.specs.Calls.{AppendsSome, RemovesSome}
-use Rattle.cnb_world.specs.Tree.{Tree, appended, created, folder_made, is_file_or_absent, is_root, is_within, item_at, without}
+use Rattle.cnb_world.specs.Tree.{Tree, appended, created, folder_made, is_file_or_absent, is_root, is_within, item_at}
+use Rattle.cnb_world.specs.Tree.{without}
 use Rattle.cnb_world.specs.declared.world.FileFault.{FileFault}
 use Rattle.cnb_world.specs.declared.world.Item.{Item}
 use Rattle.cnb_world.specs.declared.world.Item.TheVariants as item

@@ -1,5 +1,7 @@
 -- Laying a node one item after another lays its items over the files.
-use Rattle.std.proofs.Common.{◌≡◌, ◌≢◌, ℕ, suc, ◌+◌, ◌^◌, ◌≤◌, ◌<◌, Bool, true, false, cond, not, List, [], ◌∷◌, ◌++◌, ◌&&◌, ◌||◌, refl, sym, ap, subst, ◌∙◌, arith, Option, Some, None, Result, Ok, Err, length, nat_eq, map}
+use Rattle.std.proofs.Common.{◌≡◌, ◌≢◌, ℕ, suc, ◌+◌, ◌^◌, ◌≤◌, ◌<◌, Bool, true, false, cond, not, List, [], ◌∷◌, ◌++◌}
+use Rattle.std.proofs.Common.{◌&&◌, ◌||◌, refl, sym, ap, subst, ◌∙◌, arith, Option, Some, None, Result, Ok, Err, length}
+use Rattle.std.proofs.Common.{nat_eq, map}
 use Rattle.std.specs.Prelude.{nat_le, nat_lt, IsTrue, IfSome, OnOk}
 use Rattle.std.specs.Option.{option_or, option_map}
 use Rattle.std.specs.List.{list_all, list_any, starts_with, AllByRecursion}
@@ -8,7 +10,8 @@ use Rattle.std.specs.Ordering.{nat_cmp, is_lt}
 use Rattle.std.specs.declared.cmp.Ordering.{Ordering}
 use Rattle.std.specs.declared.cmp.Ordering.TheVariants.{Less, Equal, Greater}
 use Rattle.std.specs.Cmp.Lexicographic.{slice_cmp}
-use Rattle.std.specs.FinMap.{get, insert, retain_keys, get-retain_keys, slice_cmp-IsAntisymmetric, nat_cmp-IsAntisymmetric}
+use Rattle.std.specs.FinMap.{get, insert, retain_keys, get-retain_keys, slice_cmp-IsAntisymmetric}
+use Rattle.std.specs.FinMap.{nat_cmp-IsAntisymmetric}
 use Rattle.std.proofs.lemmas.Cmp.{nat_list_cmp_total, tied_itself}
 use Rattle.std.proofs.lemmas.Slice.Eq.{bytes_eq-Decides}
 use Rattle.std.proofs.lemmas.List.Folds.{list_any-append}
@@ -30,12 +33,18 @@ use Rattle.tree_canon.specs.Fits.{fits, entries_fit}
 use Rattle.tree_canon.specs.Names.{is_name, is_below, follows}
 use Rattle.tree_canon.proofs.Equations.{fits_folder}
 use Rattle.tree_canon.proofs.Nodes.{fits_cons}
-use Rattle.tree_store.specs.Laying.{node_laid, entry_laid, entries_laid, folder_laid, folder_over, laid_under, tree_steps}
-use Rattle.tree_store.specs.Overlay.{Given, Giving, folder_at, all_given, give_step, give_entry_step, items_of, items_of_entry, items_under, given_at, is_replaced, stands, with_items, lay, parts_of, tree_laid, IsPlaced, IsOverlay, can_stand, folder_step as is_folder_step, is_folder_node}
+use Rattle.tree_store.specs.Laying.{node_laid, entry_laid, entries_laid, folder_laid, folder_over, laid_under}
+use Rattle.tree_store.specs.Laying.{tree_steps}
+use Rattle.tree_store.specs.Overlay.{Given, Giving, folder_at, all_given, give_step, give_entry_step, items_of}
+use Rattle.tree_store.specs.Overlay.{items_of_entry, items_under, given_at, is_replaced, stands, with_items, lay}
+use Rattle.tree_store.specs.Overlay.{parts_of, tree_laid, IsPlaced, IsOverlay, can_stand, folder_step as is_folder_step}
+use Rattle.tree_store.specs.Overlay.{is_folder_node}
 use Rattle.tree_store.proofs.Laid.{laid_folder, laid_file, laid_link, laid_entry}
 use Rattle.tree_store.proofs.Standing.{is_other, IsStanding, tree_stands}
 use Rattle.tree_store.proofs.Ways.{all_parts}
-use Rattle.tree_store.proofs.Places.{is_at_or_below, or_parts, above_child, below_child, child_not_root, not_below, below_below, longer_child, shorter_away, below_length, made_length, name_form, name_in, named, part_form}
+use Rattle.tree_store.proofs.Places.{is_at_or_below, or_parts, above_child, below_child, child_not_root, not_below}
+use Rattle.tree_store.proofs.Places.{below_below, longer_child, shorter_away, below_length, made_length, name_form}
+use Rattle.tree_store.proofs.Places.{name_in, named, part_form}
 
 -- ---- the items of a node
 

@@ -1,16 +1,20 @@
 -- What stands at a place where laying was cut off.
-use Rattle.std.proofs.Common.{◌≡◌, ◌≤◌, ◌+◌, ◌∙◌, refl, sym, ap, subst, arith, ℕ, Bool, true, false, not, cond, ◌||◌, ◌&&◌, ◌⊎◌, inl, inr, ◌++◌, List, [], ◌∷◌, length, take, nat_eq, Option, Some, None, Result, Ok, Err}
+use Rattle.std.proofs.Common.{◌≡◌, ◌≤◌, ◌+◌, ◌∙◌, refl, sym, ap, subst, arith, ℕ, Bool, true, false, not, cond, ◌||◌}
+use Rattle.std.proofs.Common.{◌&&◌, ◌⊎◌, inl, inr, ◌++◌, List, [], ◌∷◌, length, take, nat_eq, Option, Some, None}
+use Rattle.std.proofs.Common.{Result, Ok, Err}
 use Rattle.std.specs.Prelude.{Contains, IfSome, IsTrue, OnErr, OnOk}
 use Rattle.std.specs.List.{list_any, starts_with}
 use Rattle.std.specs.Option.{option_map}
 use Rattle.std.specs.Str.{bytes_eq}
-use Rattle.std.specs.FinMap.{get, insert, retain_keys, get-retain_keys, slice_cmp-IsAntisymmetric, nat_cmp-IsAntisymmetric}
+use Rattle.std.specs.FinMap.{get, insert, retain_keys, get-retain_keys, slice_cmp-IsAntisymmetric}
+use Rattle.std.specs.FinMap.{nat_cmp-IsAntisymmetric}
 use Rattle.std.proofs.lemmas.Bool.{false_from_ne_true}
 use Rattle.std.proofs.lemmas.List.Folds.{list_any-append}
 use Rattle.std.proofs.lemmas.Slice.Eq.{bytes_eq-Decides}
 use Rattle.cnb_world.specs.Calls.{RemovesSome}
 use Rattle.cnb_world.specs.Path.{joined}
-use Rattle.cnb_world.specs.Tree.{IsTree, Tree, folder_made, folders_above, is_folder, is_root, is_under, is_within, item_at, linked, without}
+use Rattle.cnb_world.specs.Tree.{IsTree, Tree, folder_made, folders_above, is_folder, is_root, is_under, is_within}
+use Rattle.cnb_world.specs.Tree.{item_at, linked, without}
 use Rattle.cnb_world.specs.declared.world.FileFault.{FileFault}
 use Rattle.cnb_world.specs.declared.world.Item.{Item}
 use Rattle.cnb_world.specs.declared.world.Item.TheVariants as item

@@ -1,5 +1,7 @@
 -- What stands where the calls that lay a tree were cut off.
-use Rattle.std.proofs.Common.{◌≡◌, ◌+◌, ◌-◌, ◌∙◌, refl, sym, ap, subst, arith, ℕ, zero, suc, Bool, true, false, not, cond, ◌==◌, ◌&&◌, inl, inr, ◌++◌, List, [], ◌∷◌, length, take, drop, Option, Some, None, is_some, Result}
+use Rattle.std.proofs.Common.{◌≡◌, ◌+◌, ◌-◌, ◌∙◌, refl, sym, ap, subst, arith, ℕ, zero, suc, Bool, true, false, not}
+use Rattle.std.proofs.Common.{cond, ◌==◌, ◌&&◌, inl, inr, ◌++◌, List, [], ◌∷◌, length, take, drop, Option, Some, None}
+use Rattle.std.proofs.Common.{is_some, Result}
 use Rattle.std.specs.Prelude.{Contains, IfSome, IsTrue, OnErr, OnOk, min}
 use Rattle.std.specs.List.{onto_first}
 use Rattle.std.specs.Option.{option_map}
@@ -22,7 +24,8 @@ use Rattle.tree_store.specs.Laying.{file_set}
 use Rattle.tree_store.specs.Overlay.{Given, folder_at, items_of, items_of_entry, items_under, parts_of, way_parts}
 use Rattle.tree_store.specs.Partly.{LaidPartly, items_placed}
 use Rattle.tree_store.proofs.Overlays.{items_entry, items_file, items_folder, items_in, items_link}
-use Rattle.tree_store.proofs.Partly.{AreAmong, folder_has, made_partly, partly_more, partly_then, partly_wider, written_partly}
+use Rattle.tree_store.proofs.Partly.{AreAmong, folder_has, made_partly, partly_more, partly_then, partly_wider}
+use Rattle.tree_store.proofs.Partly.{written_partly}
 use Rattle.tree_store.proofs.Pieces.{one_piece}
 use Rattle.tree_store.proofs.Places.{name_form, part_form}
 

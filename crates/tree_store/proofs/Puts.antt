@@ -1,5 +1,6 @@
 -- What the store answers and leaves.
-use Rattle.std.proofs.Common.{◌≡◌, ◌≢◌, ℕ, ◌*◌, ◌≤◌, ◌∙◌, Bool, true, false, not, ◌&&◌, List, length, take, refl, sym, ap, subst, arith, Option, Some, None, Result, Ok, Err, is_some}
+use Rattle.std.proofs.Common.{◌≡◌, ◌≢◌, ℕ, ◌*◌, ◌≤◌, ◌∙◌, Bool, true, false, not, ◌&&◌, List, length, take, refl, sym}
+use Rattle.std.proofs.Common.{ap, subst, arith, Option, Some, None, Result, Ok, Err, is_some}
 use Rattle.std.specs.Prelude.{IfOk, IfSome, IsTrue, ◌↔◌}
 use Rattle.std.specs.Option.{option_map}
 use Rattle.std.proofs.lemmas.List.{take_all}
@@ -22,7 +23,8 @@ use Rattle.tree_store.specs.declared.judging.Judging.{Judging}
 use Rattle.tree_store.specs.Judging.{HasTaken}
 use Rattle.steps.specs.Causes.{IsAnswer, WhereDecided}
 use Rattle.tree_store.specs.Answers.{cause_of, is_free, is_file_kind, is_absent_kind}
-use Rattle.tree_store.specs.Store.{left_or_written, kept_or_written, KeepsOver, Keeps, LeavesStore, IsJudgedTree, GetsOf, Gets}
+use Rattle.tree_store.specs.Store.{left_or_written, kept_or_written, KeepsOver, Keeps, LeavesStore, IsJudgedTree}
+use Rattle.tree_store.specs.Store.{GetsOf, Gets}
 use Rattle.cnb_world.proofs.WholeLemmas.{unbegun}
 use Rattle.tree_store.proofs.Kept.{Taken, contents}
 

@@ -1,5 +1,7 @@
 -- Why laying makes calls of the right kind.
-use Rattle.std.proofs.Common.{◌≡◌, ◌≤◌, ◌<◌, ◌+◌, ◌∙◌, refl, sym, ap, subst, arith, ℕ, Bool, true, false, not, cond, ◌||◌, ◌&&◌, ◌==◌, ◌⊎◌, inl, inr, ◌++◌, List, [], ◌∷◌, length, length-append, append_assoc, nat_eq, Option, Some, None, is_some, Result}
+use Rattle.std.proofs.Common.{◌≡◌, ◌≤◌, ◌<◌, ◌+◌, ◌∙◌, refl, sym, ap, subst, arith, ℕ, Bool, true, false, not, cond}
+use Rattle.std.proofs.Common.{◌||◌, ◌&&◌, ◌==◌, ◌⊎◌, inl, inr, ◌++◌, List, [], ◌∷◌, length, length-append, append_assoc}
+use Rattle.std.proofs.Common.{nat_eq, Option, Some, None, is_some, Result}
 use Rattle.std.specs.Prelude.{IfSome, IsTrue}
 use Rattle.std.specs.List.{list_all, list_any, starts_with}
 use Rattle.std.specs.Option.{option_map}
@@ -10,7 +12,9 @@ use Rattle.std.proofs.lemmas.List.Folds.{list_any-append}
 use Rattle.std.proofs.lemmas.Slice.Eq.{bytes_eq-Decides}
 use Rattle.cnb_world.specs.Calls.{CountsMisuse, MayMisuse}
 use Rattle.cnb_world.specs.Path.{front_of, is_part, is_path, joined, parent_of}
-use Rattle.cnb_world.specs.Tree.{Tree, IsTree, can_create, can_make_folder, can_make_link, can_read, folder_made, folders_above, folders_from, is_file, is_file_or_absent, is_folder, is_root, is_under, is_within, item_at, kind_of, without}
+use Rattle.cnb_world.specs.Tree.{Tree, IsTree, can_create, can_make_folder, can_make_link, can_read, folder_made}
+use Rattle.cnb_world.specs.Tree.{folders_above, folders_from, is_file, is_file_or_absent, is_folder, is_root, is_under}
+use Rattle.cnb_world.specs.Tree.{is_within, item_at, kind_of, without}
 use Rattle.cnb_world.specs.declared.world.FileFault.{FileFault}
 use Rattle.cnb_world.specs.declared.world.Item.{Item}
 use Rattle.cnb_world.specs.declared.world.Item.TheVariants as item

@@ -1,5 +1,7 @@
 -- A file that was written gets its name, or is removed.
-use Rattle.std.proofs.Common.{◌≡◌, ◌<◌, ◌≤◌, ◌∙◌, refl, sym, ap, subst, arith, ℕ, Bool, true, false, cond, not, ◌+◌, ◌-◌, ◌^◌, ◌*◌, ◌/◌, ◌&&◌, inl, inr, ◌++◌, List, [], ◌∷◌, append-nil, drop, take, length, Option, Some, None, is_some, Result, Ok, Err}
+use Rattle.std.proofs.Common.{◌≡◌, ◌<◌, ◌≤◌, ◌∙◌, refl, sym, ap, subst, arith, ℕ, Bool, true, false, cond, not, ◌+◌}
+use Rattle.std.proofs.Common.{◌-◌, ◌^◌, ◌*◌, ◌/◌, ◌&&◌, inl, inr, ◌++◌, List, [], ◌∷◌, append-nil, drop, take, length}
+use Rattle.std.proofs.Common.{Option, Some, None, is_some, Result, Ok, Err}
 use Rattle.std.specs.Prelude.{IfErr, IfSome, IsTrue, OnErr, OnOk, codes, is_err, is_ok, min, ◌↔◌, ◌⊎◌}
 use Rattle.std.specs.Option.{option_map}
 use Rattle.std.specs.Str.{bytes_eq}
@@ -10,14 +12,16 @@ use Rattle.std.proofs.lemmas.Slice.Eq.{bytes_eq-Decides}
 use Rattle.sha2.specs.Sha256.{sha256}
 use Rattle.cnb_world.specs.Calls.{CountsFailed, CountsMisuse, LastFailed, MayMisuse}
 use Rattle.cnb_world.specs.Path.{is_path, joined, parent_of}
-use Rattle.cnb_world.specs.Tree.{Tree, bytes_of, can_rename, folder_made, is_file, is_file_or_absent, is_folder, is_root, is_within, item_at, renamed, without}
+use Rattle.cnb_world.specs.Tree.{Tree, bytes_of, can_rename, folder_made, is_file, is_file_or_absent, is_folder}
+use Rattle.cnb_world.specs.Tree.{is_root, is_within, item_at, renamed, without}
 use Rattle.cnb_world.specs.declared.world.FileFault.{FileFault}
 use Rattle.cnb_world.specs.declared.world.Item.{Item}
 use Rattle.cnb_world.specs.declared.world.Item.TheVariants as item
 use Rattle.cnb_world.proofs.Folders.{folder_stands, get-without, item_at-insert_shorter}
 use Rattle.cnb_world.proofs.Joins.{parent_of_file}
 use Rattle.cnb_world.proofs.Trees.{get-insert_bytes, get-insert_same, renamed-insert, same_tree}
-use Rattle.steps.specs.Causes.{Cause, FileFailed, ChildFailed, OutOfMemory, CountsFiles, Decided, IsReadCause, WhereDecided}
+use Rattle.steps.specs.Causes.{Cause, FileFailed, ChildFailed, OutOfMemory, CountsFiles, Decided, IsReadCause}
+use Rattle.steps.specs.Causes.{WhereDecided}
 use Rattle.steps.specs.Outside.{Seen, seen}
 use Rattle.sha2.specs.Hashers.{Holds256}
 use Rattle.cnb_world.specs.declared.world.World as world
@@ -28,7 +32,9 @@ use Rattle.tree_store.specs.Comparing.{IsCompared}
 use Rattle.tree_store.specs.declared.naming.Compared.{Compared}
 use Rattle.tree_store.specs.declared.naming.Compared.TheVariants.{Other, Last, Whole}
 use Rattle.tree_store.specs.Store.{Keeps, tree_path}
-use Rattle.tree_store.specs.Writing.{AreApart, ClashesUnless, HasWritten, IsCleared, IsClearedOf, KeptFile, NamesBytes, NewFrame, PutFrame, PutsBytes, begun_with, bytes_put, named_or_left, new_path, trees_of}
+use Rattle.tree_store.specs.Writing.{AreApart, ClashesUnless, HasWritten, IsCleared, IsClearedOf, KeptFile, NamesBytes}
+use Rattle.tree_store.specs.Writing.{NewFrame, PutFrame, PutsBytes, begun_with, bytes_put, named_or_left, new_path}
+use Rattle.tree_store.specs.Writing.{trees_of}
 use Rattle.tree_store.specs.declared.writing.Writer.{Writer}
 use Rattle.tree_store.specs.declared.fault.StoreFault.{StoreFault}
 use Rattle.tree_store.specs.declared.fault.StoreFault.TheVariants.{OddFile, Limit, File, NoTree, Damaged, Clash, Memory}

@@ -1,5 +1,7 @@
 -- The way to a place, part by part.
-use Rattle.std.proofs.Common.{◌≡◌, ◌≢◌, ℕ, suc, ◌+◌, ◌<◌, ◌≤◌, ◌∙◌, ◌==◌, ◌&&◌, ◌||◌, Bool, true, false, cond, List, [], ◌∷◌, ◌++◌, length, drop, get_or, refl, sym, ap, arith, Option, Some, None, Result, Ok, Err, length-append}
+use Rattle.std.proofs.Common.{◌≡◌, ◌≢◌, ℕ, suc, ◌+◌, ◌<◌, ◌≤◌, ◌∙◌, ◌==◌, ◌&&◌, ◌||◌, Bool, true, false, cond, List, []}
+use Rattle.std.proofs.Common.{◌∷◌, ◌++◌, length, drop, get_or, refl, sym, ap, arith, Option, Some, None, Result, Ok}
+use Rattle.std.proofs.Common.{Err, length-append}
 use Rattle.std.specs.Prelude.{IsTrue, IfSome, OnOk, is_ok, nat_le}
 use Rattle.std.specs.Option.{MatchOption, option_map}
 use Rattle.std.specs.List.{list_all, onto_first, after_first, AllByRecursion}

@@ -1,12 +1,15 @@
 -- Calls that write a tree's file in pieces, one after another.
-use Rattle.std.proofs.Common.{◌≡◌, ◌≤◌, ◌<◌, ◌∙◌, refl, sym, ap, subst, arith, ℕ, Bool, true, false, cond, ◌++◌, List, [], append-nil, append_assoc, ◌+◌, ◌-◌, drop, take, length, Option, Some, None, Result, Ok, Err}
+use Rattle.std.proofs.Common.{◌≡◌, ◌≤◌, ◌<◌, ◌∙◌, refl, sym, ap, subst, arith, ℕ, Bool, true, false, cond, ◌++◌, List}
+use Rattle.std.proofs.Common.{[], append-nil, append_assoc, ◌+◌, ◌-◌, drop, take, length, Option, Some, None, Result}
+use Rattle.std.proofs.Common.{Ok, Err}
 use Rattle.std.specs.Prelude.{nat_le, IfErr, IfOk, IfSome, IsTrue, OnOk, OnErr, codes}
 use Rattle.std.specs.Option.{option_map}
 use Rattle.std.specs.FinMap.{get}
 use Rattle.std.proofs.Math.Seq.{take-add}
 use Rattle.sha2.specs.Hashers.{Holds256}
 use Rattle.cnb_world.specs.Calls.{CountsFailed, CountsMisuse, LastFailed, MayMisuse}
-use Rattle.cnb_world.specs.Tree.{Tree, appended, can_create, can_make_folder, can_read, created, folder_made, is_file, is_file_or_absent, is_folder, is_root, item_at}
+use Rattle.cnb_world.specs.Tree.{Tree, appended, can_create, can_make_folder, can_read, created, folder_made, is_file}
+use Rattle.cnb_world.specs.Tree.{is_file_or_absent, is_folder, is_root, item_at}
 use Rattle.cnb_world.specs.declared.world.FileFault.{FileFault}
 use Rattle.cnb_world.specs.declared.world.Item.TheVariants as item
 use Rattle.cnb_world.specs.declared.world.World as world
@@ -24,7 +27,8 @@ use Rattle.tree_store.specs.Around.{KeptAround, LeavesAround}
 use Rattle.tree_store.specs.Reading.{room}
 use Rattle.tree_canon.specs.Spelling.{limit}
 use Rattle.cnb_world.specs.declared.limits.LimitKind.TheVariants.{Tree as TreeLimit}
-use Rattle.tree_store.specs.Writing.{Added, HasWritten, KeptFile, LeavesNew, NewFrame, begun_with, can_begin, new_path, trees_of}
+use Rattle.tree_store.specs.Writing.{Added, HasWritten, KeptFile, LeavesNew, NewFrame, begun_with, can_begin, new_path}
+use Rattle.tree_store.specs.Writing.{trees_of}
 use Rattle.tree_store.specs.declared.fault.StoreFault.{StoreFault}
 use Rattle.tree_store.specs.declared.fault.StoreFault.TheVariants.{OddFile, Limit, File, NoTree, Damaged, Clash, Memory}
 use Rattle.tree_store.specs.declared.writing.Writer.{Writer}

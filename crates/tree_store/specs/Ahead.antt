@@ -1,5 +1,6 @@
 -- Laying a tree as the bytes of its file are read: what lies ahead of the reader, and what each call does.
-use Rattle.std.specs.Prelude.{ℕ, false, ◌≡◌, ◌≢◌, ◌≤◌, ◌+◌, ◌-◌, ◌++◌, List, [], length, take, drop, Option, Some, None, Result, Ok, Err, IfErr, IfOk, OnOk, IsTrue}
+use Rattle.std.specs.Prelude.{ℕ, false, ◌≡◌, ◌≢◌, ◌≤◌, ◌+◌, ◌-◌, ◌++◌, List, [], length, take, drop, Option, Some, None}
+use Rattle.std.specs.Prelude.{Result, Ok, Err, IfErr, IfOk, OnOk, IsTrue}
 use Rattle.std.specs.Option.{option_map}
 use Rattle.sha2.specs.Hashers.{Holds256}
 use Rattle.sha2.specs.Sha256.{sha256}
@@ -23,8 +24,7 @@ use Rattle.tree_store.specs.declared.fault.StoreFault.TheVariants.{Damaged}
 use Rattle.tree_store.specs.declared.kept_bytes.KeptBytes.{KeptBytes}
 
 -- Of what stands at the reader's path, these bytes lie behind its place, and it holds the first of them. Together with
--- those
--- that it hashed they have its digest.
+-- those that it hashed they have its digest.
 pub record IsAhead (source : KeptBytes) (found : Option Item) (bytes : List ℕ) : Type 0 where
   pub file : IsTrue (is_file found)
   pub few : source.at + length bytes ≤ limit
@@ -40,8 +40,7 @@ Ahead source None bytes = ⊥
 Ahead source (Some files) bytes = IsAhead source (item_at files source.path) bytes
 
 -- What a call leaves, whatever bytes it reads: all that isn't at a path or below it. Where files aren't told it makes
--- no call
--- on a path of the wrong kind.
+-- no call on a path of the wrong kind.
 pub record Leaves {A : Type 0} (path : List ℕ) (source : KeptBytes) (old : Seen) (result : Result A StoreFault)
     (after : KeptBytes) (new : Seen)
     : Type 0 where
@@ -64,8 +63,8 @@ pub record Did {A : Type 0} (Is : A → Type 0) (rest : List ℕ) (change : Tree
   pub right : new.misused ≡ old.misused
 
 -- With these bytes ahead and folders at these paths, it answers a value of which this holds, comes to the rest of the
--- bytes,
--- changes the files so, and leaves folders at those paths. It is refused for a failed call or want of memory alone.
+-- bytes, changes the files so, and leaves folders at those paths. It is refused for a failed call or want of memory
+-- alone.
 pub record Does {A : Type 0} (Is : A → Type 0) (bytes rest : List ℕ) (change : Tree → Tree)
     (before paths : List (List ℕ)) (source : KeptBytes) (old : Seen) (result : Result A StoreFault)
     (after : KeptBytes) (new : Seen)
@@ -85,8 +84,7 @@ Reading Is bytes rest paths source old result after new = Does Is bytes rest
     (λ files. files) paths paths source old result after new
 
 -- A tree is laid at a place under a folder, where the files are told and its bytes lie ahead. Then the reader is at the
--- end of
--- the file.
+-- end of the file.
 pub record LaysTree (root place : List ℕ) (tree : Node) (old : Seen) (result : Result (Unit {0}) StoreFault)
     (after : KeptBytes) (new : Seen) : Type 0 where
   pub ended : OnOk result (Ahead after new.files [])

@@ -1,6 +1,5 @@
 -- Laying a tree over files: a folder merges into a folder and takes the place of anything else, a file or a link takes
--- the
--- place of whatever stands. A link is never followed.
+-- the place of whatever stands. A link is never followed.
 use Rattle.std.specs.Prelude.{ℕ, Bool, List, [], ◌∷◌, map, Option, Some, None}
 use Rattle.std.specs.FinMap.{insert}
 use Rattle.cnb_world.specs.Path.{joined}

@@ -1,5 +1,6 @@
 -- A tree laid over files, path by path: what the tree gives, and what stays of the files.
-use Rattle.std.specs.Prelude.{◌≡◌, ℕ, Bool, true, false, not, ◌&&◌, ◌||◌, ◌==◌, ◌++◌, List, [], ◌∷◌, if◌then◌else◌, nat_eq, Option, Some, None}
+use Rattle.std.specs.Prelude.{◌≡◌, ℕ, Bool, true, false, not, ◌&&◌, ◌||◌, ◌==◌, ◌++◌, List, [], ◌∷◌, if◌then◌else◌}
+use Rattle.std.specs.Prelude.{nat_eq, Option, Some, None}
 use Rattle.std.specs.List.{list_any, slice_split, starts_with}
 use Rattle.std.specs.Str.{bytes_eq}
 use Rattle.std.specs.FinMap.{get, insert, retain_keys}
@@ -83,8 +84,7 @@ parts_of (c ∷ []) = []
 parts_of (c ∷ d ∷ rest) = way_parts (d ∷ rest)
 
 -- The files with a tree laid at a place under a folder, which is made with those above it. The place is a path as seen
--- from
--- the folder.
+-- from the folder.
 unfoldable pub tree_laid : List ℕ → List ℕ → Node → Tree → Tree
 tree_laid root place node files = lay (items_under node (parts_of place) root) (folder_made root files)
 
@@ -106,8 +106,7 @@ IsPlaced node [] root = can_stand node root ≡ true
 IsPlaced node (part ∷ parts) root = Unit {0}
 
 -- What laying items leaves, path by path: the item that is given there; else what stood there, unless a file or a link
--- now
--- stands on its way.
+-- now stands on its way.
 abbrev pub IsOverlay : List Given → Tree → Tree → Type 0
 IsOverlay given old new = (path : List ℕ) → get new path
     ≡ stands (given_at given path) (is_replaced given path) (get old path)

@@ -1,5 +1,6 @@
 -- What stands where laying items was cut off.
-use Rattle.std.specs.Prelude.{ℕ, Bool, not, true, ◌&&◌, ◌≡◌, ◌⊎◌, if◌then◌else◌, List, Contains, take, ◌++◌, Option, Some, None, IsTrue}
+use Rattle.std.specs.Prelude.{ℕ, Bool, not, true, ◌&&◌, ◌≡◌, ◌⊎◌, if◌then◌else◌, List, Contains, take, ◌++◌, Option}
+use Rattle.std.specs.Prelude.{Some, None, IsTrue}
 use Rattle.std.specs.Str.{bytes_eq}
 use Rattle.cnb_world.specs.Tree.{Tree, is_folder, is_within, item_at}
 use Rattle.cnb_world.specs.declared.world.Item.{Item}
@@ -15,8 +16,7 @@ IsBegun (item.Link target) found = found ≡ Some (item.Link target)
 IsBegun item.Odd found = ⊥
 
 -- An item takes the place of what stood at a path: a file or a link of all at its own path and below it, a folder of
--- anything
--- but a folder at its own path.
+-- anything but a folder at its own path.
 abbrev pub takes_place : Given → Option Item → List ℕ → Bool
 takes_place given old path = if is_folder (Some given.1) then bytes_eq path given.0
     && not (is_folder old) else is_within given.0 path

@@ -1,5 +1,6 @@
 -- The tree at a path, or the first refusal: a folder before its entries, and these by ascending names.
-use Rattle.std.specs.Prelude.{◌≡◌, ℕ, zero, suc, true, ◌+◌, List, [], ◌∷◌, length, if◌then◌else◌, nat_le, Option, Some, None, Result, Ok, Err}
+use Rattle.std.specs.Prelude.{◌≡◌, ℕ, zero, suc, true, ◌+◌, List, [], ◌∷◌, length, if◌then◌else◌, nat_le, Option, Some}
+use Rattle.std.specs.Prelude.{None, Result, Ok, Err}
 use Rattle.cnb_world.specs.Path.{joined}
 use Rattle.cnb_world.specs.Tree.{Tree, item_at}
 use Rattle.cnb_world.specs.Listing.{names_in}

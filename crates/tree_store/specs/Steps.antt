@@ -1,10 +1,12 @@
 -- What each call does, as a step: from what is seen before, by an answer, to what is seen after.
-use Rattle.std.specs.Prelude.{[], ◌∷◌, ◌&&◌, ◌⊎◌, ℕ, Bool, true, ◌≡◌, List, Option, Some, None, Result, Ok, Err, IfErr, IfSome, IsTrue, OnErr}
+use Rattle.std.specs.Prelude.{[], ◌∷◌, ◌&&◌, ◌⊎◌, ℕ, Bool, true, ◌≡◌, List, Option, Some, None, Result, Ok, Err, IfErr}
+use Rattle.std.specs.Prelude.{IfSome, IsTrue, OnErr}
 use Rattle.std.specs.Option.{option_map}
 use Rattle.sha2.specs.Sha256.{sha256}
 use Rattle.cnb_world.specs.Tree.{Tree, can_make_folder, item_at, is_file, is_file_or_absent, is_within}
 use Rattle.cnb_world.specs.Whole.{can_write}
-use Rattle.steps.specs.Causes.{Cause, FileFailed, ChildFailed, OutOfMemory, Decided, IsAnswer, IsReadCause, WhereDecided, ended_by}
+use Rattle.steps.specs.Causes.{Cause, FileFailed, ChildFailed, OutOfMemory, Decided, IsAnswer, IsReadCause}
+use Rattle.steps.specs.Causes.{WhereDecided, ended_by}
 use Rattle.steps.specs.Counts.{FileCounts}
 use Rattle.steps.specs.Outside.{Seen}
 use Rattle.steps.specs.Steps.{◌>>=◌, Allows, Same, reads, yields}
@@ -30,8 +32,7 @@ looks_for_tree store digest old result new =
     reads cause_of (λ files. true) (λ files. Ok (is_file (item_at files (tree_path store digest)))) old result new
 
 -- The file of a tree is read, by calls of the right kind where it is a file or absent. A refusal for a failed call
--- names that
--- file.
+-- names that file.
 pub record GetsTree (store digest : List ℕ) (old : Seen) (result : Result Node StoreFault) (new : Seen) : Type 0 where
   pub same : Same old new
   pub answer : IfSome old.files (λ files. Gets digest (item_at files (tree_path store digest)) result)
@@ -92,10 +93,8 @@ PutsRead store (Ok tree) files result = Puts store tree files result
 PutsRead store (Err refusal) files result = IsAnswer cause_of result (Err refusal)
 
 -- What is left of the files where a folder's tree was put: its file, and nothing where that is written. Where it was
--- refused,
--- all stands but what stood there, and folders above it may have been made; and where what was read or stood decided
--- that,
--- nothing stands there, or nothing was changed.
+-- refused, all stands but what stood there, and folders above it may have been made; and where what was read or stood
+-- decided that, nothing stands there, or nothing was changed.
 abbrev pub LeavesFolder : List ℕ → List ℕ → Seen → Result (List ℕ) StoreFault → Seen → Type 0
 LeavesFolder store path old (Ok digest) new =
     (tree : Node) × (digest ≡ sha256 (spelling_of tree)) × IfSome old.files
@@ -115,10 +114,8 @@ BlamesFolder store path (Clash digest) = Unit {0}
 BlamesFolder store path Memory = Unit {0}
 
 -- The tree of a folder is read and written, and its file is named by its digest, or one of that name has its bytes. A
--- refusal
--- for a failed call comes with the path whose call failed last. Where it is refused, at the path where that file is
--- written is
--- what was there, or a file or nothing, so that a later call can begin there.
+-- refusal for a failed call comes with the path whose call failed last. Where it is refused, at the path where that
+-- file is written is what was there, or a file or nothing, so that a later call can begin there.
 pub record PutsFolder (store path : List ℕ) (old : Seen) (result : Result (List ℕ) StoreFault)
     (new : Seen) : Type 0 where
   pub answer : IfSome old.files (λ files. PutsRead store (tree_in path files) files result)
@@ -151,8 +148,7 @@ abbrev pub can_lay : List ℕ → List ℕ → Node → Tree → Bool
 can_lay root place tree files = can_make_folder files root && can_place tree (parts_of place) root
 
 -- A tree is laid at a place under a folder. Where that is refused, each path at the folder or below it has what stood
--- there, or
--- a part of what the tree gives.
+-- there, or a part of what the tree gives.
 unfoldable pub lays_tree : List ℕ → List ℕ → Node → Seen → Result (Unit {0}) StoreFault → Seen → Type 0
 lays_tree root place tree old (Ok done) new =
     (new.files ≡ option_map (tree_laid root place tree) old.files) × LeavesAround root old new
@@ -163,8 +159,7 @@ lays_tree root place tree old (Err fault) new =
     (items_placed root place tree) old.files new.files
 
 -- The same for a failed call on the file of a tree too; and, where the files are not told, because the file was changed
--- since
--- its bytes were judged.
+-- since its bytes were judged.
 abbrev pub IsKeptCause : List ℕ → List ℕ → Option Tree → Cause → Type 0
 IsKeptCause root file files (FileFailed failed) = IsTrue (is_within root failed) ⊎ (failed ≡ file)
 IsKeptCause root file files ChildFailed = ⊥
@@ -172,8 +167,7 @@ IsKeptCause root file files OutOfMemory = Unit {0}
 IsKeptCause root file files Decided = files ≡ None
 
 -- A tree that the store has is laid at a place under a folder. Where that is refused, each path at the folder or below
--- it has
--- what stood there, or a part of what the tree gives.
+-- it has what stood there, or a part of what the tree gives.
 unfoldable pub lays_kept : List ℕ → List ℕ → List ℕ → List ℕ → Node → Seen → Result (Unit {0}) StoreFault → Seen
     → Type 0
 lays_kept store digest root place tree old (Ok done) new =

@@ -1,12 +1,14 @@
 -- A tree's file that is written beside the others, until its digest is known.
-use Rattle.std.specs.Prelude.{ℕ, false, true, ◌⊎◌, ◌≡◌, ◌≤◌, ◌+◌, ◌&&◌, ◌++◌, Bool, List, codes, length, take, Option, Some, None, Result, Ok, Err, IfErr, IfOk, IfSome, OnErr, OnOk, IsTrue}
+use Rattle.std.specs.Prelude.{ℕ, false, true, ◌⊎◌, ◌≡◌, ◌≤◌, ◌+◌, ◌&&◌, ◌++◌, Bool, List, codes, length, take, Option}
+use Rattle.std.specs.Prelude.{Some, None, Result, Ok, Err, IfErr, IfOk, IfSome, OnErr, OnOk, IsTrue}
 use Rattle.std.specs.FinMap.{insert, remove}
 use Rattle.std.specs.Option.{option_map}
 use Rattle.sha2.specs.Hashers.{Holds256}
 use Rattle.sha2.specs.Sha256.{sha256}
 use Rattle.cnb_world.specs.Calls.{MayMisuse}
 use Rattle.cnb_world.specs.Path.{joined}
-use Rattle.cnb_world.specs.Tree.{Tree, bytes_of, can_make_folder, folder_made, is_file, is_file_or_absent, is_within, item_at, without}
+use Rattle.cnb_world.specs.Tree.{Tree, bytes_of, can_make_folder, folder_made, is_file, is_file_or_absent, is_within}
+use Rattle.cnb_world.specs.Tree.{item_at, without}
 use Rattle.cnb_world.specs.declared.world.Item.{Item}
 use Rattle.cnb_world.specs.declared.world.Item.TheVariants as item
 use Rattle.steps.specs.Causes.{CountsFiles, IsAnswer, IsReadCause, WhereDecided}
@@ -67,10 +69,8 @@ pub record HasWritten (store : List ℕ) (before : Option Tree) (writer : Writer
   pub kept : KeptAround (new_path store) before now
 
 -- What a call leaves that writes at no path but this one, whatever stands there: all but what is at that path, or a
--- folder
--- above it that was made; and at the path what was there, or a file or nothing. A refusal for a failed call comes where
--- the
--- count rose, with the path whose call failed last.
+-- folder above it that was made; and at the path what was there, or a file or nothing. A refusal for a failed call
+-- comes where the count rose, with the path whose call failed last.
 pub record NewFrame {A : Type 0} (file : List ℕ) (old : Seen) (result : Result A StoreFault) (new : Seen) : Type 0 where
   pub around : LeavesAround file old new
   pub place : KeptFile file old.files new.files
@@ -161,8 +161,7 @@ abbrev pub IsCleared : List ℕ → Option Tree → Type 0
 IsCleared store files = IfSome files (λ t. item_at t (new_path store) ≡ None)
 
 -- What putting leaves, whatever stands there: no child ran, and where it is refused, all but what is at the path where
--- the
--- file is written stands as before, but folders above it.
+-- the file is written stands as before, but folders above it.
 pub record PutFrame {A : Type 0} (store : List ℕ) (old : Seen) (result : Result A StoreFault)
     (new : Seen) : Type 0 where
   pub kept : OnErr result (KeptAround (new_path store) old.files new.files)

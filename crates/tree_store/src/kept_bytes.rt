@@ -1,5 +1,6 @@
 // The bytes of a tree's file, which are read in their order.
-ghost use Rattle.std.specs.Prelude.{◌≡◌, ◌≤◌, ◌↔◌, ◌+◌, ◌++◌, ◌∷◌, [], ℕ, List as Seq, Option, IfErr, IfOk, IsTrue, OnOk, Some, length, true};
+ghost use Rattle.std.specs.Prelude.{◌≡◌, ◌≤◌, ◌↔◌, ◌+◌, ◌++◌, ◌∷◌, [], ℕ, List as Seq, Option, IfErr, IfOk, IsTrue};
+ghost use Rattle.std.specs.Prelude.{OnOk, Some, length, true};
 ghost use Rattle.std.specs.Int.{from_be_bytes, to_be_bytes, w16, w32, w64};
 ghost use Rattle.sha2.specs.Hashers.{Holds256};
 ghost use Rattle.cnb_world.specs.Path.{is_part};

@@ -1,5 +1,6 @@
 // Laying a tree over files.
-ghost use Rattle.std.specs.Prelude.{◌≡◌, ◌<◌, ◌≤◌, ◌+◌, ◌-◌, ◌*◌, ◌∷◌, ◌&&◌, [], IfErr, IfSome, OnErr, OnOk, IsTrue, is_some, length, not, true, false, None};
+ghost use Rattle.std.specs.Prelude.{◌≡◌, ◌<◌, ◌≤◌, ◌+◌, ◌-◌, ◌*◌, ◌∷◌, ◌&&◌, [], IfErr, IfSome, OnErr, OnOk, IsTrue};
+ghost use Rattle.std.specs.Prelude.{is_some, length, not, true, false, None};
 ghost use Rattle.std.specs.Option.{option_map, MatchOption};
 ghost use Rattle.std.specs.List.{list_all};
 ghost use Rattle.cnb_world.specs.Calls.{CountsFailed, MayMisuse, RemovesSome};
@@ -15,9 +16,11 @@ ghost use Rattle.tree_store.specs.Answers.{BlamesWithin, is_free, cause_of};
 ghost use Rattle.tree_store.specs.Around.{LeavesAround};
 ghost use Rattle.tree_store.specs.Right.{AreFolders, way_into, way_to};
 ghost use Rattle.tree_store.specs.Steps.{can_lay, lays_tree};
-ghost use Rattle.tree_store.specs.Overlay.{IsOverlay, IsPlaced, can_stand, folder_at, items_of, items_under, parts_of, tree_laid, way_parts};
+ghost use Rattle.tree_store.specs.Overlay.{IsOverlay, IsPlaced, can_stand, folder_at, items_of, items_under, parts_of};
+ghost use Rattle.tree_store.specs.Overlay.{tree_laid, way_parts};
 ghost use Rattle.tree_store.specs.Partly.{LaidPartly, items_placed};
-ghost use Rattle.tree_store.specs.Laying.{file_set, laid_under, tree_steps, node_laid, entry_laid, entries_laid, folder_by, folder_laid};
+ghost use Rattle.tree_store.specs.Laying.{file_set, laid_under, tree_steps, node_laid, entry_laid, entries_laid};
+ghost use Rattle.tree_store.specs.Laying.{folder_by, folder_laid};
 
 use crate::fault::{StoreFault, or_blame};
 use cnb_world::{FileFault, Kind, Path, World};

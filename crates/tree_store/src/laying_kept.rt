@@ -1,5 +1,6 @@
 // Laying a tree as the bytes of its file are read.
-ghost use Rattle.std.specs.Prelude.{◌≡◌, ◌<◌, ◌≤◌, ◌+◌, ◌-◌, ◌*◌, ◌++◌, ◌∷◌, [], ℕ, Bool, List as Seq, IsTrue, length, if◌then◌else◌, true, false, None};
+ghost use Rattle.std.specs.Prelude.{◌≡◌, ◌<◌, ◌≤◌, ◌+◌, ◌-◌, ◌*◌, ◌++◌, ◌∷◌, [], ℕ, Bool, List as Seq, IsTrue, length};
+ghost use Rattle.std.specs.Prelude.{if◌then◌else◌, true, false, None};
 ghost use Rattle.std.specs.Int.{to_be_bytes, w16, w32, w64};
 ghost use Rattle.std.specs.List.{list_all};
 ghost use Rattle.cnb_world.specs.Path.{is_part, joined};

@@ -1,5 +1,6 @@
 // Giving a tree's file that was written the name of its digest.
-ghost use Rattle.std.specs.Prelude.{◌≡◌, ◌≤◌, ◌&&◌, ◌↔◌, ◌⊎◌, ℕ, Option, List as Seq, IfErr, IfOk, IfSome, IsTrue, OnErr, OnOk, drop, false, is_some, not, length, take, true};
+ghost use Rattle.std.specs.Prelude.{◌≡◌, ◌≤◌, ◌&&◌, ◌↔◌, ◌⊎◌, ℕ, Option, List as Seq, IfErr, IfOk, IfSome, IsTrue};
+ghost use Rattle.std.specs.Prelude.{OnErr, OnOk, drop, false, is_some, not, length, take, true};
 ghost use Rattle.std.specs.Option.{option_map};
 ghost use Rattle.cnb_world.specs.Calls.{MayMisuse};
 ghost use Rattle.cnb_world.specs.Tree.{Tree, bytes_of, is_file, is_root, is_within, item_at, without};
@@ -10,7 +11,8 @@ ghost use Rattle.tree_store.specs.Answers.{BlamesAt, BlamesWithin, IsLater, caus
 ghost use Rattle.tree_store.specs.Around.{KeptAround};
 ghost use Rattle.tree_store.specs.Comparing.{IsCompared};
 ghost use Rattle.tree_store.specs.Store.{tree_path};
-ghost use Rattle.tree_store.specs.Writing.{AreApart, ClashesUnless, HasWritten, IsClearedOf, NamesBytes, NewFrame, PutFrame, PutsBytes, begun_with, new_path, trees_of};
+ghost use Rattle.tree_store.specs.Writing.{AreApart, ClashesUnless, HasWritten, IsClearedOf, NamesBytes, NewFrame};
+ghost use Rattle.tree_store.specs.Writing.{PutFrame, PutsBytes, begun_with, new_path, trees_of};
 
 use crate::fault::{StoreFault, or_blame};
 use crate::store::{PIECE, is_absent_at, is_last, read_piece, tree_file};

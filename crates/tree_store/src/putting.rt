@@ -1,5 +1,6 @@
 // Writing the tree of a folder as it is read.
-ghost use Rattle.std.specs.Prelude.{◌≡◌, ◌≤◌, ◌+◌, ◌*◌, ◌-◌, ◌<◌, ◌%◌, ◌++◌, [], ℕ, Bool, Option, List as Seq, IfErr, IfOk, IfSome, IsTrue, length, vec_len, true};
+ghost use Rattle.std.specs.Prelude.{◌≡◌, ◌≤◌, ◌+◌, ◌*◌, ◌-◌, ◌<◌, ◌%◌, ◌++◌, [], ℕ, Bool, Option, List as Seq, IfErr};
+ghost use Rattle.std.specs.Prelude.{IfOk, IfSome, IsTrue, length, vec_len, true};
 ghost use Rattle.cnb_world.specs.Calls.{AreNames};
 ghost use Rattle.cnb_world.specs.Path.{is_part, joined};
 ghost use Rattle.cnb_world.specs.Tree.{Tree, item_at, kind_of};
@@ -9,7 +10,8 @@ ghost use Rattle.tree_canon.specs.Spelling.{limit, file_head, folder_head, link_
 ghost use Rattle.steps.specs.Outside.{seen};
 ghost use Rattle.tree_store.specs.Answers.{is_free};
 ghost use Rattle.tree_store.specs.Reading.{in_order, link_of, node_at, node_of, tree_in};
-ghost use Rattle.tree_store.specs.Writing.{Added, Adds, AreApart, AreEntriesOf, HasLength, HasWritten, IsNodeOf, IsPart, IsRootOf, IsTreeOf, LeavesNew, Refuses, new_path};
+ghost use Rattle.tree_store.specs.Writing.{Added, Adds, AreApart, AreEntriesOf, HasLength, HasWritten, IsNodeOf};
+ghost use Rattle.tree_store.specs.Writing.{IsPart, IsRootOf, IsTreeOf, LeavesNew, Refuses, new_path};
 
 use crate::fault::{StoreFault, odd};
 use crate::reading::{

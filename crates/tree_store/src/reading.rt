@@ -1,5 +1,6 @@
 // Reading the tree of a folder.
-ghost use Rattle.std.specs.Prelude.{◌≡◌, ◌≤◌, ◌+◌, ◌*◌, ◌-◌, ◌<◌, ◌++◌, ◌∷◌, [], IfErr, IfOk, IfSome, IsTrue, OnOk, length, Ok, Err, Some, None, ℕ, true};
+ghost use Rattle.std.specs.Prelude.{◌≡◌, ◌≤◌, ◌+◌, ◌*◌, ◌-◌, ◌<◌, ◌++◌, ◌∷◌, [], IfErr, IfOk, IfSome, IsTrue, OnOk};
+ghost use Rattle.std.specs.Prelude.{length, Ok, Err, Some, None, ℕ, true};
 ghost use Rattle.cnb_world.specs.Calls.{AreNames};
 ghost use Rattle.cnb_world.specs.Listing.{names_in};
 ghost use Rattle.cnb_world.specs.Path.{is_part, joined};

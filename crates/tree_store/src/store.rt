@@ -1,5 +1,6 @@
 // The store of trees: each tree's bytes in a file that is named after their digest.
-ghost use Rattle.std.specs.Prelude.{◌≡◌, ◌≤◌, ◌+◌, ◌*◌, ◌-◌, ◌<◌, ◌↔◌, IfErr, IfOk, IfSome, IsTrue, Ok, OnOk, OnErr, length, take, drop, is_some, not, false, true, ℕ};
+ghost use Rattle.std.specs.Prelude.{◌≡◌, ◌≤◌, ◌+◌, ◌*◌, ◌-◌, ◌<◌, ◌↔◌, IfErr, IfOk, IfSome, IsTrue, Ok, OnOk, OnErr};
+ghost use Rattle.std.specs.Prelude.{length, take, drop, is_some, not, false, true, ℕ};
 ghost use Rattle.std.specs.Option.{option_map};
 ghost use Rattle.sha2.specs.Sha256.{sha256};
 ghost use Rattle.cnb_world.specs.Calls.{MayMisuse};
@@ -13,7 +14,8 @@ ghost use Rattle.steps.specs.Reading.{ReadFrame};
 ghost use Rattle.tree_store.specs.Answers.{BlamesAt, is_free, is_file_kind, is_absent_kind, cause_of};
 ghost use Rattle.tree_store.specs.Steps.{gets_tree, looks_for_tree, puts_tree};
 ghost use Rattle.tree_store.specs.Writing.{AreApart, new_path, trees_of};
-ghost use Rattle.tree_store.specs.Store.{tree_path, tree_put, kept_or_written, Gets, IsJudgedTree, Keeps, Puts, LeavesStore};
+ghost use Rattle.tree_store.specs.Store.{tree_path, tree_put, kept_or_written, Gets, IsJudgedTree, Keeps, Puts};
+ghost use Rattle.tree_store.specs.Store.{LeavesStore};
 
 use crate::fault::{StoreFault, blamed};
 use crate::judging::Judging;

@@ -7,7 +7,8 @@ ghost use Rattle.sha2.specs.Hashers.{Holds256};
 ghost use Rattle.sha2.specs.Sha256.{sha256};
 ghost use Rattle.steps.specs.Outside.{seen};
 ghost use Rattle.tree_store.specs.Answers.{BlamesWithin, is_free};
-ghost use Rattle.tree_store.specs.Writing.{Adds, HasWritten, LeavesNew, NewFrame, begun_with, can_begin, new_path, trees_of};
+ghost use Rattle.tree_store.specs.Writing.{Adds, HasWritten, LeavesNew, NewFrame, begun_with, can_begin, new_path};
+ghost use Rattle.tree_store.specs.Writing.{trees_of};
 
 use crate::fault::{StoreFault, or_blame};
 use crate::laying::piece_end;

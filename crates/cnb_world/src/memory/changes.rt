@@ -1,10 +1,15 @@
 // A tree in memory, as the changes that made it.
-ghost use Rattle.std.specs.Prelude.{◌≡◌, ◌+◌, ◌≤◌, ◌<◌, ◌^◌, ◌++◌, ◌∷◌, [], IfOk, OnOk, OnErr, length, map, take, drop, is_some, not, ◌||◌, vec_len, vec_capacity};
+ghost use Rattle.std.specs.Prelude.{◌≡◌, ◌+◌, ◌≤◌, ◌<◌, ◌^◌, ◌++◌, ◌∷◌, [], IfOk, OnOk, OnErr, length, map, take, drop};
+ghost use Rattle.std.specs.Prelude.{is_some, not, ◌||◌, vec_len, vec_capacity};
 ghost use Rattle.std.specs.FinMap.{get, insert};
-ghost use Rattle.cnb_world.specs.Tree.{IsTree, Tree, item_at, kind_of, bytes_of, is_folder, is_file, is_file_or_absent, can_make_folder, folders_above, folder_made, appended, is_link, renamed, target_of, without, Lists};
+ghost use Rattle.cnb_world.specs.Tree.{IsTree, Tree, item_at, kind_of, bytes_of, is_folder, is_file, is_file_or_absent};
+ghost use Rattle.cnb_world.specs.Tree.{can_make_folder, folders_above, folder_made, appended, is_link, renamed};
+ghost use Rattle.cnb_world.specs.Tree.{target_of, without, Lists};
 ghost use Rattle.cnb_world.specs.Calls.{AreNames};
 ghost use Rattle.cnb_world.specs.Names.{AddsOne, AddsOnWay, AddsStanding};
-ghost use Rattle.cnb_world.specs.Memory.{HavePaths, tree_of, changed, bytes_written, length_of_change, length_of_items, placed, all_placed, end_of_run, row_of, rows_of, run_of, runs_of, targets, way_to, ways_to};
+ghost use Rattle.cnb_world.specs.Memory.{HavePaths, tree_of, changed, bytes_written, length_of_change, length_of_items};
+ghost use Rattle.cnb_world.specs.Memory.{placed, all_placed, end_of_run, row_of, rows_of, run_of, runs_of, targets};
+ghost use Rattle.cnb_world.specs.Memory.{way_to, ways_to};
 
 use crate::memory::change::{Change, item_len, items_len};
 use crate::memory::effect::{ends_folder, gather, kind_after, target_after};

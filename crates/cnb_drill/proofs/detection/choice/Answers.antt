@@ -1,7 +1,8 @@
 use Rattle.std.specs.Prelude.{refl, Ok, Err}
 use Rattle.cnb_world.specs.contracts.memory.spawner.SureSpawnerSpawner.TheImpl.{ghosts}
 use Rattle.steps.specs.Outside.{spawner_seen, spawners_seen}
-use Rattle.cnb_drill.proofs.ChoiceLemmas.{chosen_is, drill_is_ok, end_is, is_short_frame, of_drill, runs_are, runs_stopped, zero_all}
+use Rattle.cnb_drill.proofs.ChoiceLemmas.{chosen_is, drill_is_ok, end_is, is_short_frame, of_drill, runs_are}
+use Rattle.cnb_drill.proofs.ChoiceLemmas.{runs_stopped, zero_all}
 use Rattle.cnb_drill.proofs.detection.choice.Goals as goal
 
 pub detect-requires-clause-order : goal.detect-requires-clause-order

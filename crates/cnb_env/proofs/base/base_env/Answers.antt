@@ -6,7 +6,8 @@ use Rattle.cnb_world.specs.Env.{with_value}
 use Rattle.cnb_env.specs.Base.{base_env}
 use Rattle.cnb_env.proofs.BaseLemmas.{own_variable, other_variable}
 use Rattle.cnb_env.proofs.base.base_env.Goals as goal
-use Rattle.cnb_env.proofs.base.base_env.Goals.{then-not-starts_with+in_ok-value+in_ok-copy+in_ok-set, else-not-starts_with}
+use Rattle.cnb_env.proofs.base.base_env.Goals.{then-not-starts_with+in_ok-value+in_ok-copy+in_ok-set}
+use Rattle.cnb_env.proofs.base.base_env.Goals.{else-not-starts_with}
 
 pub returns : goal.returns
 returns c = c.loop-place.invariant ∙ ap base_env (take_all c.loop-place.place c.args.env.now (omega arith))

@@ -1,7 +1,8 @@
 use Rattle.std.proofs.Common.{◌∙◌, ap, refl}
 use Rattle.std.specs.List.{range_with_len}
 use Rattle.std.proofs.lemmas.Result.{err_from_is_err_and}
-use Rattle.cnb_lifecycle.proofs.EndLemmas.{begun, early_does, early_idle, early_refused, early_shelves, kept_shelves, not_refused}
+use Rattle.cnb_lifecycle.proofs.EndLemmas.{begun, early_does, early_idle, early_refused, early_shelves, kept_shelves}
+use Rattle.cnb_lifecycle.proofs.EndLemmas.{not_refused}
 use Rattle.cnb_lifecycle.proofs.NumberLemmas.{all_stand}
 use Rattle.cnb_lifecycle.proofs.top.run_words.Goals as goal
 

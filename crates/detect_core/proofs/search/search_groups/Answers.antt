@@ -5,7 +5,8 @@ use Rattle.steps.specs.Outside.{faults_of, spawner_seen, spawners_seen}
 use Rattle.ticket_pool.specs.declared.fault.PoolFault.TheVariants as pool
 use Rattle.detect_core.specs.declared.chosen.DetectEnd.TheVariants.{Memory}
 use Rattle.detect_core.specs.Searching.{IsSearch, end_of_fault}
-use Rattle.detect_core.proofs.TurnLemmas.{err_result, stopped_by, search_starts, stopped_next, finished, stopped_asking, stopped_asked, short_rows, few_members, few_places, turn}
+use Rattle.detect_core.proofs.TurnLemmas.{err_result, stopped_by, search_starts, stopped_next, finished, stopped_asking}
+use Rattle.detect_core.proofs.TurnLemmas.{stopped_asked, short_rows, few_members, few_places, turn}
 use Rattle.detect_core.specs.Detection.{ending_of_rows}
 use Rattle.detect_core.specs.Kept.{keys_of}
 use Rattle.detect_core.specs.Search.{end_cause}

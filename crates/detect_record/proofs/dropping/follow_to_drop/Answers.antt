@@ -1,7 +1,8 @@
 use Rattle.std.proofs.Common.{sym}
 use Rattle.detect_record.proofs.FollowLemmas.{drops_not, last_fits_not, last_required, last_optional}
 use Rattle.detect_record.proofs.dropping.follow_to_drop.Goals as goal
-use Rattle.detect_record.proofs.dropping.follow_to_drop.Goals.{then-not-follow-via-then-not-follow, then-not-follow-via-else-not-follow+then-not-step_fits}
+use Rattle.detect_record.proofs.dropping.follow_to_drop.Goals.{then-not-follow-via-then-not-follow}
+use Rattle.detect_record.proofs.dropping.follow_to_drop.Goals.{then-not-follow-via-else-not-follow+then-not-step_fits}
 
 pub returns-then-not-follow : goal.returns-then-not-follow
 returns-then-not-follow c = elim c.then-not-follow.branch [

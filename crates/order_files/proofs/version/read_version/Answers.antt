@@ -4,7 +4,8 @@ use Rattle.cnb_world.specs.Path.{joined}
 use Rattle.cnb_world.specs.Tree.{Tree}
 use Rattle.order_files.specs.Catalog.{listed}
 use Rattle.order_files.specs.Descriptor.{descriptor_at, is_fit_descriptor}
-use Rattle.order_files.proofs.Behind.{IsFolder, descriptor_added, descriptor_refused, folder_read, folder_refused, passed_over}
+use Rattle.order_files.proofs.Behind.{IsFolder, descriptor_added, descriptor_refused, folder_read, folder_refused}
+use Rattle.order_files.proofs.Behind.{passed_over}
 use Rattle.order_files.proofs.FolderSteps.{version_fits, version_from, version_refused_from}
 use Rattle.order_files.proofs.Misuse.{folder_fits}
 use Rattle.order_files.proofs.version.read_version.Goals as goal

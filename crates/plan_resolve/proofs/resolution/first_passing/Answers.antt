@@ -6,7 +6,8 @@ use Rattle.plan_resolve.proofs.NearLemmas.{ascending-numbers}
 use Rattle.plan_resolve.proofs.PruningLemmas.{fails_at_once}
 use Rattle.plan_resolve.proofs.ResolutionLemmas.{next_fail, next_fails, next_passes, none_left}
 use Rattle.plan_resolve.proofs.resolution.first_passing.Goals as goal
-use Rattle.plan_resolve.proofs.resolution.first_passing.Goals.{in-Some-failing, in_default-failing+in_ok-places+in_default-2}
+use Rattle.plan_resolve.proofs.resolution.first_passing.Goals.{in-Some-failing}
+use Rattle.plan_resolve.proofs.resolution.first_passing.Goals.{in_default-failing+in_ok-places+in_default-2}
 
 pub overflow_add-number : goal.overflow_add-number
 overflow_add-number c = let fail = rw c.in-Some.is at c.in_ok-count.ensures.dead in omega (arith, fail.within)

@@ -4,7 +4,8 @@ use Rattle.ticket_pool.specs.Passes.{spawners_of, view_of}
 use Rattle.ticket_pool.specs.Placing.{HasAllAnswers}
 use Rattle.ticket_pool.specs.TicketRule.{IsWhole}
 use Rattle.ticket_pool.specs.Work.{numbers, AllDealt}
-use Rattle.ticket_pool.proofs.PoolLemmas.{dealt_of, drawn_is, idle, idle_said, on_err, once_of, ran_all, ran_some, take_all}
+use Rattle.ticket_pool.proofs.PoolLemmas.{dealt_of, drawn_is, idle, idle_said, on_err, once_of, ran_all, ran_some}
+use Rattle.ticket_pool.proofs.PoolLemmas.{take_all}
 use Rattle.ticket_pool.proofs.pool.run_used.Goals as goal
 
 pub returns-in_err-lists-clause-some : goal.returns-in_err-lists-clause-some

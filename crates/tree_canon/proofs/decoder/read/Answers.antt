@@ -2,7 +2,8 @@ use Rattle.std.proofs.Common.{◌≡◌, ◌++◌, take, subst}
 use Rattle.std.proofs.lemmas.Result.{err_from_is_err_and}
 use Rattle.tree_canon.specs.Reading.{run}
 use Rattle.tree_canon.specs.Scanning.{IsAt}
-use Rattle.tree_canon.proofs.Pieces.{taken_is, adds_event, beside_at, beside_partial, beside_small, read_more, read_stuck}
+use Rattle.tree_canon.proofs.Pieces.{taken_is, adds_event, beside_at, beside_partial, beside_small, read_more}
+use Rattle.tree_canon.proofs.Pieces.{read_stuck}
 use Rattle.tree_canon.proofs.decoder.read.Goals as goal
 
 pub returns-in_err-step-clause-bad : goal.returns-in_err-step-clause-bad

@@ -2,12 +2,14 @@ use Rattle.std.proofs.Common.{◌≡◌, ◌+◌, ◌/◌, ◌∙◌, arith, ref
 use Rattle.std.specs.Option.{option_map}
 use Rattle.cnb_world.specs.Tree.{is_file, item_at}
 use Rattle.tree_store.specs.Checking.{HasChecked}
-use Rattle.tree_store.proofs.Kept.{TookAll, file_read, is_file_after, last_piece, may_begin, may_go_on, no_file_yet, none_taken, taken_on, told_slice, within_pieces}
+use Rattle.tree_store.proofs.Kept.{TookAll, file_read, is_file_after, last_piece, may_begin, may_go_on, no_file_yet}
+use Rattle.tree_store.proofs.Kept.{none_taken, taken_on, told_slice, within_pieces}
 use Rattle.tree_store.proofs.Checked.{checked_digest, kept_checks}
 use Rattle.tree_store.specs.declared.checking.Checking.{Checking}
 use Rattle.tree_store.proofs.checking.check_kept.Given as given
 use Rattle.tree_store.proofs.checking.check_kept.Goals as goal
-use Rattle.tree_store.proofs.checking.check_kept.Goals.{else-loop-number-test, then-loop-number-test+in_ok-piece+in_ok-take+then-is_last}
+use Rattle.tree_store.proofs.checking.check_kept.Goals.{else-loop-number-test}
+use Rattle.tree_store.proofs.checking.check_kept.Goals.{then-loop-number-test+in_ok-piece+in_ok-take+then-is_last}
 
 pub loop-number-init : goal.loop-number-init
 loop-number-init g c = record {

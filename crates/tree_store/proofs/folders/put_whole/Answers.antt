@@ -4,7 +4,8 @@ use Rattle.cnb_world.specs.Tree.{is_within}
 use Rattle.tree_store.specs.Writing.{new_path, trees_of}
 use Rattle.std.specs.Option.{option_map}
 use Rattle.tree_store.specs.Writing.{can_begin}
-use Rattle.tree_store.proofs.FolderPuts.{no_memory, not_added, not_begun, read_refused, read_still, read_then, tree_named}
+use Rattle.tree_store.proofs.FolderPuts.{no_memory, not_added, not_begun, read_refused, read_still, read_then}
+use Rattle.tree_store.proofs.FolderPuts.{tree_named}
 use Rattle.tree_store.proofs.Settled.{apart_name, either_in, may_then, new_within, other_path, put_frame_then}
 use Rattle.tree_store.proofs.Written.{frame_then, leaves_frame}
 use Rattle.tree_store.proofs.folders.put_whole.Goals as goal

@@ -6,15 +6,19 @@ use Rattle.cnb_world.specs.Tree.{is_within}
 use Rattle.tree_canon.specs.Spelling.{entries_bytes, node_bytes}
 use Rattle.tree_store.specs.Laying.{folder_laid}
 use Rattle.tree_store.specs.Right.{way_into, way_to}
-use Rattle.tree_store.proofs.Ahead.{apart_child, does_called, does_memory, lays_as, lays_behind, lays_bytes, lays_never, lays_on, lays_stop, leaves_broken, leaves_damaged, leaves_laid, leaves_ok, leaves_short, leaves_stop, leaves_then, leaves_wider, part_size, reads_stop}
-use Rattle.tree_store.proofs.Cases.{count_is, entries_begun, entries_done, entries_more, entries_stop, entry_ahead, entry_child, fits_deep, lays_away, next_of, node_lays, node_stops}
+use Rattle.tree_store.proofs.Ahead.{apart_child, does_called, does_memory, lays_as, lays_behind, lays_bytes, lays_never}
+use Rattle.tree_store.proofs.Ahead.{lays_on, lays_stop, leaves_broken, leaves_damaged, leaves_laid, leaves_ok}
+use Rattle.tree_store.proofs.Ahead.{leaves_short, leaves_stop, leaves_then, leaves_wider, part_size, reads_stop}
+use Rattle.tree_store.proofs.Cases.{count_is, entries_begun, entries_done, entries_more, entries_stop, entry_ahead}
+use Rattle.tree_store.proofs.Cases.{entry_child, fits_deep, lays_away, next_of, node_lays, node_stops}
 use Rattle.tree_store.proofs.Fit.{folder_entries}
 use Rattle.tree_store.proofs.Laid.{laid_folder}
 use Rattle.tree_store.proofs.Right.{inside_laid}
 use Rattle.tree_store.proofs.Ways.{joined_short}
 use Rattle.tree_store.proofs.PartlyLaid.{folder_partly}
 use Rattle.tree_store.proofs.Partly.{partly_itself, partly_then}
-use Rattle.tree_store.proofs.KeptPartly.{begun_first, begun_next, begun_part, entry_parts, node_parts, part_after, part_behind, part_bytes, partly_unread}
+use Rattle.tree_store.proofs.KeptPartly.{begun_first, begun_next, begun_part, entry_parts, node_parts, part_after}
+use Rattle.tree_store.proofs.KeptPartly.{part_behind, part_bytes, partly_unread}
 use Rattle.tree_store.proofs.laying_kept.+lay_kept.Goals as goal
 
 -- ---- entries

@@ -3,7 +3,8 @@ use Rattle.std.proofs.lemmas.Result.{err_from_is_err_and}
 use Rattle.tree_canon.specs.Spelling.{node_bytes}
 use Rattle.tree_store.specs.Laying.{folder_laid}
 use Rattle.tree_store.specs.Right.{way_into, way_to}
-use Rattle.tree_store.proofs.Ahead.{apart_child, does_called, does_memory, lays_as, lays_from, lays_on, lays_stop, leaves_laid, leaves_short, leaves_then, leaves_wider}
+use Rattle.tree_store.proofs.Ahead.{apart_child, does_called, does_memory, lays_as, lays_from, lays_on, lays_stop}
+use Rattle.tree_store.proofs.Ahead.{leaves_laid, leaves_short, leaves_then, leaves_wider}
 use Rattle.tree_store.proofs.Right.{inside_laid, part_way}
 use Rattle.tree_store.proofs.Stored.{same_last, same_part}
 use Rattle.tree_store.proofs.Ways.{joined_short, last_part, part_ahead, parts_behind}

@@ -5,9 +5,11 @@ use Rattle.steps.specs.Outside.{seen}
 use Rattle.tree_canon.specs.declared.node.Node.TheVariants.{File}
 use Rattle.tree_store.specs.Laying.{node_laid}
 use Rattle.tree_store.specs.Right.{way_to}
-use Rattle.tree_store.proofs.Ahead.{does_called, lays_on, lays_stop, leaves_called, leaves_laid, leaves_stop, leaves_then, none_are, plain_path, reads_stop, told_plain, untold_by}
+use Rattle.tree_store.proofs.Ahead.{does_called, lays_on, lays_stop, leaves_called, leaves_laid, leaves_stop}
+use Rattle.tree_store.proofs.Ahead.{leaves_then, none_are, plain_path, reads_stop, told_plain, untold_by}
 use Rattle.tree_store.proofs.Around.{appended_so}
-use Rattle.tree_store.proofs.Contents.{ContentsLeft, contents_begun, contents_done, contents_more, piece_ahead, piece_laid, piece_size}
+use Rattle.tree_store.proofs.Contents.{ContentsLeft, contents_begun, contents_done, contents_more, piece_ahead}
+use Rattle.tree_store.proofs.Contents.{piece_laid, piece_size}
 use Rattle.tree_store.proofs.PartlyLaid.{file_partly}
 use Rattle.tree_store.proofs.Partly.{partly_then}
 use Rattle.tree_store.proofs.KeptPartly.{contents_cut, contents_partly, empty_partly, partly_unread}

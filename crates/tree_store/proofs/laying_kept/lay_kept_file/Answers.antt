@@ -1,4 +1,5 @@
-use Rattle.std.proofs.Common.{◌≡◌, ◌≤◌, ◌∙◌, refl, ap, subst, arith, ℕ, Bool, true, false, if◌then◌else◌, ◌++◌, length, nat_eq}
+use Rattle.std.proofs.Common.{◌≡◌, ◌≤◌, ◌∙◌, refl, ap, subst, arith, ℕ, Bool, true, false, if◌then◌else◌, ◌++◌, length}
+use Rattle.std.proofs.Common.{nat_eq}
 use Rattle.std.specs.Int.{to_be_bytes, w64}
 use Rattle.std.proofs.lemmas.Result.{err_from_is_err_and}
 use Rattle.cnb_world.specs.Tree.{is_within}

@@ -6,7 +6,8 @@ use Rattle.tree_canon.specs.Names.{has_no_zero, is_target, is_text}
 use Rattle.tree_canon.specs.declared.node.Node.TheVariants.{Link}
 use Rattle.tree_store.specs.Laying.{node_laid}
 use Rattle.tree_store.specs.Right.{way_to}
-use Rattle.tree_store.proofs.Ahead.{does_called, lays_as, lays_behind, leaves_broken, leaves_laid, leaves_stop, leaves_then, lays_never, none_are, plain_path, reads_stop, told_plain}
+use Rattle.tree_store.proofs.Ahead.{does_called, lays_as, lays_behind, leaves_broken, leaves_laid, leaves_stop}
+use Rattle.tree_store.proofs.Ahead.{leaves_then, lays_never, none_are, plain_path, reads_stop, told_plain}
 use Rattle.tree_store.proofs.PartlyLaid.{link_partly}
 use Rattle.tree_store.proofs.KeptPartly.{part_behind, partly_unread}
 use Rattle.tree_store.proofs.laying_kept.lay_kept_link.Goals as goal

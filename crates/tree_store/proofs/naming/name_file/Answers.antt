@@ -5,7 +5,8 @@ use Rattle.steps.specs.Outside.{seen}
 use Rattle.tree_store.specs.Store.{tree_path}
 use Rattle.tree_store.specs.Writing.{new_path, trees_of}
 use Rattle.tree_store.proofs.Descents.{may_rise}
-use Rattle.tree_store.proofs.Settled.{blames_fault, blames_in, names_free, new_within, put_frame, put_frame_then, rename_frame, same_right, then_named}
+use Rattle.tree_store.proofs.Settled.{blames_fault, blames_in, names_free, new_within, put_frame, put_frame_then}
+use Rattle.tree_store.proofs.Settled.{rename_frame, same_right, then_named}
 use Rattle.tree_store.proofs.Written.{frame_memory, frame_read, frame_stop}
 use Rattle.tree_store.proofs.naming.name_file.Goals as goal
 

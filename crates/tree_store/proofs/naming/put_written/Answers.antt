@@ -2,7 +2,8 @@ use Rattle.std.proofs.Common.{◌∙◌, ap, Err}
 use Rattle.std.proofs.lemmas.Result.{err_from_is_err_and}
 use Rattle.cnb_world.specs.Tree.{is_within}
 use Rattle.tree_store.specs.Writing.{new_path, trees_of}
-use Rattle.tree_store.proofs.Settled.{apart_name, either_in, is_flushed, names_free, names_from, new_within, other_path, put_frame, put_frame_stop, put_frame_then, put_frame_value, same_right}
+use Rattle.tree_store.proofs.Settled.{apart_name, either_in, is_flushed, names_free, names_from, new_within, other_path}
+use Rattle.tree_store.proofs.Settled.{put_frame, put_frame_stop, put_frame_then, put_frame_value, same_right}
 use Rattle.tree_store.proofs.Written.{frame_stop, leaves_frame}
 use Rattle.tree_store.proofs.naming.put_written.Goals as goal
 

@@ -6,7 +6,8 @@ use Rattle.sha2.specs.Sha256.{sha256}
 use Rattle.tree_store.specs.Store.{tree_path}
 use Rattle.tree_store.specs.Writing.{new_path}
 use Rattle.tree_store.proofs.Descents.{may_rise}
-use Rattle.tree_store.proofs.Settled.{blames_fault, clash_blames, clash_counts, compared_right, may_then, names_free, names_settled, new_plain}
+use Rattle.tree_store.proofs.Settled.{blames_fault, clash_blames, clash_counts, compared_right, may_then, names_free}
+use Rattle.tree_store.proofs.Settled.{names_settled, new_plain}
 use Rattle.tree_store.proofs.Written.{frame_local, frame_read, frame_stop, frame_then}
 use Rattle.tree_store.proofs.naming.settle.Goals as goal
 

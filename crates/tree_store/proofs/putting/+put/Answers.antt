@@ -5,10 +5,16 @@ use Rattle.cnb_world.specs.Tree.{item_at}
 use Rattle.tree_canon.specs.Spelling.{limit, name_bytes}
 use Rattle.tree_store.specs.Reading.{node_at, node_of}
 use Rattle.tree_store.specs.declared.fault.StoreFault.TheVariants.{Memory}
-use Rattle.tree_store.proofs.Descents.{added_from, added_with, apart_part, deep_file_refuses, deep_folder_refuses, entries_put, entry_joined, entry_put, entry_refused, folder_above, folder_no_room, folder_put, folder_refuses, free_refuses, joined_refused, kind_before, leaves_deep, leaves_read, node_bytes_as, none_put, refuses_above, written_read}
+use Rattle.tree_store.proofs.Descents.{added_from, added_with, apart_part, deep_file_refuses, deep_folder_refuses}
+use Rattle.tree_store.proofs.Descents.{entries_put, entry_joined, entry_put, entry_refused, folder_above}
+use Rattle.tree_store.proofs.Descents.{folder_no_room, folder_put, folder_refuses, free_refuses, joined_refused}
+use Rattle.tree_store.proofs.Descents.{kind_before, leaves_deep, leaves_read, node_bytes_as, none_put, refuses_above}
+use Rattle.tree_store.proofs.Descents.{written_read}
 use Rattle.tree_store.proofs.Fitting.{pushed_names}
 use Rattle.tree_store.proofs.Nodes.{absent_read, odd_read}
-use Rattle.tree_store.proofs.Written.{added_as, added_none, added_nothing, added_stop, added_then, added_value, leaves_local, leaves_memory, leaves_odd, leaves_room, leaves_stop, leaves_then, leaves_value, leaves_wider}
+use Rattle.tree_store.proofs.Written.{added_as, added_none, added_nothing, added_stop, added_then, added_value}
+use Rattle.tree_store.proofs.Written.{leaves_local, leaves_memory, leaves_odd, leaves_room, leaves_stop, leaves_then}
+use Rattle.tree_store.proofs.Written.{leaves_value, leaves_wider}
 use Rattle.tree_store.proofs.putting.+put.Goals as goal
 
 pub put_entry-returns-in_err-bytes-clause-leaves : goal.put_entry-returns-in_err-bytes-clause-leaves

@@ -2,7 +2,8 @@ use Rattle.std.proofs.Common.{◌≡◌, arith, subst}
 use Rattle.std.proofs.lemmas.Result.{err_from_is_err_and}
 use Rattle.tree_store.specs.Writing.{IsPart}
 use Rattle.tree_store.proofs.Descents.{parts_joined}
-use Rattle.tree_store.proofs.Written.{added_as, added_stop, added_then, added_value, leaves_stop, leaves_then, leaves_value}
+use Rattle.tree_store.proofs.Written.{added_as, added_stop, added_then, added_value, leaves_stop, leaves_then}
+use Rattle.tree_store.proofs.Written.{leaves_value}
 use Rattle.tree_store.proofs.putting.put_contents.Goals as goal
 
 pub loop-done-init : goal.loop-done-init

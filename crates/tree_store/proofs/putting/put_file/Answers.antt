@@ -3,7 +3,8 @@ use Rattle.std.proofs.lemmas.Result.{err_from_is_err_and}
 use Rattle.tree_store.specs.Reading.{node_at}
 use Rattle.tree_store.specs.declared.fault.StoreFault.TheVariants.{Memory}
 use Rattle.tree_store.proofs.Descents.{file_put, file_refused, free_refuses, free_where, has_length, node_bytes_as}
-use Rattle.tree_store.proofs.Written.{added_none, added_stop, added_then, added_value, leaves_memory, leaves_room, leaves_stop, leaves_then, leaves_value}
+use Rattle.tree_store.proofs.Written.{added_none, added_stop, added_then, added_value, leaves_memory, leaves_room}
+use Rattle.tree_store.proofs.Written.{leaves_stop, leaves_then, leaves_value}
 use Rattle.tree_store.proofs.putting.put_file.Goals as goal
 
 pub returns-in_err-size-clause-leaves : goal.returns-in_err-size-clause-leaves

@@ -1,8 +1,10 @@
 use Rattle.std.proofs.Common.{◌+◌, ◌∙◌, Err, Ok, ap, length, subst, sym}
 use Rattle.std.proofs.lemmas.Result.{err_from_is_err_and}
 use Rattle.tree_store.specs.Writing.{IsPart}
-use Rattle.tree_store.proofs.Descents.{added_from, leaves_read, never_odd, part_read, read_right, some_free, written_read}
-use Rattle.tree_store.proofs.Written.{added_none, added_stop, added_value, leaves_odd, leaves_stop, leaves_then, leaves_value}
+use Rattle.tree_store.proofs.Descents.{added_from, leaves_read, never_odd, part_read, read_right, some_free}
+use Rattle.tree_store.proofs.Descents.{written_read}
+use Rattle.tree_store.proofs.Written.{added_none, added_stop, added_value, leaves_odd, leaves_stop, leaves_then}
+use Rattle.tree_store.proofs.Written.{leaves_value}
 use Rattle.tree_store.proofs.putting.put_piece.Goals as goal
 
 pub returns-in_err-piece-clause-leaves : goal.returns-in_err-piece-clause-leaves

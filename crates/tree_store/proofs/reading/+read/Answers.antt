@@ -2,7 +2,8 @@ use Rattle.std.proofs.Common.{◌≡◌, ◌<◌, ◌-◌, ◌++◌, ◌∷◌, 
 use Rattle.std.proofs.lemmas.Result.{err_from_is_err_and}
 use Rattle.tree_store.proofs.Nodes.{absent_read, odd_read, file_read, folder_read, folder_reads, folder_refused}
 use Rattle.tree_store.proofs.Entries.{leaves_on}
-use Rattle.tree_store.proofs.Fitting.{pushed_is, pushed_names, pushed_behind, pushed_fits, pushed_bytes, read_folder_fits}
+use Rattle.tree_store.proofs.Fitting.{pushed_is, pushed_names, pushed_behind, pushed_fits, pushed_bytes}
+use Rattle.tree_store.proofs.Fitting.{read_folder_fits}
 use Rattle.tree_store.proofs.reading.+read.Goals as goal
 
 pub read_folder-returns-in_err-entries-clause-reads : goal.read_folder-returns-in_err-entries-clause-reads

@@ -3,7 +3,8 @@ use Rattle.std.proofs.lemmas.Result.{err_from_is_err_and}
 use Rattle.tree_store.specs.Writing.{new_path}
 use Rattle.tree_store.proofs.NewPlace.{place_created, place_made}
 use Rattle.tree_store.proofs.Ways.{when_ok}
-use Rattle.tree_store.proofs.Written.{create_around, create_misuse, folder_around, folder_misuse, frame_called, frame_memory, frame_then, trees_blamed}
+use Rattle.tree_store.proofs.Written.{create_around, create_misuse, folder_around, folder_misuse, frame_called}
+use Rattle.tree_store.proofs.Written.{frame_memory, frame_then, trees_blamed}
 use Rattle.tree_store.proofs.writing.begin_file.Goals as goal
 
 pub returns-in_err-trees-clause-frame : goal.returns-in_err-trees-clause-frame

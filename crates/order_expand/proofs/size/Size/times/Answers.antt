@@ -2,7 +2,8 @@ use Rattle.std.proofs.Common.{◌∙◌, ap}
 use Rattle.std.specs.Prelude.{min}
 use Rattle.order_expand.proofs.Sizes.{none_of_fronts, none_of_behind, product_size}
 use Rattle.order_expand.proofs.size.Size.times.Goals as goal
-use Rattle.order_expand.proofs.size.Size.times.Goals.{then-self-eq0-via-then-self-eq0, then-self-eq0-via-else-self-eq0+then-behind-eq0}
+use Rattle.order_expand.proofs.size.Size.times.Goals.{then-self-eq0-via-then-self-eq0}
+use Rattle.order_expand.proofs.size.Size.times.Goals.{then-self-eq0-via-else-self-eq0+then-behind-eq0}
 
 pub returns-then-self-eq0 : goal.returns-then-self-eq0
 returns-then-self-eq0 c fronts groups e f =

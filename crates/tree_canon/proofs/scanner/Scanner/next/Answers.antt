@@ -2,7 +2,8 @@ use Rattle.std.proofs.Common.{◌+◌, take, arith, refl, subst, length-drop}
 use Rattle.std.proofs.lemmas.Result.{err_from_is_err_and}
 use Rattle.tree_canon.specs.Reading.{State, Going, run}
 use Rattle.tree_canon.specs.Scanning.{IsAt}
-use Rattle.tree_canon.proofs.Tells.{close_told, rest_length, front_length, front_is, taken_more, stuck_more, fault_follows, told_more, more_told}
+use Rattle.tree_canon.proofs.Tells.{close_told, rest_length, front_length, front_is, taken_more, stuck_more}
+use Rattle.tree_canon.proofs.Tells.{fault_follows, told_more, more_told}
 use Rattle.tree_canon.proofs.scanner.Scanner.next.Goals as goal
 
 pub returns-then-self-gt0-clause-told : goal.returns-then-self-gt0-clause-told

@@ -3,10 +3,12 @@ use Rattle.tree_canon.specs.Reading.{IsBytes}
 use Rattle.tree_canon.specs.Scanning.{bytes_taken, field_width}
 use Rattle.tree_canon.proofs.Scans.{HasTaken, part_taken, more_taken, more_width}
 use Rattle.tree_canon.proofs.Held.{small_taken}
-use Rattle.tree_canon.proofs.Takes.{is_none, is_some, StandsBefore, stands_direct, stands_kept, moved_ok, takes_ok, breaks_field}
+use Rattle.tree_canon.proofs.Takes.{is_none, is_some, StandsBefore, stands_direct, stands_kept, moved_ok, takes_ok}
+use Rattle.tree_canon.proofs.Takes.{breaks_field}
 use Rattle.tree_canon.proofs.Tells.{all_ok, told_ok, contents_told, nothing_told}
 use Rattle.tree_canon.proofs.scanner.Scanner.take.Goals as goal
-use Rattle.tree_canon.proofs.scanner.Scanner.take.Goals.{else-tell-via-then-tell+else-is_contents, else-tell-via-else-tell}
+use Rattle.tree_canon.proofs.scanner.Scanner.take.Goals.{else-tell-via-then-tell+else-is_contents}
+use Rattle.tree_canon.proofs.scanner.Scanner.take.Goals.{else-tell-via-else-tell}
 
 pub returns-then-is_contents-clause-runs : goal.returns-then-is_contents-clause-runs
 returns-then-is_contents-clause-runs c state h =

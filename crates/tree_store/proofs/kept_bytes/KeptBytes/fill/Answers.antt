@@ -1,6 +1,7 @@
 use Rattle.std.proofs.Common.{refl, arith, Ok, Err, ◌≡◌, ◌≤◌, ◌+◌, length, false, true}
 use Rattle.std.proofs.lemmas.Result.{err_from_is_err_and}
-use Rattle.tree_store.proofs.Ahead.{does_failed, does_never, does_read, leaves_broken, leaves_ok, leaves_read, leaves_stop, leaves_value}
+use Rattle.tree_store.proofs.Ahead.{does_failed, does_never, does_read, leaves_broken, leaves_ok, leaves_read}
+use Rattle.tree_store.proofs.Ahead.{leaves_stop, leaves_value}
 use Rattle.tree_store.proofs.Fields.{ahead_filled, piece_long, read_right}
 use Rattle.tree_store.proofs.kept_bytes.KeptBytes.fill.Goals as goal
 

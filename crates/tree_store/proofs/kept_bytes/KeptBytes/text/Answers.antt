@@ -8,7 +8,8 @@ use Rattle.std.proofs.lemmas.Str.{IsUtf8-from_is_utf8}
 use Rattle.std.specs.Prelude.{nat_le, nat_lt, ◌&&◌}
 use Rattle.tree_canon.specs.Names.{is_text}
 use Rattle.tree_canon.proofs.Texts.{text_sizes}
-use Rattle.tree_store.proofs.Ahead.{does_memory, does_value, leaves_broken, leaves_short, leaves_stop, leaves_then, leaves_value, reads_on, reads_stop}
+use Rattle.tree_store.proofs.Ahead.{does_memory, does_value, leaves_broken, leaves_short, leaves_stop, leaves_then}
+use Rattle.tree_store.proofs.Ahead.{leaves_value, reads_on, reads_stop}
 use Rattle.tree_store.proofs.kept_bytes.KeptBytes.text.Goals as goal
 
 -- the length that was read

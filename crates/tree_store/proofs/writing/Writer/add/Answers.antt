@@ -1,6 +1,7 @@
 use Rattle.std.proofs.Common.{◌++◌, Ok, ap, refl}
 use Rattle.std.proofs.lemmas.Result.{err_from_is_err_and}
-use Rattle.tree_store.proofs.Written.{added_none, added_stop, added_then, leaves_local, leaves_memory, leaves_stop, leaves_then, written_held}
+use Rattle.tree_store.proofs.Written.{added_none, added_stop, added_then, leaves_local, leaves_memory, leaves_stop}
+use Rattle.tree_store.proofs.Written.{leaves_then, written_held}
 use Rattle.tree_store.proofs.writing.Writer.add.Goals as goal
 
 pub returns-in_err-make_room-clause-leaves : goal.returns-in_err-make_room-clause-leaves

@@ -1,7 +1,8 @@
 use Rattle.std.proofs.Common.{◌≤◌, ◌∙◌, arith, refl, Ok}
 use Rattle.std.proofs.lemmas.Result.{err_from_is_err_and}
 use Rattle.std.proofs.lemmas.List.{take_all}
-use Rattle.tree_store.proofs.Written.{added_as, added_nothing, added_stop, added_then, leaves_local, leaves_stop, leaves_then, next_piece}
+use Rattle.tree_store.proofs.Written.{added_as, added_nothing, added_stop, added_then, leaves_local, leaves_stop}
+use Rattle.tree_store.proofs.Written.{leaves_then, next_piece}
 use Rattle.tree_store.proofs.writing.Writer.add_all.Goals as goal
 
 pub loop-done-init : goal.loop-done-init
