@@ -10,7 +10,7 @@ use Rattle.std.proofs.lemmas.Bool.{and_from, and_parts, or_from}
 use Rattle.std.proofs.lemmas.Map.Text.{is_eq-slice_cmp}
 use Rattle.std.proofs.lemmas.Slice.Eq.{bytes_eq-Decides}
 use Rattle.cnb_toml.specs.Distinct.{are_distinct, has_key}
-use Rattle.plan_resolve.specs.Plan.{ascending, put_name, put_name_by}
+use Rattle.cnb_toml.specs.Ascending.{ascending, put_name, put_name_by}
 
 abbrev pub order : List ℕ → List ℕ → Ordering
 order = slice_cmp nat_cmp

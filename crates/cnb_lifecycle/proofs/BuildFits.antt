@@ -50,7 +50,7 @@ use Rattle.doc_files.specs.declared.fault.ReadFault.{ReadFault}
 use Rattle.image_docs.proofs.Answered.{all_distinct, at_or, at_required, follows, Holds, in_document, in_name, in_rows}
 use Rattle.layer_paths.specs.Names.{layers_among, stem_of}
 use Rattle.layer_paths.specs.Paths.{layer_document, layers_folder}
-use Rattle.plan_resolve.specs.Plan.{ascending}
+use Rattle.cnb_toml.specs.Ascending.{ascending}
 use Rattle.run_docs.specs.Build.{build_in}
 use Rattle.run_docs.specs.Group.{group_in, is_listed, is_row, new_id, row_id, row_in, rows_in}
 use Rattle.run_docs.specs.Layer.{layer_in}

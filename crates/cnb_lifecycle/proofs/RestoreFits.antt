@@ -83,7 +83,7 @@ use Rattle.image_files.specs.Paths.{document_name, image_path}
 use Rattle.image_files.specs.Target.{analyzed_document}
 use Rattle.layer_flags.specs.declared.restore.RestoreRow.{RestoreRow}
 use Rattle.layer_flags.specs.declared.restore.RestoreRow.TheVariants as part
-use Rattle.plan_resolve.specs.Plan.{ascending, put_name, put_name_by}
+use Rattle.cnb_toml.specs.Ascending.{ascending, put_name, put_name_by}
 use Rattle.run_docs.specs.Group.{new_id, row_in, rows_in as group_rows_in}
 use Rattle.run_docs.specs.declared.group.GroupRow.{GroupRow}
 use Rattle.shelf_set.specs.CacheSteps.{gathers}

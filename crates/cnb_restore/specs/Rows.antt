@@ -7,7 +7,7 @@ use Rattle.image_docs.specs.declared.layer_row.LayerRow.{LayerRow}
 use Rattle.layer_flags.specs.Restore.{restore_table}
 use Rattle.layer_flags.specs.declared.flags.Flags.{Flags}
 use Rattle.layer_flags.specs.declared.restore.RestoreRow.{RestoreRow}
-use Rattle.plan_resolve.specs.Plan.{ascending}
+use Rattle.cnb_toml.specs.Ascending.{ascending}
 
 -- a buildpack's rows
 abbrev pub rows_of : List ℕ → List LayerRow → List LayerRow

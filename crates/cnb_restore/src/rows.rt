@@ -4,11 +4,10 @@ ghost use Rattle.std.specs.Option.{option_copied};
 ghost use Rattle.cnb_restore.specs.Images.{kept_for};
 ghost use Rattle.cnb_restore.specs.Rows.{are_same, flags_of, layer_names, restored_part, row_of, rows_of, source_of};
 
-use cnb_toml::BpId;
+use cnb_toml::{BpId, ascending};
 use cnb_world::Memory;
 use image_docs::{LayerRow, StoreRow};
 use layer_flags::{Flags, RestoreRow, restore_row};
-use plan_resolve::ascending;
 use std::alloc::Global;
 
 /// What the previous image keeps for a buildpack.

@@ -1,3 +1,4 @@
+pub mod AscendingLemmas
 pub mod DataLaws
 pub mod Ids
 pub mod Items

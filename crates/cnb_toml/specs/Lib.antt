@@ -1,4 +1,5 @@
 pub mod Api
+pub mod Ascending
 pub mod Distinct
 pub mod DistinctLaws
 pub mod Document

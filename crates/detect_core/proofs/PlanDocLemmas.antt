@@ -16,7 +16,8 @@ use Rattle.cnb_toml.specs.declared.meta.Need.{Need}
 use Rattle.cnb_toml.specs.Meta.{is_kept}
 use Rattle.run_docs.specs.Plan.{has_needs, is_need_of, is_entry, is_plan_doc}
 use Rattle.plan_resolve.specs.declared.rows.TrialRow.{TrialRow}
-use Rattle.plan_resolve.specs.Plan.{at_places, Kept, names_of, plan_entry, plan_of, put_name_by, put_name, ascending}
+use Rattle.plan_resolve.specs.Plan.{at_places, Kept, names_of, plan_entry, plan_of}
+use Rattle.cnb_toml.specs.Ascending.{put_name_by, put_name, ascending}
 use Rattle.plan_resolve.specs.Trials.{has_need, required_at, provided_at, is_provided, is_required, holds, largest}
 use Rattle.plan_resolve.proofs.LargestLemmas.{largest_closed}
 use Rattle.detect_core.proofs.ListLemmas.{all_weaker, all_both, all_flat, all_get, all_places, any_places}

@@ -6,10 +6,10 @@ ghost use Rattle.plan_resolve.specs.Resolution.{has_options};
 use crate::buildpacks::{key, options, put_key};
 use crate::given::expanded;
 use bp_docs::PlanOption;
-use cnb_toml::{Meta, Need};
+use cnb_toml::{Meta, Need, ascending};
 use cnb_world::{List, Memory};
 use plan_resolve::{
-    Alive, AliveRow, PlanFault, Resolved, Trial, TrialRow, ascending, has_name, kept, resolve,
+    Alive, AliveRow, PlanFault, Resolved, Trial, TrialRow, has_name, kept, resolve,
 };
 use row_files::{Answer, Row};
 use run_docs::PlanEntry;

@@ -2,7 +2,7 @@
 use Rattle.std.specs.Prelude.{ℕ, ◌-◌, List, codes, length, nat_eq, take, if◌then◌else◌, Option, Some, None}
 use Rattle.std.specs.List.{ends_with, filter, filter_map}
 use Rattle.cnb_toml.specs.Names.{is_layer_name}
-use Rattle.plan_resolve.specs.Plan.{ascending}
+use Rattle.cnb_toml.specs.Ascending.{ascending}
 
 -- a name in front of `.toml`
 abbrev pub stem_of : List ℕ → Option (List ℕ)

@@ -5,9 +5,8 @@ ghost use Rattle.std.specs.Option.{option_copied};
 ghost use Rattle.cnb_toml.specs.Names.{is_layer_name};
 ghost use Rattle.layer_paths.specs.Names.{layers_among, stem_of};
 
-use cnb_toml::{LayerName, NameFault};
+use cnb_toml::{LayerName, NameFault, ascending};
 use cnb_world::{List, Memory, Text};
-use plan_resolve::ascending;
 use std::alloc::Global;
 
 #[tactic(auto, using(crate::proofs::StemLemmas::stem_is))]

@@ -1,11 +1,8 @@
 -- The plan of a passing trial (buildpack.md, "Phase #1: Detection", "Process"; platform.md, "plan.toml (TOML)").
 use Rattle.std.specs.Prelude.{ℕ, List, [], ◌∷◌, ◌++◌, map, slice_get}
-use Rattle.std.specs.declared.cmp.Ordering.{Ordering}
-use Rattle.std.specs.declared.cmp.Ordering.TheVariants.{Less, Equal, Greater}
-use Rattle.std.specs.Ordering.{nat_cmp}
-use Rattle.std.specs.Cmp.Lexicographic.{slice_cmp}
 use Rattle.std.specs.List.{filter, flat_map, filter_map}
 use Rattle.std.specs.Str.{bytes_eq}
+use Rattle.cnb_toml.specs.Ascending.{ascending}
 use Rattle.cnb_toml.specs.declared.names.Key.{Key}
 use Rattle.run_docs.specs.declared.plan.PlanEntry.{PlanEntry}
 use Rattle.plan_resolve.specs.declared.rows.TrialRow.{TrialRow}
@@ -15,21 +12,6 @@ use Rattle.plan_resolve.specs.Trials.{has_name}
 -- the elements at these places
 abbrev pub at_places : {X : Type 0} → List X → List ℕ → List X
 at_places xs set = filter_map (λ place. slice_get xs place) set
-
--- a name put into a strictly ascending list of names
-abbrev pub put_name_by : Ordering → List ℕ → List ℕ → List (List ℕ) → List (List ℕ) → List (List ℕ)
-put_name_by Less name x xs later = name ∷ x ∷ xs
-put_name_by Equal name x xs later = x ∷ xs
-put_name_by Greater name x xs later = x ∷ later
-
-abbrev pub put_name : List ℕ → List (List ℕ) → List (List ℕ)
-put_name name [] = name ∷ []
-put_name name (x ∷ xs) = put_name_by (slice_cmp nat_cmp name x) name x xs (put_name name xs)
-
--- these names ascending, each once
-abbrev pub ascending : List (List ℕ) → List (List ℕ)
-ascending [] = []
-ascending (name ∷ names) = put_name name (ascending names)
 
 -- a buildpack that a trial keeps, with what it provides and requires there
 pub record Kept : Type 0 where

@@ -13,7 +13,6 @@ mod trial;
 
 pub use borrowed::BorrowedRow;
 pub use choosing::{chosen_trial, trial_count};
-pub use plan::ascending;
 pub use pruning::{has_name, has_need, is_optional, numbers_below, provides, requires_name};
 pub use resolution::{PlanFault, resolve, resolved_at};
 pub use rows::{Alive, AliveRow, Resolved, Trial, TrialRow};

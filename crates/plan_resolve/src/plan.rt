@@ -3,15 +3,14 @@ ghost use Rattle.std.specs.Prelude.{◌≡◌, ◌++◌, IfOk, OnOk, map};
 ghost use Rattle.std.specs.List.{filter, flat_map};
 ghost use Rattle.std.specs.Str.{bytes_eq};
 ghost use Rattle.plan_resolve.specs.Trials.{has_name};
-ghost use Rattle.plan_resolve.specs.Plan.{ascending, names_of, plan_entry, plan_of};
+ghost use Rattle.plan_resolve.specs.Plan.{names_of, plan_entry, plan_of};
 
 use crate::kept_rows::KeptRow;
 use crate::pruning::has_name;
-use cnb_toml::{Key, Need};
+use cnb_toml::{Key, Need, ascending};
 use cnb_world::{List, Memory, Text};
 use run_docs::{PlanDoc, PlanEntry};
 use std::alloc::Global;
-use std::collections::BTreeSet;
 
 fn add_names<'a>(names: &mut Vec<&'a str>, row: &KeptRow<'a>) -> Result<(), Memory>
     ensures { OnOk result (map (λ name. name.now) names.new.items
@@ -35,18 +34,6 @@ fn all_names<'a>(alloc: Global, kept: &[KeptRow<'a>]) -> Result<Vec<&'a str>, Me
         add_names(&mut names, row)?;
     }
     Ok(names)
-}
-
-/// Names in ascending order, each once.
-pub fn ascending<'a>(alloc: Global, mut names: Vec<&'a str>) -> Result<Vec<&'a str>, Memory>
-    ensures { IfOk result (λ sorted. map (λ name. name.now) sorted.items
-        ≡ ascending (map (λ name. name.now) names.entry.items)) }
-{
-    let mut set = BTreeSet::new(alloc);
-    while let Some(name) = names.pop() {
-        set.insert(name)?;
-    }
-    Ok(set.into_iter().collect(alloc)?)
 }
 
 /// The buildpacks that provide a name.

@@ -1,7 +1,7 @@
 use Rattle.std.proofs.Common.{ℕ, List, [], ◌∷◌, map, sym, ◌∙◌, ap, Bor}
 use Rattle.std.proofs.lemmas.List.{map-append}
-use Rattle.plan_resolve.proofs.PlanLemmas.{put_all, put_all_is, put_all-push, insert_put}
-use Rattle.plan_resolve.proofs.plan.ascending.Goals as goal
+use Rattle.cnb_toml.proofs.AscendingLemmas.{put_all, put_all_is, put_all-push, insert_put}
+use Rattle.cnb_toml.proofs.sorted_names.ascending.Goals as goal
 
 pub loop-name-init : goal.loop-name-init
 loop-name-init c = rw c.new-set.ensures.empty (put_all_is (map (λ name. name.now) c.args.names.items))

@@ -1,7 +1,7 @@
 use Rattle.std.proofs.Common.{◌≡◌, vec_len, map}
-use Rattle.plan_resolve.specs.Plan.{ascending}
-use Rattle.plan_resolve.proofs.PlanLemmas.{put_all}
-use Rattle.plan_resolve.proofs.plan.ascending.Given as goal
+use Rattle.cnb_toml.specs.Ascending.{ascending}
+use Rattle.cnb_toml.proofs.AscendingLemmas.{put_all}
+use Rattle.cnb_toml.proofs.sorted_names.ascending.Given as goal
 
 abbrev pub invariant-loop-name : goal.invariant-loop-name
 invariant-loop-name l = put_all (map (λ name. name.now) l.names.items) (map (λ name. name.now) l.set.keys)
