@@ -1,7 +1,7 @@
 -- What the calls of the layers below say, as steps of a build.
 use Rattle.std.proofs.Common.{◌≡◌, ap, refl, sym, subst, arith, ℕ, Bool, List, Option, Some, None, Result, Ok, Err, inl}
 use Rattle.std.proofs.Common.{inr}
-use Rattle.std.specs.Prelude.{IfErr, IfSome}
+use Rattle.std.specs.Prelude.{IfSome}
 use Rattle.std.specs.Option.{option_map}
 use Rattle.cnb_world.specs.Calls.{CountsChild, CountsFailed, LastFailed, MayMisuse, Rose}
 use Rattle.cnb_world.specs.Tree.{Tree}
@@ -13,21 +13,21 @@ use Rattle.cnb_world.specs.declared.world.World as world
 use Rattle.cnb_toml.specs.Reading.{Answers}
 use Rattle.cnb_toml.specs.declared.fault.DocFault.{DocFault}
 use Rattle.cnb_toml.specs.declared.fault.DocFault.TheVariants as doc_fault
-use Rattle.doc_files.proofs.Blame.{blamed_last}
+use Rattle.doc_files.proofs.Blame.{blamed_last, blames_among, blames_named}
 use Rattle.doc_files.specs.Faults.{read_cause}
-use Rattle.doc_files.specs.Reading.{Blames}
+use Rattle.doc_files.specs.Reading.{Blames, BlamesOne}
 use Rattle.doc_files.specs.declared.fault.ReadFault.{ReadFault}
 use Rattle.doc_files.specs.declared.fault.ReadFault.TheVariants as read
-use Rattle.steps.specs.Causes.{Cause, CountsFiles, IsAnswer, IsGivenCause, IsReadCause, IsWriteCause}
+use Rattle.steps.specs.Causes.{Cause, CountsFiles, IsAnswer, IsGivenCause, IsReadCause, IsWriteCause, NamesOne, Only}
 use Rattle.steps.specs.Counts.{AllCounts, FileCounts}
 use Rattle.steps.specs.Each.{for_each}
 use Rattle.steps.specs.Outside.{Seen, seen}
-use Rattle.steps.specs.Reading.{ReadFrame}
+use Rattle.steps.specs.Reading.{LeavesUnchanged}
 use Rattle.steps.specs.Results.{with_fault}
-use Rattle.steps.specs.Steps.{LeavesSome, gives, reads, writes}
+use Rattle.steps.specs.Steps.{LeavesSome, reads, writes}
 use Rattle.steps.proofs.EndLaws.{files_rest}
-use Rattle.steps.proofs.ReadingLaws.{frame_counts}
-use Rattle.steps.proofs.StepLemmas.{allowed_by, cause_told, read_so}
+use Rattle.steps.proofs.ReadingLaws.{unchanged_counts}
+use Rattle.steps.proofs.StepLemmas.{allowed_by, cause_told, named_told, read_so}
 use Rattle.cnb_build.specs.declared.fault.BuildFault.{BuildFault}
 use Rattle.cnb_build.specs.declared.fault.BuildFault.TheVariants as build
 use Rattle.cnb_build.specs.Reading.{reads_files, value_at}
@@ -66,58 +66,71 @@ read_fails T path fault refusal given before now last blames is =
     subst (λ f. IsReadCause now (cause_of f)) (sym is)
     (is_read_cause now refusal (blamed_last T path fault refusal before now last blames))
 
-counts_told : {T : Type 0} (fault : ReadFault) (old new : Seen) → ReadFrame {A = T} read_cause (Err fault) old new
+is_named : (Among : List ℕ → Type 0) (fault : ReadFault) → BlamesOne Among fault
+    → NamesOne Among (cause_of (of_read_fault fault))
+is_named Among fault h = named_told read_cause cause_of of_read_fault Among fault (same_cause fault)
+    (blames_named Among fault h)
+
+-- and with no other
+pub fails_named : (path : List ℕ) (fault : FileFault) (refusal : ReadFault) (given : BuildFault)
+    → Blames path fault refusal → given ≡ of_read_fault refusal → NamesOne (Only path) (cause_of given)
+fails_named path fault refusal given blames is = subst (λ f. NamesOne (Only path) (cause_of f)) (sym is)
+    (is_named (Only path) refusal (blames_among path (Only path) (λ blamed same. same) fault refusal blames))
+
+counts_told : {T : Type 0} (fault : ReadFault) (old new : Seen) → LeavesUnchanged {A = T} read_cause (Err fault) old new
     → FileCounts (Some (cause_of (of_read_fault fault))) old new
-counts_told fault old new frame =
+counts_told fault old new left =
     subst (λ (cause : Cause). FileCounts (Some cause) old new) (sym (same_cause fault))
-    (frame_counts read_cause (Err fault) old new frame)
+    (unchanged_counts read_cause (Err fault) old new left)
 
 -- files that were read, and files whose reading was refused
-pub read_done : {W T : Type 0} (ghosts : world.Ghosts W) (fits : Tree → Bool) (want : Tree → Result T ReadFault)
-    (value : T) (old new : W)
+pub read_done : {W T : Type 0} (ghosts : world.Ghosts W) (Among : List ℕ → Type 0) (fits : Tree → Bool)
+    (want : Tree → Result T ReadFault) (value : T) (old new : W)
     → IfSome (ghosts.tree old) (λ files. IsAnswer read_cause (Ok value) (want files))
-    → ReadFrame read_cause (Ok value) (seen ghosts old) (seen ghosts new)
+    → LeavesUnchanged read_cause (Ok value) (seen ghosts old) (seen ghosts new)
     → MayMisuse (option_map fits (ghosts.tree old)) (ghosts.misused old) (ghosts.misused new)
-    → reads_files fits want (seen ghosts old) (Ok value) (seen ghosts new)
-read_done ghosts fits want value old new answer frame allows =
-    read_so ghosts cause_of fits (λ files. with_fault of_read_fault (want files)) (Ok value) old new
-    (answer_where (Ok value) (ghosts.tree old) want answer) tt frame.files frame.runs allows
-    (record { ends = tt; files = frame.counts; children = frame.children })
+    → reads_files Among fits want (seen ghosts old) (Ok value) (seen ghosts new)
+read_done ghosts Among fits want value old new answer left allows =
+    read_so ghosts cause_of Among fits (λ files. with_fault of_read_fault (want files)) (Ok value) old new
+    (answer_where (Ok value) (ghosts.tree old) want answer) tt tt left.files left.runs allows
+    (record { ends = tt; files = left.counts; children = left.children })
 
-pub read_refused : {W T : Type 0} (ghosts : world.Ghosts W) (fits : Tree → Bool)
+pub read_refused : {W T : Type 0} (ghosts : world.Ghosts W) (Among : List ℕ → Type 0) (fits : Tree → Bool)
     (want : Tree → Result T ReadFault) (fault : ReadFault) (old new : W)
     → IfSome (ghosts.tree old) (λ files. IsAnswer {A = T} read_cause (Err fault) (want files))
-    → ReadFrame {A = T} read_cause (Err fault) (seen ghosts old) (seen ghosts new)
+    → LeavesUnchanged {A = T} read_cause (Err fault) (seen ghosts old) (seen ghosts new) → BlamesOne Among fault
     → MayMisuse (option_map fits (ghosts.tree old)) (ghosts.misused old) (ghosts.misused new)
-    → reads_files {A = T} fits want (seen ghosts old) (Err (of_read_fault fault)) (seen ghosts new)
-read_refused ghosts fits want fault old new answer frame allows =
-    read_so ghosts cause_of fits (λ files. with_fault of_read_fault (want files))
+    → reads_files {A = T} Among fits want (seen ghosts old) (Err (of_read_fault fault)) (seen ghosts new)
+read_refused ghosts Among fits want fault old new answer left blames allows =
+    read_so ghosts cause_of Among fits (λ files. with_fault of_read_fault (want files))
     (Err (of_read_fault fault)) old new (answer_where (Err fault) (ghosts.tree old) want answer)
-    (is_read_cause (ghosts.failed_at new) fault frame.cause) frame.files frame.runs allows
-    (counts_told fault (seen ghosts old) (seen ghosts new) frame)
+    (is_read_cause (ghosts.failed_at new) fault left.cause) (is_named Among fault blames) left.files left.runs allows
+    (counts_told fault (seen ghosts old) (seen ghosts new) left)
 
 free_where : (o : Option Tree) → IfSome o (λ files. Unit {0})
 free_where None = tt
 free_where (Some files) = tt
 
 -- memory ran out before files were read
-pub not_read : {T : Type 0} (fits : Tree → Bool) (want : Tree → Result T ReadFault) (old : Seen)
-    → reads_files fits want old (Err build.Memory) old
+pub not_read : {T : Type 0} (Among : List ℕ → Type 0) (fits : Tree → Bool) (want : Tree → Result T ReadFault)
+    (old : Seen) → reads_files Among fits want old (Err build.Memory) old
 unfolding reads
-not_read fits want old = record {
+not_read Among fits want old = record {
   same = record { files = refl; runs = refl };
   answer = free_where old.files;
   cause = tt;
+  named = tt;
   allows = allowed_by fits old.files old.misused old.misused refl;
   counts = files_rest.memory old;
 }
 
 -- two spellings of what is read
-pub reads_same : {B T : Type 0} (fits : B → Tree → Bool) (want : B → Tree → Result T ReadFault) (one other : B)
-    (result : Result T BuildFault) (old new : Seen) → one ≡ other
-    → reads_files (fits one) (want one) old result new → reads_files (fits other) (want other) old result new
-reads_same {B} {T} fits want one other result old new same h = subst
-    (λ b. reads_files {A = T} (fits b) (want b) old result new) same h
+pub reads_same : {B T : Type 0} (Among : B → List ℕ → Type 0) (fits : B → Tree → Bool)
+    (want : B → Tree → Result T ReadFault) (one other : B) (result : Result T BuildFault) (old new : Seen)
+    → one ≡ other → reads_files (Among one) (fits one) (want one) old result new
+    → reads_files (Among other) (fits other) (want other) old result new
+reads_same {B} {T} Among fits want one other result old new same h = subst
+    (λ b. reads_files {A = T} (Among b) (fits b) (want b) old result new) same h
 
 more_left : (path : List ℕ) (Says Means : List ℕ → Type 0) → ((bytes : List ℕ) → Says bytes → Means bytes)
     → (old new : Option Tree) → LeavesSome path Says old new → LeavesSome path Means old new

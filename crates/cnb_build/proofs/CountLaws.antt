@@ -21,11 +21,11 @@ each_passes (row ∷ group) = each_passes group
 pub builds_counts : (frame : BuildFrame) (plan : List PlanEntry) (group : List GroupRow)
     → Obeys AllCounts cause_of (builds frame plan group)
 builds_counts frame plan group =
-    builds_obey AllCounts all_link all_rest (λ A fits want. files_among cause_of _
-    (reads_counts cause_of fits want)) (runs_child_counts cause_of) frame (λ row. true)
+    builds_obey AllCounts all_link all_rest (λ A Among fits want. files_among cause_of _
+    (reads_counts cause_of Among fits want)) (runs_child_counts cause_of) frame (λ row. true)
     (λ row is. files_among cause_of _ (makes_folder_counts cause_of _))
     (λ row Says is. files_among cause_of _ (writes_counts cause_of _ Says)) plan group (each_passes group)
 
 pub build_counts : (options : BuildWords) (env : List Variable) → Obeys AllCounts cause_of (commands_build options env)
 build_counts options env = command_obeys AllCounts all_link all_rest
-    (λ A fits want. files_among cause_of _ (reads_counts cause_of fits want)) builds_counts options env
+    (λ A Among fits want. files_among cause_of _ (reads_counts cause_of Among fits want)) builds_counts options env

@@ -4,11 +4,12 @@ use Rattle.std.specs.List.{list_all}
 use Rattle.std.proofs.lemmas.Bool.{and_parts}
 use Rattle.run_docs.specs.declared.group.GroupRow.{GroupRow}
 use Rattle.run_docs.specs.declared.plan.PlanEntry.{PlanEntry}
-use Rattle.steps.specs.Frames.{Keeps, folder_paths, is_free, touched}
+use Rattle.steps.specs.Keeping.{Keeps, folder_paths, is_free, touched}
 use Rattle.steps.specs.Outside.{Seen}
 use Rattle.steps.proofs.EndLaws.{Rests}
-use Rattle.steps.proofs.FrameLaws.{Preserves, keeps_makes_folder, keeps_reads, keeps_runs_child, keeps_same, keeps_then}
-use Rattle.steps.proofs.FrameLaws.{keeps_writes}
+use Rattle.steps.proofs.KeepingLaws.{Preserves, keeps_makes_folder, keeps_reads, keeps_runs_child, keeps_same}
+use Rattle.steps.proofs.KeepingLaws.{keeps_then}
+use Rattle.steps.proofs.KeepingLaws.{keeps_writes}
 use Rattle.cnb_build.specs.declared.fault.BuildFault.{BuildFault}
 use Rattle.cnb_build.specs.declared.frame.BuildFrame.{BuildFrame}
 use Rattle.cnb_build.specs.Builds.{builds}
@@ -32,7 +33,7 @@ pub keeps_builds : (path : List ℕ) (frame : BuildFrame) (plan : List PlanEntry
     → list_all (spares path frame) group ≡ true → Preserves path (builds frame plan group)
 keeps_builds path frame plan group apart =
     builds_obey (λ last. Keeps path) (λ last. keeps_then path) (keeps_rest path)
-    (λ A fits want. keeps_reads path cause_of fits want) (keeps_runs_child path cause_of) frame
+    (λ A Among fits want. keeps_reads path cause_of Among fits want) (keeps_runs_child path cause_of) frame
     (spares path frame)
     (λ row is. keeps_makes_folder path cause_of _ (free_of path frame row is).0)
     (λ row Says is. keeps_writes path cause_of _ Says (free_of path frame row is).1) plan group apart

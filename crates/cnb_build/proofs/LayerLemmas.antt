@@ -4,6 +4,7 @@ use Rattle.cnb_world.specs.Tree.{can_list}
 use Rattle.cnb_world.specs.declared.world.Kind.{Kind}
 use Rattle.cnb_env.specs.Files.{is_absent}
 use Rattle.doc_files.specs.Reading.{names_at}
+use Rattle.steps.specs.Causes.{Only}
 use Rattle.steps.specs.Outside.{Seen}
 use Rattle.steps.specs.Steps.{yields}
 use Rattle.cnb_build.specs.declared.fault.BuildFault.{BuildFault}
@@ -23,6 +24,6 @@ no_names folder kind none old absent is = subst (λ b. names_if folder b old (Ok
 -- a folder has to stand there
 pub listed_names : (folder : List ℕ) (kind : Kind) (result : Result (List (List ℕ)) BuildFault) (old new : Seen)
     → is_absent kind ≡ false
-    → reads_files (λ files. can_list files folder) (λ files. names_at files folder) old result new
+    → reads_files (Only folder) (λ files. can_list files folder) (λ files. names_at files folder) old result new
     → names_if folder (is_absent kind) old result new
 listed_names folder kind result old new there h = subst (λ b. names_if folder b old result new) (sym there) h

@@ -37,8 +37,8 @@ was_given : {A : Type 0} (a b : A) → (let r : Result A BuildFault = Ok a in r)
 was_given a b h = cc
 
 module _ (R : Relation Seen) (links : Links R) (rests : Rests R)
-    (read : (A : Type 0) (fits : Tree → Bool) (want : Tree → Result A BuildFault)
-    → Obeys R cause_of (reads cause_of fits want)) where
+    (read : (A : Type 0) (Among : List ℕ → Type 0) (fits : Tree → Bool) (want : Tree → Result A BuildFault)
+    → Obeys R cause_of (reads cause_of Among fits want)) where
   -- a value that is known, and what is done with it
   known_obeys : {A B : Type 0} (value : A) (next : A → Seen → Result B BuildFault → Seen → Type 0)
       → Obeys R cause_of (next value) → Obeys R cause_of (gives cause_of (Ok value) >>= next)
@@ -54,12 +54,12 @@ module _ (R : Relation Seen) (links : Links R) (rests : Rests R)
 
   descriptor_obeys : (at : List ℕ) → Obeys R cause_of (reads_descriptor at)
   unfolding reads_descriptor
-  descriptor_obeys at = obeys_bind R cause_of _ _ links (read _ _ _) (λ found. obeys_gives R cause_of _ rests)
+  descriptor_obeys at = obeys_bind R cause_of _ _ links (read _ _ _ _) (λ found. obeys_gives R cause_of _ rests)
 
   needed_obeys : {A : Type 0} (form : List ℕ → Result A DocFault) (at : List ℕ)
       → Obeys R cause_of (reads_needed form at)
   unfolding reads_needed
-  needed_obeys form at = obeys_bind R cause_of _ _ links (read _ _ _) (λ found. obeys_gives R cause_of _ rests)
+  needed_obeys form at = obeys_bind R cause_of _ _ links (read _ _ _ _) (λ found. obeys_gives R cause_of _ rests)
 
   given_obeys : (options : BuildWords) (env : List Variable) → Obeys R cause_of (reads_given options env)
   unfolding reads_given
@@ -68,24 +68,24 @@ module _ (R : Relation Seen) (links : Links R) (rests : Rests R)
       (λ documents. obeys_bind R cause_of _ _ links (needed_obeys group_in documents.group)
       (λ group. obeys_bind R cause_of _ _ links (obeys_gives R cause_of _ rests)
       (λ known. obeys_bind R cause_of _ _ links (needed_obeys plan_in documents.plan)
-      (λ plan. obeys_bind R cause_of _ _ links (read _ _ _)
-      (λ target. obeys_bind R cause_of _ _ links (read _ _ _) (λ files. obeys_gives R cause_of _ rests))))))
+      (λ plan. obeys_bind R cause_of _ _ links (read _ _ _ _)
+      (λ target. obeys_bind R cause_of _ _ links (read _ _ _ _) (λ files. obeys_gives R cause_of _ rests))))))
 
   as_obeys : {A : Type 0} (form : List ℕ → Result A DocFault) (at : List ℕ) → Obeys R cause_of (reads_as form at)
   unfolding reads_as
-  as_obeys form at = obeys_bind R cause_of _ _ links (read _ _ _) (λ found. obeys_gives R cause_of _ rests)
+  as_obeys form at = obeys_bind R cause_of _ _ links (read _ _ _ _) (λ found. obeys_gives R cause_of _ rests)
 
   names_if_obeys : (folder : List ℕ) (absent : Bool) → Obeys R cause_of (names_if folder absent)
   names_if_obeys folder true = obeys_yields R cause_of [] rests
-  names_if_obeys folder false = read _ _ _
+  names_if_obeys folder false = read _ _ _ _
 
   names_obeys : (folder : List ℕ) → Obeys R cause_of (reads_names folder)
   unfolding reads_names
-  names_obeys folder = obeys_bind R cause_of _ _ links (read _ _ _) (λ kind. names_if_obeys folder (is_absent kind))
+  names_obeys folder = obeys_bind R cause_of _ _ links (read _ _ _ _) (λ kind. names_if_obeys folder (is_absent kind))
 
   layer_obeys : (folder layer : List ℕ) (found : List (List ℕ)) → Obeys R cause_of (reads_layer folder layer found)
   unfolding reads_layer
-  layer_obeys folder layer found = obeys_bind R cause_of _ _ links (read _ _ _)
+  layer_obeys folder layer found = obeys_bind R cause_of _ _ links (read _ _ _ _)
       (λ document. obeys_gives R cause_of _ rests)
 
   layers_obeys : (folder : List ℕ) → Obeys R cause_of (reads_layers folder)
@@ -119,7 +119,7 @@ module _ (R : Relation Seen) (links : Links R) (rests : Rests R)
     run_obeys : (frame : BuildFrame) (base : List Variable) (row : GroupRow) (places : Places) (clear_env : Bool)
         (done : List (List (List ℕ))) → Obeys R cause_of (runs_build frame base row places clear_env done)
     unfolding runs_build
-    run_obeys frame base row places clear_env done = obeys_bind R cause_of _ _ links (read _ _ _)
+    run_obeys frame base row places clear_env done = obeys_bind R cause_of _ _ links (read _ _ _ _)
         (λ env. obeys_bind R cause_of _ _ links (run _) (λ end. obeys_gives R cause_of _ rests))
 
     module _ (frame : BuildFrame) (test : GroupRow → Bool)

@@ -84,10 +84,10 @@ says_then want later first next p q old new (Err fault) (inl h) =
 says_then want later first next p q old new (Err fault) (inr (a, mid, h, k)) = then_says want later old mid new a
     (Err fault) (p old mid (Ok a) h) (q a mid new (Err fault) k)
 
-says_files : {A : Type 0} (fits : Tree → Bool) (want : Tree → Result A BuildFault)
-    → OnlySays want (reads cause_of fits want)
+says_files : {A : Type 0} (Among : List ℕ → Type 0) (fits : Tree → Bool) (want : Tree → Result A BuildFault)
+    → OnlySays want (reads cause_of Among fits want)
 unfolding reads
-says_files fits want old new result h = record { same = h.same; answer = h.answer }
+says_files Among fits want old new result h = record { same = h.same; answer = h.answer }
 
 known_where : {A : Type 0} (want : Result A BuildFault) (o : Option Tree) (result : Result A BuildFault)
     → IsAnswer cause_of result want → IfSome o (λ files. IsAnswer cause_of result want)
@@ -110,7 +110,7 @@ says_value value old new (Ok other) h = record {
 says_value value old new (Err fault) h = absurd h
 
 says_document : (path : List ℕ) → OnlySays (found_at path) (reads_document path)
-says_document path = says_files (λ files. is_file_or_absent (item_at files path)) (found_at path)
+says_document path = says_files _ (λ files. is_file_or_absent (item_at files path)) (found_at path)
 
 says_descriptor : (path : List ℕ) → OnlySays (clears_at path) (reads_descriptor path)
 unfolding reads_descriptor
@@ -128,7 +128,7 @@ says_as form path =
 
 says_if : (folder : List ℕ) (absent : Bool) → OnlySays (names_unless folder absent) (names_if folder absent)
 says_if folder true = says_value []
-says_if folder false = says_files (λ files. can_list files folder)
+says_if folder false = says_files _ (λ files. can_list files folder)
     (λ files. with_fault of_read_fault (names_at files folder))
 
 says_names : (folder : List ℕ) → OnlySays (λ files. results.and_then
@@ -138,7 +138,7 @@ unfolding reads_names
 says_names folder =
     says_then (λ files. with_fault of_read_fault (Ok (kind_of (item_at files folder))))
     (λ kind. names_unless folder (is_absent kind)) _ (λ kind. names_if folder (is_absent kind))
-    (says_files (λ files. true) (λ files. with_fault of_read_fault (Ok (kind_of (item_at files folder)))))
+    (says_files _ (λ files. true) (λ files. with_fault of_read_fault (Ok (kind_of (item_at files folder)))))
     (λ kind. says_if folder (is_absent kind))
 
 says_layer : (folder layer : List ℕ) (found : List (List ℕ))
@@ -148,7 +148,7 @@ says_layer folder layer found =
     says_then (λ files. with_fault of_read_fault (contents_of (item_at files (layer_document folder layer))))
     (λ document files. found_with folder layer found document) _
     (λ document. gives cause_of (found_with folder layer found document))
-    (says_files (λ files. true) (λ files. with_fault of_read_fault
+    (says_files _ (λ files. true) (λ files. with_fault of_read_fault
     (contents_of (item_at files (layer_document folder layer)))))
     (λ document. says_known (found_with folder layer found document))
 
@@ -303,7 +303,7 @@ went_well frame base row built next places old new
     (clear_env, m1, prep, (done, m2, (env, k1, e, (end, k2, rn, p)), behind)) =
     let run : Run = record { job = build_job frame places env; end = end; found = k1.files; left = k2.files } in
     let before = prepared row places built.pending clear_env old m1 prep in
-    let read = says_files (λ files. are_fit_sets Build files built.done) (env_in frame base built clear_env) m1 k1
+    let read = says_files _ (λ files. are_fit_sets Build files built.done) (env_in frame base built clear_env) m1 k1
     (Ok env) e in
     let b = says_behind row places built m2 new (Ok next) behind in
     record {
@@ -323,17 +323,17 @@ unfolding ◌>>=◌ builds_at runs_build runs_child gives
 was_refused frame base row built places fault old new (inl prep) = inl
     (unprepared row places built.pending fault old new prep)
 was_refused frame base row built places fault old new (inr (clear_env, m1, prep, inl (inl e))) =
-    inl ((says_files (λ files. are_fit_sets Build files built.done) (env_in frame base built clear_env) m1 new
+    inl ((says_files _ (λ files. are_fit_sets Build files built.done) (env_in frame base built clear_env) m1 new
     (Err fault) e).same.runs ∙ (prepared row places built.pending clear_env old m1 prep).runs)
 was_refused frame base row built places fault old new (inr (clear_env, m1, prep, inl (inr (env, k1, e, inl rn)))) =
-    inl (rn.1.runs ∙ (says_files (λ files. are_fit_sets Build files built.done)
+    inl (rn.1.runs ∙ (says_files _ (λ files. are_fit_sets Build files built.done)
     (env_in frame base built clear_env) m1 k1 (Ok env) e).same.runs
     ∙ (prepared row places built.pending clear_env old m1 prep).runs)
 was_refused frame base row built places fault old new
     (inr (clear_env, m1, prep, inl (inr (env, k1, e, inr (end, k2, rn, p))))) =
     let run : Run = record { job = build_job frame places env; end = end; found = k1.files; left = k2.files } in
     let before = prepared row places built.pending clear_env old m1 prep in
-    let read = says_files (λ files. are_fit_sets Build files built.done) (env_in frame base built clear_env) m1 k1
+    let read = says_files _ (λ files. are_fit_sets Build files built.done) (env_in frame base built clear_env) m1 k1
     (Ok env) e in
     inr (record {
       run = run;
@@ -344,7 +344,7 @@ was_refused frame base row built places fault old new
     (inr (clear_env, m1, prep, inr (done, m2, (env, k1, e, (end, k2, rn, p)), behind))) =
     let run : Run = record { job = build_job frame places env; end = end; found = k1.files; left = k2.files } in
     let before = prepared row places built.pending clear_env old m1 prep in
-    let read = says_files (λ files. are_fit_sets Build files built.done) (env_in frame base built clear_env) m1 k1
+    let read = says_files _ (λ files. are_fit_sets Build files built.done) (env_in frame base built clear_env) m1 k1
     (Ok env) e in
     let b = says_behind row places built m2 new (Err fault) behind in
     inr (record {

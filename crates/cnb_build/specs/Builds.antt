@@ -2,7 +2,7 @@
 use Rattle.std.specs.Prelude.{ℕ, ◌≡◌, ◌++◌, Bool, List, [], ◌∷◌, Result, Ok}
 use Rattle.cnb_world.specs.declared.env.Variable.{Variable}
 use Rattle.cnb_env.specs.Base.{base_env}
-use Rattle.cnb_env.specs.Layers.{are_fit_sets, build_env}
+use Rattle.cnb_env.specs.Layers.{IsOfSets, are_fit_sets, build_env}
 use Rattle.cnb_env.specs.declared.layers.Phase.TheVariants.{Build}
 use Rattle.run_docs.specs.Build.{build_in}
 use Rattle.run_docs.specs.BuildpackPlan.{bp_plan_in}
@@ -37,7 +37,8 @@ prepares row places pending = do
 unfoldable pub runs_build : BuildFrame → List Variable → GroupRow → Places → Bool → List (List (List ℕ)) → Seen
     → Result (Unit {0}) BuildFault → Seen → Type 0
 runs_build frame base row places clear_env done = do
-  env ← reads_files (λ files. are_fit_sets Build files done) (build_env done (files_for frame clear_env) base)
+  env ← reads_files (IsOfSets done) (λ files. are_fit_sets Build files done)
+      (build_env done (files_for frame clear_env) base)
   end ← runs_child cause_of (build_job frame places env)
   gives cause_of (passed_by row.key end)
 

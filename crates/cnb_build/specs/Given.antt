@@ -6,12 +6,13 @@ use Rattle.cnb_toml.specs.declared.fault.DocFault.{DocFault}
 use Rattle.cnb_toml.specs.declared.fault.DocFault.TheVariants.{Absent}
 use Rattle.cnb_toml.specs.declared.target.Target.{Target}
 use Rattle.cnb_words.specs.declared.build.BuildWords.{BuildWords}
-use Rattle.cnb_env.specs.Files.{is_fit_platform, platform_files_in}
+use Rattle.cnb_env.specs.Files.{IsOfFolder, is_fit_platform, platform_env, platform_files_in}
 use Rattle.cnb_env.specs.declared.files.EnvFile.{EnvFile}
-use Rattle.image_files.specs.Target.{is_fit_target, target_at}
+use Rattle.image_files.specs.Target.{analyzed_document, is_fit_target, target_at}
 use Rattle.run_docs.specs.Group.{foreign_among, group_in}
 use Rattle.run_docs.specs.Plan.{plan_in}
 use Rattle.run_docs.specs.declared.group.GroupRow.{GroupRow}
+use Rattle.steps.specs.Causes.{Only}
 use Rattle.steps.specs.Outside.{Seen}
 use Rattle.steps.specs.Steps.{◌>>=◌, gives}
 use Rattle.cnb_build.specs.declared.fault.BuildFault.{BuildFault}
@@ -65,6 +66,7 @@ reads_given options env = do
   group ← reads_needed group_in documents.group
   known ← gives cause_of (known_apis group)
   plan ← reads_needed plan_in documents.plan
-  target ← reads_files (is_fit_target options.work) (target_at options.work)
-  files ← reads_files (is_fit_platform options.platform) (platform_files_in options.platform)
+  target ← reads_files (Only (analyzed_document options.work)) (is_fit_target options.work) (target_at options.work)
+  files ← reads_files (IsOfFolder (platform_env options.platform)) (is_fit_platform options.platform)
+      (platform_files_in options.platform)
   gives cause_of (Ok (record { group = group; plan = plan; frame = frame_of options env target files }))

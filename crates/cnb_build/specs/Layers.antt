@@ -9,6 +9,7 @@ use Rattle.layer_paths.specs.Names.{layers_among}
 use Rattle.layer_paths.specs.Paths.{layer_document}
 use Rattle.run_docs.specs.Layer.{layer_in}
 use Rattle.run_docs.specs.declared.layer.LayerDoc.{LayerDoc}
+use Rattle.steps.specs.Causes.{Only}
 use Rattle.steps.specs.Each.{for_each}
 use Rattle.steps.specs.Outside.{Seen}
 use Rattle.steps.specs.Results as results
@@ -20,11 +21,11 @@ use Rattle.cnb_build.specs.Refusals.{cause_of}
 -- the names in a folder, of which there are none where nothing stands
 abbrev pub names_if : List ℕ → Bool → Seen → Result (List (List ℕ)) BuildFault → Seen → Type 0
 names_if folder true = yields []
-names_if folder false = reads_files (λ files. can_list files folder) (λ files. names_at files folder)
+names_if folder false = reads_files (Only folder) (λ files. can_list files folder) (λ files. names_at files folder)
 
 unfoldable pub reads_names : List ℕ → Seen → Result (List (List ℕ)) BuildFault → Seen → Type 0
 reads_names folder = do
-  kind ← reads_files (λ files. true) (λ files. Ok (kind_of (item_at files folder)))
+  kind ← reads_files (Only folder) (λ files. true) (λ files. Ok (kind_of (item_at files folder)))
   names_if folder (is_absent kind)
 
 -- a layer that is there while later buildpacks are built, behind others
@@ -39,7 +40,8 @@ found_with folder layer found (Some bytes) = results.and_then
 
 unfoldable pub reads_layer : List ℕ → List ℕ → List (List ℕ) → Seen → Result (List (List ℕ)) BuildFault → Seen → Type 0
 reads_layer folder layer found = do
-  document ← reads_files (λ files. true) (λ files. contents_of (item_at files (layer_document folder layer)))
+  document ← reads_files (Only (layer_document folder layer)) (λ files. true)
+      (λ files. contents_of (item_at files (layer_document folder layer)))
   gives cause_of (found_with folder layer found document)
 
 -- the folders of those layers that are there while later buildpacks are built, ascending by name

@@ -18,7 +18,7 @@ use Rattle.run_docs.specs.Launch.{launch_in}
 use Rattle.run_docs.specs.Store.{store_in}
 use Rattle.run_docs.specs.declared.group.GroupRow.{GroupRow}
 use Rattle.run_docs.specs.declared.plan.PlanEntry.{PlanEntry}
-use Rattle.steps.specs.Frames.{folder_paths, is_free, touched}
+use Rattle.steps.specs.Keeping.{folder_paths, is_free, touched}
 use Rattle.steps.specs.Outside.{Seen}
 use Rattle.steps.specs.Results.{◌>>=◌, with_fault}
 use Rattle.cnb_build.specs.declared.fault.BuildFault.{BuildFault}

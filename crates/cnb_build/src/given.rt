@@ -2,11 +2,11 @@
 ghost use Rattle.std.specs.Prelude.{◌≡◌, ◌≤◌, IfErr, IfOk, IsTrue, length};
 ghost use Rattle.cnb_words.specs.Build.{KeepsLimits as WithinLimits};
 ghost use Rattle.cnb_env.specs.Base.{is_named_target};
-ghost use Rattle.cnb_env.specs.Files.{is_fit_platform, platform_files_in};
-ghost use Rattle.image_files.specs.Target.{is_fit_target, target_at};
+ghost use Rattle.cnb_env.specs.Files.{IsOfFolder, is_fit_platform, platform_env, platform_files_in};
+ghost use Rattle.image_files.specs.Target.{analyzed_document, is_fit_target, target_at};
 ghost use Rattle.run_docs.specs.Group.{group_in};
 ghost use Rattle.run_docs.specs.Plan.{is_plan_doc, plan_in};
-ghost use Rattle.steps.specs.Causes.{IsAnswer, IsGivenCause};
+ghost use Rattle.steps.specs.Causes.{IsAnswer, IsGivenCause, Only};
 ghost use Rattle.steps.specs.Outside.{seen};
 ghost use Rattle.cnb_build.specs.Given.{documents_of, frame_of, known_apis, needed, reads_given, reads_needed};
 ghost use Rattle.cnb_build.specs.Places.{KeepsLimits};
@@ -106,7 +106,7 @@ fn read_target<W: World>(
     work: &Path,
 ) -> Result<Option<Target>, BuildFault>
     requires { length work.now ≤ 4096 }
-    ensures step { reads_files (is_fit_target work.now) (target_at work.now)
+    ensures step { reads_files (Only (analyzed_document work.now)) (is_fit_target work.now) (target_at work.now)
         (seen W.World world.old) result (seen W.World world.new) }
     ensures named { IfOk result (λ target. IsTrue (is_named_target target)) }
 {
@@ -120,7 +120,8 @@ fn read_files<W: World>(
     platform: &Path,
 ) -> Result<List<EnvFile>, BuildFault>
     requires { length platform.now ≤ 4096 }
-    ensures step { reads_files (is_fit_platform platform.now) (platform_files_in platform.now)
+    ensures step { reads_files (IsOfFolder (platform_env platform.now)) (is_fit_platform platform.now)
+        (platform_files_in platform.now)
         (seen W.World world.old) result (seen W.World world.new) }
 {
     let files = platform_files(alloc, world, platform)?;

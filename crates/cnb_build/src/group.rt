@@ -4,7 +4,7 @@ ghost use Rattle.std.specs.List.{list_all};
 ghost use Rattle.cnb_env.specs.Base.{base_env};
 ghost use Rattle.run_docs.specs.Plan.{is_plan_doc};
 ghost use Rattle.steps.specs.Each.{for_each};
-ghost use Rattle.steps.specs.Frames.{Keeps};
+ghost use Rattle.steps.specs.Keeping.{Keeps};
 ghost use Rattle.steps.specs.Outside.{seen};
 ghost use Rattle.cnb_build.specs.Builds.{builds, builds_one, nothing_built};
 ghost use Rattle.cnb_build.specs.Outcome.{RunsBuilds, spares};

@@ -6,7 +6,7 @@ ghost use Rattle.cnb_env.specs.Files.{is_absent};
 ghost use Rattle.cnb_env.specs.Layers.{AreShort};
 ghost use Rattle.doc_files.specs.Reading.{names_at};
 ghost use Rattle.layer_paths.specs.Paths.{layer_document};
-ghost use Rattle.steps.specs.Causes.{IsAnswer, IsGivenCause};
+ghost use Rattle.steps.specs.Causes.{IsAnswer, IsGivenCause, Only};
 ghost use Rattle.steps.specs.Each.{for_each};
 ghost use Rattle.steps.specs.Outside.{seen};
 ghost use Rattle.cnb_build.specs.Layers.{found_with, reads_layer, reads_layers, reads_names, with_layer};
@@ -23,9 +23,9 @@ use layer_paths::{contents_path, layer_document, layers_among};
 use run_docs::{LayerDoc, read_layer};
 use std::alloc::Global;
 
-#[tactic(auto, unfolding(steps::specs::Steps::reads), using(steps::proofs::StepLemmas::allowed_by, crate::proofs::BuildSteps::call_counted, crate::proofs::BuildSteps::read_fails))]
+#[tactic(auto, unfolding(steps::specs::Steps::reads), using(steps::proofs::StepLemmas::allowed_by, crate::proofs::BuildSteps::call_counted, crate::proofs::BuildSteps::read_fails, crate::proofs::BuildSteps::fails_named))]
 fn kind_at<W: World>(alloc: Global, world: &mut W, path: &Path) -> Result<Kind, BuildFault>
-    ensures step { reads_files (λ files. true) (λ files. Ok (kind_of (item_at files path.now)))
+    ensures step { reads_files (Only path.now) (λ files. true) (λ files. Ok (kind_of (item_at files path.now)))
         (seen W.World world.old) result (seen W.World world.new) }
 {
     match world.kind(path) {
@@ -35,7 +35,7 @@ fn kind_at<W: World>(alloc: Global, world: &mut W, path: &Path) -> Result<Kind, 
 }
 
 fn names_in<W: World>(alloc: Global, world: &mut W, folder: &Path) -> Result<List<Text>, BuildFault>
-    ensures step { reads_files (λ files. can_list files folder.now) (λ files. names_at files folder.now)
+    ensures step { reads_files (Only folder.now) (λ files. can_list files folder.now) (λ files. names_at files folder.now)
         (seen W.World world.old) result (seen W.World world.new) }
 {
     let names = list_names(alloc, world, folder)?;
@@ -111,7 +111,7 @@ fn regular_file<W: World>(
     world: &mut W,
     path: &Path,
 ) -> Result<Option<Bytes>, BuildFault>
-    ensures step { reads_files (λ files. true) (λ files. contents_of (item_at files path.now))
+    ensures step { reads_files (Only path.now) (λ files. true) (λ files. contents_of (item_at files path.now))
         (seen W.World world.old) result (seen W.World world.new) }
 {
     let found = contents(alloc, world, path)?;

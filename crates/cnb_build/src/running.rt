@@ -1,6 +1,6 @@
 // Running the child that builds a buildpack.
 ghost use Rattle.std.specs.List.{All};
-ghost use Rattle.cnb_env.specs.Layers.{AreShort, are_fit_sets, build_env};
+ghost use Rattle.cnb_env.specs.Layers.{AreShort, IsOfSets, are_fit_sets, build_env};
 ghost use Rattle.cnb_env.specs.declared.layers.Phase.TheVariants.{Build};
 ghost use Rattle.steps.specs.Outside.{seen};
 ghost use Rattle.steps.specs.Steps.{runs_child};
@@ -28,7 +28,7 @@ fn environment<W: World>(
     done: &List<LayerSet>,
 ) -> Result<Env, BuildFault>
     requires { All AreShort done.now }
-    ensures step { reads_files (λ tree. are_fit_sets Build tree done.now)
+    ensures step { reads_files (IsOfSets done.now) (λ tree. are_fit_sets Build tree done.now)
         (build_env done.now (files_for frame.now clear_env) base.now)
         (seen W.World world.old) result (seen W.World world.new) }
 {

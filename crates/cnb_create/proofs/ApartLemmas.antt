@@ -13,7 +13,7 @@ use Rattle.cnb_world.specs.Effects.{is_slashed}
 use Rattle.cnb_world.specs.Path.{beside, front_of, joined, parent_of}
 use Rattle.cnb_world.specs.Tree.{folders_above, folders_from, is_root, is_under, is_within}
 use Rattle.cnb_world.proofs.EffectLemmas.{same_path, within_more}
-use Rattle.steps.specs.Frames.{folder_paths, is_free, touched}
+use Rattle.steps.specs.Keeping.{folder_paths, is_free, touched}
 use Rattle.cnb_create.specs.Apart.{are_apart}
 
 -- a path is another, or lies below it

@@ -88,7 +88,7 @@ built_counts : (target : Target) (words : CreateWords) (env : List Variable) (ch
     → Obeys AllCounts building.cause_of (builds_group target words env choice)
 unfolding builds_group
 built_counts target words env choice =
-    obeys_bind _ _ _ _ all_link (files_among building.cause_of _ (reads_counts building.cause_of _ _))
+    obeys_bind _ _ _ _ all_link (files_among building.cause_of _ (reads_counts building.cause_of _ _ _))
     (λ files. obeys_bind _ _ _ _ all_link (obeys_gives _ _ _ all_rest)
     (λ frame. builds_counts frame choice.plan choice.group))
 

@@ -47,11 +47,11 @@ use Rattle.run_docs.specs.Plan.{plan_in}
 use Rattle.run_docs.specs.declared.group.GroupRow.{GroupRow}
 use Rattle.shelf_set.specs.Caches.{in_world}
 use Rattle.steps.specs.Causes.{Cause}
-use Rattle.steps.specs.Frames.{Keeps, is_free, standing, touched}
+use Rattle.steps.specs.Keeping.{Keeps, is_free, standing, touched}
 use Rattle.steps.specs.Outside.{Seen}
 use Rattle.steps.specs.Steps.{LeavesSome, ◌>>=◌, gives, map_err, writes, yields}
-use Rattle.steps.proofs.FrameLaws.{Preserves, keeps_bind, keeps_gives, keeps_reads, keeps_same, keeps_told}
-use Rattle.steps.proofs.FrameLaws.{keeps_writes, keeps_yields, step_at}
+use Rattle.steps.proofs.KeepingLaws.{Preserves, keeps_bind, keeps_gives, keeps_reads, keeps_same, keeps_told}
+use Rattle.steps.proofs.KeepingLaws.{keeps_writes, keeps_yields, step_at}
 use Rattle.cnb_create.specs.Apart.{are_apart, are_folders_apart, image_document, is_document_apart, is_image_apart}
 use Rattle.cnb_create.specs.Creates.{build_frame, builds_group, chooses_group, creates, export_frame, exports_image}
 use Rattle.cnb_create.specs.Creates.{leaves_image, looks_at_images, phases_of, previous_name}
@@ -76,8 +76,8 @@ use Rattle.cnb_create.proofs.WorkLemmas.{document_apart, free_in_work, free_plan
 keeps_analyzes : (path store run : List ℕ) (previous : Option (List ℕ)) → Preserves path (analyzes store run previous)
 unfolding analyzes
 keeps_analyzes path store run previous =
-    keeps_bind path _ _ (keeps_reads path restoring.cause_of _ _)
-    (λ image. keeps_bind path _ _ (keeps_reads path restoring.cause_of _ _)
+    keeps_bind path _ _ (keeps_reads path restoring.cause_of _ _ _)
+    (λ image. keeps_bind path _ _ (keeps_reads path restoring.cause_of _ _ _)
     (λ known. keeps_gives path restoring.cause_of _))
 
 keeps_images : (path : List ℕ) (words : CreateWords) → is_free
@@ -154,7 +154,7 @@ keeps_group : (target : Target) (words : CreateWords) (env : List Variable) (cho
     → list_all is_row choice.group ≡ true → Preserves (image_document words) (builds_group target words env choice)
 unfolding builds_group
 keeps_group target words env choice away layers named =
-    keeps_bind (image_document words) _ _ (keeps_reads (image_document words) building.cause_of _ _)
+    keeps_bind (image_document words) _ _ (keeps_reads (image_document words) building.cause_of _ _ _)
     (λ files. in_known (λ (s : Seen). s) (image_document words) building.cause_of (build_frame target words env files) _
     (keeps_builds (image_document words) (build_frame target words env files) choice.plan choice.group
     (all_spared words.store words.image (build_frame target words env files) choice.group away layers named)))
@@ -354,7 +354,7 @@ keeps_built : (path : List ℕ) (target : Target) (words : CreateWords) (env : L
     → Preserves path (builds_group target words env choice)
 unfolding builds_group
 keeps_built path target words env choice plans layers =
-    keeps_bind path _ _ (keeps_reads path building.cause_of _ _)
+    keeps_bind path _ _ (keeps_reads path building.cause_of _ _ _)
     (λ files. in_known (λ (s : Seen). s) path building.cause_of (build_frame target words env files) _
     (keeps_builds path (build_frame target words env files) choice.plan choice.group
     (document_spared path (build_frame target words env files) choice.group plans layers)))

@@ -16,9 +16,9 @@ use Rattle.layer_flags.specs.declared.export.ExportRow.TheVariants as table
 use Rattle.layer_flags.specs.declared.flags.Flags.{Flags}
 use Rattle.cnb_env.specs.Files.{is_absent}
 use Rattle.steps.specs.Outside.{Seen}
-use Rattle.steps.specs.Frames.{standing}
-use Rattle.steps.proofs.FrameLaws.{Preserves, keeps_bind, keeps_gives, keeps_reads, keeps_same, keeps_told}
-use Rattle.steps.proofs.FrameLaws.{keeps_yields}
+use Rattle.steps.specs.Keeping.{standing}
+use Rattle.steps.proofs.KeepingLaws.{Preserves, keeps_bind, keeps_gives, keeps_reads, keeps_same, keeps_told}
+use Rattle.steps.proofs.KeepingLaws.{keeps_yields}
 use Rattle.tree_canon.specs.declared.node.Node.{Node}
 use Rattle.tree_store.specs.Steps.{looks_for_tree}
 use Rattle.tree_store.specs.Writing.{trees_of}
@@ -56,19 +56,19 @@ KeepsBoth {X} {Y} path step = (x : X) (y : Y) → Preserves path (step x y)
 module _ (path : List ℕ) where
   kept_as : {A : Type 0} (form : List ℕ → Result A DocFault) (at : List ℕ) → Preserves path (reads_as form at)
   unfolding reads_as
-  kept_as form at = keeps_bind path _ _ (keeps_reads path cause_of _ _) (λ found. keeps_gives path cause_of _)
+  kept_as form at = keeps_bind path _ _ (keeps_reads path cause_of _ _ _) (λ found. keeps_gives path cause_of _)
 
   kept_some : {A : Type 0} (form : List ℕ → Result A DocFault) (at : List ℕ) → Preserves path (reads_some form at)
   unfolding reads_some
-  kept_some form at = keeps_bind path _ _ (keeps_reads path cause_of _ _) (λ found. keeps_gives path cause_of _)
+  kept_some form at = keeps_bind path _ _ (keeps_reads path cause_of _ _ _) (λ found. keeps_gives path cause_of _)
 
   kept_run : (store name : List ℕ) → Preserves path (reads_run_image store name)
   unfolding reads_run_image
-  kept_run store name = keeps_reads path _ _ _
+  kept_run store name = keeps_reads path _ _ _ _
 
   kept_image : (store name : List ℕ) → Preserves path (reads_image store name)
   unfolding reads_image
-  kept_image store name = keeps_reads path _ _ _
+  kept_image store name = keeps_reads path _ _ _ _
 
   kept_rows : (store name : List ℕ) → Preserves path (reads_layers store name)
   unfolding reads_layers
@@ -122,11 +122,12 @@ module _ (path : List ℕ) where
 
   kept_listing : (absent : Bool) (folder : List ℕ) → Preserves path (lists_unless absent folder)
   kept_listing true folder = keeps_yields path _
-  kept_listing false folder = keeps_reads path cause_of _ _
+  kept_listing false folder = keeps_reads path cause_of _ _ _
 
   kept_names : (folder : List ℕ) → Preserves path (reads_names folder)
   unfolding reads_names
-  kept_names folder = keeps_bind path _ _ (keeps_reads path cause_of _ _) (λ kind. kept_listing (is_absent kind) folder)
+  kept_names folder = keeps_bind path _ _ (keeps_reads path cause_of _ _ _)
+      (λ kind. kept_listing (is_absent kind) folder)
 
   kept_layer_names : (folder : List ℕ) → Preserves path (reads_layer_names folder)
   unfolding reads_layer_names
@@ -135,16 +136,16 @@ module _ (path : List ℕ) where
 
   kept_layer_document : (at : List ℕ) → Preserves path (reads_layer at)
   unfolding reads_layer
-  kept_layer_document at = keeps_bind path _ _ (keeps_reads path cause_of _ _) (λ found. keeps_gives path cause_of _)
+  kept_layer_document at = keeps_bind path _ _ (keeps_reads path cause_of _ _ _) (λ found. keeps_gives path cause_of _)
 
   kept_look : (at : List ℕ) → Preserves path (looks_for_contents at)
   unfolding looks_for_contents
-  kept_look at = keeps_bind path _ _ (keeps_reads path cause_of _ _)
+  kept_look at = keeps_bind path _ _ (keeps_reads path cause_of _ _ _)
       (λ kind. keeps_gives path cause_of (there_by at kind))
 
   kept_tree_look : (store digest : List ℕ) → Preserves path (looks_for_tree store digest)
   unfolding looks_for_tree
-  kept_tree_look store digest = keeps_reads path _ _ _
+  kept_tree_look store digest = keeps_reads path _ _ _ _
 
   kept_stored : (store digest : List ℕ) → Preserves path (looks_for_stored store digest)
   unfolding looks_for_stored

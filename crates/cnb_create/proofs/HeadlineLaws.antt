@@ -129,8 +129,8 @@ never_given ChildFailed P h w never lacks = absurd h
 never_given OutOfMemory P h w never lacks = lacks refl
 never_given Decided P h w never lacks = never w
 
-same_frame : {F E : Type 0} (want made : F) → (let r : Result F E = Ok want in r) ≡ Ok made → made ≡ want
-same_frame want made h = cc
+as_wanted : {F E : Type 0} (want made : F) → (let r : Result F E = Ok want in r) ≡ Ok made → made ≡ want
+as_wanted want made h = cc
 
 -- builds behind calls that left the files
 runs_from : (frame : BuildFrame) (plan : List PlanEntry) (group : List GroupRow) (a b c : Seen) (done : Unit {0})
@@ -155,7 +155,7 @@ built_so target words env choice old new done (files, m1, reading, (frame, m2, g
       (subst (λ (s : Seen). RunsBuilds (build_frame target words env files) choice.plan choice.group s
       (Ok done) new) given.0
       (subst (λ (f : BuildFrame). RunsBuilds f choice.plan choice.group m2 (Ok done) new)
-      (same_frame {E = BuildFault} (build_frame target words env files) frame given.1)
+      (as_wanted {E = BuildFault} (build_frame target words env files) frame given.1)
       (runs_builds frame choice.plan choice.group m2 new (Ok done) building))),
 )
 
@@ -167,7 +167,7 @@ unfolding exports_image gives ◌>>=◌
 exported_so words analyzed group old new exported (frame, mid, given, making) =
     subst (λ (s : WorldAndCaches). exports true (export_frame words) group analyzed s (Ok exported) new) given.0
     (subst (λ (f : ExportFrame). exports true f group analyzed mid (Ok exported) new)
-    (same_frame {E = ExportFault} (export_frame words) frame given.1) making)
+    (as_wanted {E = ExportFault} (export_frame words) frame given.1) making)
 
 module _ (words : CreateWords) (env : List Variable) (path : is_path words.detect.work ≡ true) where
   pub makes_image : (old new : Surroundings) (text : List ℕ) → creates words env old (Ok text) new

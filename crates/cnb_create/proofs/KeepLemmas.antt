@@ -10,10 +10,10 @@ use Rattle.cnb_world.proofs.EffectLemmas.{emptied_elsewhere}
 use Rattle.shelf_set.specs.Caches.{Caches, WorldAndCaches, in_caches, in_world as in_cached_world}
 use Rattle.steps.specs.Causes.{Cause}
 use Rattle.steps.specs.Each.{for_each}
-use Rattle.steps.specs.Frames.{Keeps, is_free, standing, touched}
+use Rattle.steps.specs.Keeping.{Keeps, is_free, standing, touched}
 use Rattle.steps.specs.Outside.{Outside, Seen, SpawnerSeen}
 use Rattle.steps.specs.Steps.{◌>>=◌, gives, in_spawners, in_world, map_err, removes, yields}
-use Rattle.steps.proofs.FrameLaws.{Preserves, keeps_reads, keeps_same, keeps_then, part_left, step_at, written_free}
+use Rattle.steps.proofs.KeepingLaws.{Preserves, keeps_reads, keeps_same, keeps_then, part_left, step_at, written_free}
 use Rattle.tree_canon.specs.declared.node.Node.{Node}
 use Rattle.tree_store.specs.Around.{IsMadeAbove, KeptAround, LeavesAround}
 use Rattle.tree_store.specs.Steps.{LeavesPut, lays_tree, puts_tree, reads_tree}
@@ -235,4 +235,4 @@ keeps_puts path store tree free old new result h = keeps_same path old new h.run
 
 pub keeps_reads_tree : (path folder : List ℕ) → Preserves path (reads_tree folder)
 unfolding reads_tree
-keeps_reads_tree path folder = keeps_reads path _ _ _
+keeps_reads_tree path folder = keeps_reads path _ _ _ _

@@ -11,9 +11,9 @@ use Rattle.cnb_world.specs.declared.world.Item.TheVariants.{File}
 use Rattle.cnb_world.proofs.EffectLemmas.{emptied_elsewhere}
 use Rattle.cnb_world.proofs.Trees.{get-insert_bytes, get-remove_bytes}
 use Rattle.doc_files.proofs.Written.{long_by}
-use Rattle.steps.specs.Frames.{folder_paths, is_free, standing, touched}
+use Rattle.steps.specs.Keeping.{folder_paths, is_free, standing, touched}
 use Rattle.steps.specs.Outside.{Seen}
-use Rattle.steps.proofs.FrameLaws.{Preserves, keeps_same, made_free, step_at}
+use Rattle.steps.proofs.KeepingLaws.{Preserves, keeps_same, made_free, step_at}
 use Rattle.tree_store.specs.Steps.{LeavesFolder, folder_put, puts_folder}
 use Rattle.tree_store.specs.Store.{tree_path}
 use Rattle.tree_store.specs.Writing.{named_or_left, new_path, trees_of}

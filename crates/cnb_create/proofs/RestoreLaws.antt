@@ -7,8 +7,8 @@ use Rattle.layer_flags.specs.declared.restore.RestoreRow.TheVariants as part
 use Rattle.run_docs.specs.declared.group.GroupRow.{GroupRow}
 use Rattle.shelf_set.specs.declared.finding.Found.{Found}
 use Rattle.shelf_set.specs.declared.finding.Found.TheVariants as found
-use Rattle.steps.proofs.FrameLaws.{Preserves, keeps_bind, keeps_makes_folder, keeps_reads, keeps_told, keeps_writes}
-use Rattle.steps.proofs.FrameLaws.{keeps_yields}
+use Rattle.steps.proofs.KeepingLaws.{Preserves, keeps_bind, keeps_makes_folder, keeps_reads, keeps_told, keeps_writes}
+use Rattle.steps.proofs.KeepingLaws.{keeps_yields}
 use Rattle.steps.specs.Steps.{writes}
 use Rattle.tree_canon.specs.declared.node.Node.{Node}
 use Rattle.cnb_world.specs.Path.{joined}
@@ -134,7 +134,7 @@ module _ (layers path : List ℕ) (apart : are_apart layers path ≡ true) (long
       → KeepsIn cached_world path (restores store name group layers)
   unfolding restores restores_group
   keeps_restores store name group =
-      in_bind cached_world path _ _ (cached_in_world path _ (keeps_reads path cause_of _ _))
+      in_bind cached_world path _ _ (cached_in_world path _ (keeps_reads path cause_of _ _ _))
       (λ previous. in_bind cached_world path _ _ (cached_in_caches path _)
       (λ gathered. in_bind cached_world path _ _ (in_gives cached_world path cause_of
       (Ok (gathered_first gathered.unread gathered.gone)))

@@ -22,7 +22,7 @@ use Rattle.cnb_world.specs.Tree.{is_root, is_under, is_within}
 use Rattle.cnb_world.proofs.EffectLemmas.{same_path}
 use Rattle.image_files.specs.Paths.{document_name, image_path, images_folder}
 use Rattle.image_files.proofs.PathLemmas.{document_length}
-use Rattle.steps.specs.Frames.{is_free, touched}
+use Rattle.steps.specs.Keeping.{is_free, touched}
 use Rattle.cnb_create.specs.Apart.{are_apart}
 use Rattle.cnb_create.proofs.ApartLemmas.{Below, Inside, below_below, folder_not_root, inside_below, inside_deeper}
 use Rattle.cnb_create.proofs.ApartLemmas.{inside_joined, never, no_root, one_in_other, under, unless_within, untouched}

@@ -6,7 +6,7 @@ use Rattle.cnb_world.specs.Path.{joined}
 use Rattle.cnb_world.specs.Tree.{is_within}
 use Rattle.image_files.specs.Paths.{image_path}
 use Rattle.image_files.specs.Target.{analyzed_document}
-use Rattle.steps.specs.Frames.{is_free, touched}
+use Rattle.steps.specs.Keeping.{is_free, touched}
 
 -- neither path is the other, or lies below it
 abbrev pub are_apart : List ℕ → List ℕ → Bool

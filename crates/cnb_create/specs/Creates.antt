@@ -10,7 +10,7 @@ use Rattle.cnb_detect.specs.Detects.{chooses}
 use Rattle.cnb_detect.specs.Documents.{writes_choice}
 use Rattle.cnb_detect.specs.declared.refusal.DetectRefusal.{DetectRefusal}
 use Rattle.cnb_detect.specs.declared.target.TargetSource.TheVariants.{Given}
-use Rattle.cnb_env.specs.Files.{is_fit_platform, platform_files_in}
+use Rattle.cnb_env.specs.Files.{IsOfFolder, is_fit_platform, platform_env, platform_files_in}
 use Rattle.cnb_env.specs.declared.files.EnvFile.{EnvFile}
 use Rattle.cnb_export.specs.Command.{saves_readable_image}
 use Rattle.cnb_export.specs.Exports.{exports}
@@ -83,7 +83,8 @@ build_frame target words env files = record {
 unfoldable pub builds_group : Target → CreateWords → List Variable → Choice → Seen → Result (Unit {0}) BuildFault
     → Seen → Type 0
 builds_group target words env choice = do
-  files ← reads_files (is_fit_platform words.detect.platform) (platform_files_in words.detect.platform)
+  files ← reads_files (IsOfFolder (platform_env words.detect.platform)) (is_fit_platform words.detect.platform)
+      (platform_files_in words.detect.platform)
   frame ← gives building.cause_of (Ok (build_frame target words env files))
   builds frame choice.plan choice.group
 

@@ -3,7 +3,7 @@ ghost use Rattle.std.specs.Prelude.{◌≡◌, ◌≤◌, ℕ, List as Seq, IfOk
 ghost use Rattle.cnb_build.specs.Places as places;
 ghost use Rattle.cnb_build.specs.Reading.{reads_files};
 ghost use Rattle.cnb_build.specs.Refusals as building;
-ghost use Rattle.cnb_env.specs.Files.{is_fit_platform, platform_files_in};
+ghost use Rattle.cnb_env.specs.Files.{IsOfFolder, is_fit_platform, platform_env, platform_files_in};
 ghost use Rattle.cnb_words.specs.Create.{KeepsLimits};
 ghost use Rattle.image_docs.specs.Analyzed.{is_analyzed};
 ghost use Rattle.image_files.specs.Target.{target_of};
@@ -29,8 +29,8 @@ fn read_files<W: World>(
     platform: &Path,
 ) -> Result<List<EnvFile>, BuildFault>
     requires { length platform.now ≤ 4096 }
-    ensures step { reads_files (is_fit_platform platform.now) (platform_files_in platform.now)
-        (seen W.World world.old) result (seen W.World world.new) }
+    ensures step { reads_files (IsOfFolder (platform_env platform.now)) (is_fit_platform platform.now)
+        (platform_files_in platform.now) (seen W.World world.old) result (seen W.World world.new) }
 {
     let files = platform_files(alloc, world, platform)?;
     Ok(files)

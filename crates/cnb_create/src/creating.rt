@@ -2,7 +2,7 @@
 ghost use Rattle.std.specs.Prelude.{◌<◌, ◌^◌, IsTrue, OnErr, OnOk, length};
 ghost use Rattle.cnb_words.specs.Create.{KeepsLimits};
 ghost use Rattle.image_files.specs.Images.{ImageStands};
-ghost use Rattle.steps.specs.Frames.{Keeps};
+ghost use Rattle.steps.specs.Keeping.{Keeps};
 ghost use Rattle.steps.specs.Outside.{outside, seen};
 ghost use Rattle.cnb_create.specs.Apart.{image_document, is_image_apart};
 ghost use Rattle.cnb_create.specs.Creates.{creates};

@@ -39,7 +39,7 @@ order_causes order.Memory = refl
 
 target_counts : (source : TargetSource) (work : List ℕ) → Obeys FileCounts cause_of (takes_target source work)
 target_counts Document work = obeys_told FileCounts read_cause cause_of of_read_fault _ read_causes
-    (reads_counts read_cause _ _)
+    (reads_counts read_cause _ _ _)
 target_counts (Given target) work = obeys_gives _ _ _ files_rest
 
 pub prepares_counts : (source : TargetSource) (options : ChoiceWords) (env : List Variable)
@@ -47,14 +47,14 @@ pub prepares_counts : (source : TargetSource) (options : ChoiceWords) (env : Lis
 unfolding prepares
 prepares_counts source options env =
     obeys_bind _ _ _ _ files_link (obeys_told FileCounts read_cause cause_of of_read_fault _ read_causes
-    (reads_counts read_cause _ _))
+    (reads_counts read_cause _ _ _))
     (λ order. obeys_bind _ _ _ _ files_link (obeys_told FileCounts read_cause cause_of of_read_fault _ read_causes
-    (reads_counts read_cause _ _))
+    (reads_counts read_cause _ _ _))
     (λ catalog. obeys_bind _ _ _ _ files_link (obeys_told FileCounts order_cause cause_of of_order_fault _
     order_causes (obeys_gives _ _ _ files_rest))
     (λ groups. obeys_bind _ _ _ _ files_link (target_counts source options.work)
     (λ target. obeys_bind _ _ _ _ files_link (obeys_told FileCounts read_cause cause_of of_read_fault _
-    read_causes (reads_counts read_cause _ _))
+    read_causes (reads_counts read_cause _ _ _))
     (λ files. obeys_gives _ _ _ files_rest)))))
 
 pub written_choice_counts : (work : List ℕ) (choice : Choice) → Obeys FileCounts cause_of (writes_choice work choice)

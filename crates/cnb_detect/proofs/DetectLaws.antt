@@ -8,16 +8,16 @@ use Rattle.cnb_toml.specs.declared.target.Target.{Target}
 use Rattle.doc_files.specs.Faults.{read_cause}
 use Rattle.doc_files.specs.declared.fault.ReadFault.{ReadFault}
 use Rattle.doc_files.specs.declared.fault.ReadFault.TheVariants as read
-use Rattle.order_files.specs.Catalog.{catalog_in, is_fit_catalog}
+use Rattle.order_files.specs.Catalog.{IsOfCatalog, catalog_in, is_fit_catalog}
 use Rattle.order_files.specs.OrderFile.{order_file_in, is_fit_order_file}
 use Rattle.cnb_env.specs.declared.files.EnvFile.{EnvFile}
-use Rattle.cnb_env.specs.Files.{platform_files_in, is_fit_platform}
-use Rattle.image_files.specs.Target.{is_fit_target, target_at}
+use Rattle.cnb_env.specs.Files.{IsOfFolder, platform_env, platform_files_in, is_fit_platform}
+use Rattle.image_files.specs.Target.{analyzed_document, is_fit_target, target_at}
 use Rattle.bp_docs.specs.declared.descriptor.Descriptor.{Descriptor}
 use Rattle.bp_docs.specs.declared.descriptor.Entry.{Entry}
 use Rattle.order_expand.specs.Check.{checked, cause_of as order_cause}
 use Rattle.order_expand.specs.declared.order.OrderFault.{OrderFault}
-use Rattle.order_expand.specs.declared.order.OrderFault.TheVariants as order
+use Rattle.steps.specs.Causes.{Only}
 use Rattle.steps.specs.Outside.{Outside}
 use Rattle.steps.specs.Results.{with_fault}
 use Rattle.steps.specs.Steps.{gives, map_err, reads}
@@ -51,6 +51,7 @@ no_memory_to_choose source options env old =
       same = record { files = refl; runs = refl };
       answer = any_files old.world.files;
       cause = tt;
+      named = tt;
       allows = allowed_by (is_fit_order_file options.order) old.world.files old.world.misused old.world.misused refl;
       counts = files_rest.memory old.world;
     }))))
@@ -70,11 +71,11 @@ four true false c d = refl
 four false b c d = refl
 
 -- a file that is read, in the refusals of `detect`
-reads_one : {T : Type 0} (fits : Tree → Bool) (want : Tree → Result T ReadFault)
+reads_one : {T : Type 0} (Among : List ℕ → Type 0) (fits : Tree → Bool) (want : Tree → Result T ReadFault)
     → OnlyReads cause_of fits (λ files. with_fault of_read_fault (want files))
-    (map_err of_read_fault (reads read_cause fits want))
-reads_one fits want = reads_told read_cause cause_of of_read_fault fits want
-    (reads read_cause fits want) read_causes (reads_files read_cause fits want)
+    (map_err of_read_fault (reads read_cause Among fits want))
+reads_one Among fits want = reads_told read_cause cause_of of_read_fault fits want
+    (reads read_cause Among fits want) read_causes (reads_files read_cause Among fits want)
 
 checks_one : (want : Result ℕ OrderFault) → OnlyReads cause_of (λ files. true)
     (λ files. with_fault of_order_fault want) (map_err of_order_fault (gives order_cause want))
@@ -83,7 +84,7 @@ checks_one want = reads_told order_cause cause_of of_order_fault (λ files. true
 
 takes_one : (source : TargetSource) (work : List ℕ) → OnlyReads cause_of (is_fit_source source work)
     (target_in source work) (takes_target source work)
-takes_one Document work = reads_one (is_fit_target work) (target_at work)
+takes_one Document work = reads_one (Only (analyzed_document work)) (is_fit_target work) (target_at work)
 takes_one (Given target) work = gives_known cause_of (Ok (Some target))
 
 -- the preparation comes to what the files say, and where they fit, it makes no call on a path of the wrong kind
@@ -97,17 +98,18 @@ prepares_reads source options env old new result h =
     (record { order = order; catalog = catalog; frame = frame_of options env target files }) in
     let all = reads_then cause_of (is_fit_order_file options.order) _
     (λ files. with_fault of_read_fault (order_file_in options.order files)) _ _ _
-    (reads_one (is_fit_order_file options.order) (order_file_in options.order))
+    (reads_one (Only options.order) (is_fit_order_file options.order) (order_file_in options.order))
     (λ order. reads_then cause_of (is_fit_catalog options.buildpacks) _
     (λ files. with_fault of_read_fault (catalog_in options.buildpacks files)) _ _ _
-    (reads_one (is_fit_catalog options.buildpacks) (catalog_in options.buildpacks))
+    (reads_one (IsOfCatalog options.buildpacks) (is_fit_catalog options.buildpacks) (catalog_in options.buildpacks))
     (λ catalog. reads_then cause_of (λ files. true) _ (λ files. with_fault of_order_fault (checked catalog order))
     _ _ _ (checks_one (checked catalog order))
     (λ groups. reads_then cause_of (is_fit_source source options.work) _ (target_in source options.work) _ _ _
     (takes_one source options.work)
     (λ target. reads_then cause_of (is_fit_platform options.platform) (λ files. true)
     (λ files. with_fault of_read_fault (platform_files_in options.platform files)) _ _ _
-    (reads_one (is_fit_platform options.platform) (platform_files_in options.platform))
+    (reads_one (IsOfFolder (platform_env options.platform)) (is_fit_platform options.platform)
+    (platform_files_in options.platform))
     (λ files. gives_known cause_of (made order catalog target files)))))) old new result h in
     record {
       same = all.same;

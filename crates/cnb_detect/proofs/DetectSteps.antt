@@ -1,13 +1,8 @@
 -- What the calls of the layers below say, as steps.
 use Rattle.std.proofs.Common.{◌≡◌, refl, sym, ap, ℕ, Bool, List, map, Option, Some, None, Result, Ok, Err, arith}
-use Rattle.std.specs.Prelude.{IfSome}
-use Rattle.std.specs.Option.{option_map}
-use Rattle.cnb_world.specs.Calls.{MayMisuse, Rose}
+use Rattle.cnb_world.specs.Calls.{Rose}
 use Rattle.cnb_world.specs.Runs.{Ran}
-use Rattle.cnb_world.specs.Tree.{Tree}
 use Rattle.cnb_toml.specs.declared.names.Key.{Key}
-use Rattle.doc_files.specs.Faults.{read_cause}
-use Rattle.doc_files.specs.declared.fault.ReadFault.{ReadFault}
 use Rattle.order_expand.specs.Check.{cause_of as order_cause}
 use Rattle.order_expand.specs.declared.member.Member.{Member}
 use Rattle.order_expand.specs.declared.order.OrderFault.{OrderFault}
@@ -21,11 +16,9 @@ use Rattle.detect_core.specs.declared.chosen.Chosen.{Chosen}
 use Rattle.detect_core.specs.declared.chosen.Verdict.{Verdict}
 use Rattle.steps.specs.Asking.{AreSome, AskedBy, AsksBy, SpawnersBy, asks}
 use Rattle.steps.specs.Causes.{Cause, FileFailed, ChildFailed, OutOfMemory, Decided, FilesBy, IsAnswer, WhereDecided}
-use Rattle.cnb_world.specs.declared.world.World as world
 use Rattle.steps.specs.Outside.{SpawnerSeen, faults_of}
-use Rattle.steps.specs.Reading.{ReadFrame}
-use Rattle.steps.specs.Steps.{gives, reads}
-use Rattle.steps.proofs.StepLemmas.{given_fault, read_so}
+use Rattle.steps.specs.Steps.{gives}
+use Rattle.steps.proofs.StepLemmas.{given_fault}
 use Rattle.cnb_detect.specs.declared.preparation.Prepared.{Prepared}
 use Rattle.cnb_detect.specs.Choice.{as_choice, choice_by, choice_in, choice_of, jobs_of, listed_jobs}
 use Rattle.cnb_detect.specs.declared.refusal.DetectRefusal.TheVariants.{NoGroup}

@@ -14,7 +14,7 @@ use Rattle.cnb_world.proofs.Trees.{get-insert_bytes, get-remove_bytes, get-inser
 use Rattle.cnb_world.proofs.Trees.{bytes_eq-other}
 use Rattle.cnb_world.proofs.Folders.{get-folder_made_longer}
 use Rattle.doc_files.proofs.Written.{long_by, longer, no_root}
-use Rattle.steps.specs.Frames.{standing, IsOldOrNew}
+use Rattle.steps.specs.Keeping.{standing, IsOldOrNew}
 use Rattle.steps.specs.Steps.{LeavesSome}
 use Rattle.cnb_detect.specs.Documents.{group_document, plan_document}
 

@@ -17,7 +17,7 @@ use Rattle.detect_core.specs.Detection.{asked_members, fitting, reached}
 use Rattle.detect_core.proofs.OrderLemmas.{EachOnce, all_once, each_once, same_in_any_order}
 use Rattle.steps.specs.Asking.{AreSome, Asks, AskedBy, AsksBy, asks}
 use Rattle.steps.specs.Causes.{Cause, FileFailed, ChildFailed, OutOfMemory, Decided, IsAnswer, WhereDecided}
-use Rattle.steps.specs.Frames.{IsOldOrNew, standing}
+use Rattle.steps.specs.Keeping.{IsOldOrNew, standing}
 use Rattle.steps.specs.Outside.{Outside, Seen, SpawnerSeen}
 use Rattle.steps.specs.Results.{and_then}
 use Rattle.steps.specs.Steps.{◌>>=◌, gives, in_spawners, in_world, yields}

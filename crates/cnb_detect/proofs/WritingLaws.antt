@@ -9,10 +9,10 @@ use Rattle.cnb_world.specs.Whole.{can_write, written}
 use Rattle.run_docs.specs.Group.{group_in}
 use Rattle.run_docs.specs.Plan.{plan_in}
 use Rattle.steps.specs.Causes.{IsWriteCause}
-use Rattle.steps.specs.Frames.{IsOldOrNew, is_free, standing, touched}
+use Rattle.steps.specs.Keeping.{IsOldOrNew, is_free, standing, touched}
 use Rattle.steps.specs.Outside.{Seen}
 use Rattle.steps.specs.Steps.{◌>>=◌, LeavesUnwritten, Writes, writes, yields}
-use Rattle.steps.proofs.FrameLaws.{some_left, step_at, written_free}
+use Rattle.steps.proofs.KeepingLaws.{some_left, step_at, written_free}
 use Rattle.steps.proofs.ReadingLaws.{may_first}
 use Rattle.cnb_detect.specs.declared.refusal.DetectRefusal.{DetectRefusal}
 use Rattle.cnb_detect.specs.declared.refusal.DetectRefusal.TheVariants.{File, Memory}

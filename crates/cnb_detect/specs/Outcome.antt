@@ -17,7 +17,7 @@ use Rattle.run_docs.specs.Group.{group_in}
 use Rattle.run_docs.specs.Plan.{plan_in}
 use Rattle.steps.specs.Asking.{AskedBy}
 use Rattle.steps.specs.Causes.{IsAnswer}
-use Rattle.steps.specs.Frames.{IsOldOrNew, is_free, standing, touched}
+use Rattle.steps.specs.Keeping.{IsOldOrNew, is_free, standing, touched}
 use Rattle.steps.specs.Outside.{Outside}
 use Rattle.steps.specs.Results.{◌>>=◌, with_fault}
 use Rattle.cnb_detect.specs.declared.preparation.Prepared.{Prepared}

@@ -5,12 +5,13 @@ use Rattle.cnb_world.specs.Tree.{Tree}
 use Rattle.cnb_words.specs.declared.choice.ChoiceWords.{ChoiceWords}
 use Rattle.cnb_toml.specs.declared.target.Target.{Target}
 use Rattle.doc_files.specs.Faults.{read_cause}
-use Rattle.order_files.specs.Catalog.{catalog_in, is_fit_catalog}
+use Rattle.order_files.specs.Catalog.{IsOfCatalog, catalog_in, is_fit_catalog}
 use Rattle.order_files.specs.OrderFile.{order_file_in, is_fit_order_file}
 use Rattle.cnb_env.specs.declared.files.EnvFile.{EnvFile}
-use Rattle.cnb_env.specs.Files.{platform_files_in, is_fit_platform}
+use Rattle.cnb_env.specs.Files.{IsOfFolder, platform_env, platform_files_in, is_fit_platform}
 use Rattle.order_expand.specs.Check.{checked, cause_of as order_cause}
 use Rattle.detect_core.specs.declared.chosen.DetectFrame.{DetectFrame}
+use Rattle.steps.specs.Causes.{Only}
 use Rattle.steps.specs.Outside.{Seen}
 use Rattle.steps.specs.Steps.{◌>>=◌, gives, map_err, reads}
 use Rattle.cnb_detect.specs.declared.preparation.Prepared.{Prepared}
@@ -35,12 +36,14 @@ frame_of options env target files = record {
 unfoldable pub prepares : TargetSource → ChoiceWords → List Variable → Seen → Result Prepared DetectRefusal → Seen
     → Type 0
 prepares source options env = do
-  order ← map_err of_read_fault (reads read_cause (is_fit_order_file options.order) (order_file_in options.order))
-  catalog ← map_err of_read_fault (reads read_cause (is_fit_catalog options.buildpacks) (catalog_in options.buildpacks))
+  order ← map_err of_read_fault (reads read_cause (Only options.order) (is_fit_order_file options.order)
+      (order_file_in options.order))
+  catalog ← map_err of_read_fault (reads read_cause (IsOfCatalog options.buildpacks) (is_fit_catalog options.buildpacks)
+      (catalog_in options.buildpacks))
   groups ← map_err of_order_fault (gives order_cause (checked catalog order))
   target ← takes_target source options.work
-  files ← map_err of_read_fault (reads read_cause (is_fit_platform options.platform)
-      (platform_files_in options.platform))
+  files ← map_err of_read_fault (reads read_cause (IsOfFolder (platform_env options.platform))
+      (is_fit_platform options.platform) (platform_files_in options.platform))
   gives cause_of (Ok (record { order = order; catalog = catalog; frame = frame_of options env target files }))
 
 -- what stands where these steps read is of the kind that they need

@@ -4,7 +4,8 @@ use Rattle.cnb_world.specs.Tree.{Tree}
 use Rattle.cnb_env.specs.Base.{is_named_target}
 use Rattle.cnb_toml.specs.declared.target.Target.{Target}
 use Rattle.doc_files.specs.Faults.{read_cause}
-use Rattle.image_files.specs.Target.{is_fit_target, target_at}
+use Rattle.image_files.specs.Target.{analyzed_document, is_fit_target, target_at}
+use Rattle.steps.specs.Causes.{Only}
 use Rattle.steps.specs.Outside.{Seen}
 use Rattle.steps.specs.Results.{with_fault}
 use Rattle.steps.specs.Steps.{gives, map_err, reads}
@@ -14,7 +15,8 @@ use Rattle.cnb_detect.specs.declared.target.TargetSource.TheVariants.{Document, 
 use Rattle.cnb_detect.specs.Refusals.{cause_of, of_read_fault}
 
 abbrev pub reads_target : List ℕ → Seen → Result (Option Target) DetectRefusal → Seen → Type 0
-reads_target work = map_err of_read_fault (reads read_cause (is_fit_target work) (target_at work))
+reads_target work = map_err of_read_fault (reads read_cause (Only (analyzed_document work)) (is_fit_target work)
+    (target_at work))
 
 -- the target is read, where none is given
 abbrev pub takes_target : TargetSource → List ℕ → Seen → Result (Option Target) DetectRefusal → Seen → Type 0

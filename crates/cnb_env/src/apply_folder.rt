@@ -4,7 +4,7 @@ ghost use Rattle.std.specs.Option.{option_map};
 ghost use Rattle.cnb_world.specs.Calls.{MayMisuse};
 ghost use Rattle.steps.specs.Causes.{IsAnswer};
 ghost use Rattle.steps.specs.Outside.{seen};
-ghost use Rattle.steps.specs.Reading.{ReadFrame};
+ghost use Rattle.steps.specs.Reading.{LeavesUnchanged};
 ghost use Rattle.doc_files.specs.Faults.{read_cause};
 ghost use Rattle.doc_files.specs.Reading.{BlamesOne};
 ghost use Rattle.cnb_env.specs.Apply.{HasFirst, all_applied, applied_among, delimiter_in, is_delimiter_of};
@@ -78,7 +78,7 @@ pub fn env_folder<W: World>(
         IsAnswer read_cause (giving env.new result) (folder_applied files folder.now env.old)) }
     ensures refused { LeavesFirst result (W.tree world.old) folder.now env.old env.new }
     ensures blames { IfErr result (BlamesOne (IsOfFolder folder.now)) }
-    ensures frame { ReadFrame read_cause result (seen W.World world.old) (seen W.World world.new) }
+    ensures leaves { LeavesUnchanged read_cause result (seen W.World world.old) (seen W.World world.new) }
     ensures misused { MayMisuse (option_map (is_fit_folder folder.now) (W.tree world.old))
         (W.misused world.old) (W.misused world.new) }
 {

@@ -5,7 +5,7 @@ ghost use Rattle.std.specs.Option.{option_copied, option_map};
 ghost use Rattle.cnb_world.specs.Calls.{MayMisuse};
 ghost use Rattle.steps.specs.Causes.{IsAnswer};
 ghost use Rattle.steps.specs.Outside.{seen};
-ghost use Rattle.steps.specs.Reading.{ReadFrame};
+ghost use Rattle.steps.specs.Reading.{LeavesUnchanged};
 ghost use Rattle.doc_files.specs.Faults.{read_cause};
 ghost use Rattle.doc_files.specs.Reading.{BlamesOne};
 ghost use Rattle.cnb_env.specs.Layers.{AreShort, IsOfSets, are_fit_build_sets, build_env, with_platform};
@@ -39,7 +39,7 @@ pub fn build_env<W: World>(
     ensures reads { IfSome (W.tree world.old) (λ tree.
         IsAnswer read_cause result (build_env done.now (option_copied files.entry) base.now tree)) }
     ensures blames { IfErr result (BlamesOne (IsOfSets done.now)) }
-    ensures frame { ReadFrame read_cause result (seen W.World world.old) (seen W.World world.new) }
+    ensures leaves { LeavesUnchanged read_cause result (seen W.World world.old) (seen W.World world.new) }
     ensures misused { MayMisuse (option_map (λ tree. are_fit_build_sets tree done.now) (W.tree world.old))
         (W.misused world.old) (W.misused world.new) }
 {

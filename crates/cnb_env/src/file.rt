@@ -5,7 +5,7 @@ ghost use Rattle.cnb_world.specs.Path.{is_part, joined};
 ghost use Rattle.cnb_world.specs.Tree.{item_at};
 ghost use Rattle.steps.specs.Causes.{CountsFiles, IsAnswer};
 ghost use Rattle.steps.specs.Outside.{seen};
-ghost use Rattle.steps.specs.Reading.{ReadFrame};
+ghost use Rattle.steps.specs.Reading.{LeavesUnchanged};
 ghost use Rattle.doc_files.specs.Faults.{read_cause};
 ghost use Rattle.doc_files.specs.Reading.{BlamesOnly};
 ghost use Rattle.cnb_env.specs.Contents.{contents_of, file_at, file_of, value_in};
@@ -30,7 +30,7 @@ pub fn contents<W: World>(
     ensures reads { IfSome (W.tree world.old) (λ files.
         IsAnswer read_cause result (contents_of (item_at files path.now))) }
     ensures blames { IfErr result (BlamesOnly path.now) }
-    ensures frame { ReadFrame read_cause result (seen W.World world.old) (seen W.World world.new) }
+    ensures leaves { LeavesUnchanged read_cause result (seen W.World world.old) (seen W.World world.new) }
     ensures misused { W.misused world.new ≡ W.misused world.old }
 {
     match world.kind(path) {
@@ -104,7 +104,7 @@ pub(crate) fn read_file<W: World>(
     ensures reads { IfSome (W.tree world.old) (λ files.
         IsAnswer read_cause result (file_at naming files folder.now name.now)) }
     ensures blames { IfErr result (BlamesOnly (joined folder.now name.now)) }
-    ensures frame { ReadFrame read_cause result (seen W.World world.old) (seen W.World world.new) }
+    ensures leaves { LeavesUnchanged read_cause result (seen W.World world.old) (seen W.World world.new) }
     ensures misused { W.misused world.new ≡ W.misused world.old }
 {
     if is_ignored(naming, name.as_str()) {

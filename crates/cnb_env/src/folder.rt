@@ -5,7 +5,7 @@ ghost use Rattle.cnb_world.specs.Calls.{AreNames, MayMisuse};
 ghost use Rattle.cnb_world.specs.Tree.{can_list};
 ghost use Rattle.steps.specs.Causes.{IsAnswer};
 ghost use Rattle.steps.specs.Outside.{seen};
-ghost use Rattle.steps.specs.Reading.{ReadFrame};
+ghost use Rattle.steps.specs.Reading.{LeavesUnchanged};
 ghost use Rattle.doc_files.specs.Faults.{read_cause};
 ghost use Rattle.doc_files.specs.Reading.{BlamesOne};
 ghost use Rattle.cnb_env.specs.Contents.{with_found};
@@ -40,7 +40,7 @@ fn read_files<W: World>(
     ensures reads { IfSome (W.tree world.old) (λ files.
         IsAnswer read_cause result (files_of naming files folder.now names.now)) }
     ensures blames { IfErr result (BlamesOne (IsOfFolder folder.now)) }
-    ensures frame { ReadFrame read_cause result (seen W.World world.old) (seen W.World world.new) }
+    ensures leaves { LeavesUnchanged read_cause result (seen W.World world.old) (seen W.World world.new) }
     ensures misused { W.misused world.new ≡ W.misused world.old }
 {
     let mut files = List::new(alloc);
@@ -62,7 +62,7 @@ fn read_folder<W: World>(
     ensures reads { IfSome (W.tree world.old) (λ files.
         IsAnswer read_cause result (listed_files naming files folder.now)) }
     ensures blames { IfErr result (BlamesOne (IsOfFolder folder.now)) }
-    ensures frame { ReadFrame read_cause result (seen W.World world.old) (seen W.World world.new) }
+    ensures leaves { LeavesUnchanged read_cause result (seen W.World world.old) (seen W.World world.new) }
     ensures misused { MayMisuse (option_map (λ files. can_list files folder.now) (W.tree world.old))
         (W.misused world.old) (W.misused world.new) }
 {
@@ -89,7 +89,7 @@ pub(crate) fn folder_files<W: World>(
     ensures reads { IfSome (W.tree world.old) (λ files.
         IsAnswer read_cause result (folder_files_in naming folder.now files)) }
     ensures blames { IfErr result (BlamesOne (IsOfFolder folder.now)) }
-    ensures frame { ReadFrame read_cause result (seen W.World world.old) (seen W.World world.new) }
+    ensures leaves { LeavesUnchanged read_cause result (seen W.World world.old) (seen W.World world.new) }
     ensures misused { MayMisuse (option_map (is_fit_folder folder.now) (W.tree world.old))
         (W.misused world.old) (W.misused world.new) }
 {

@@ -5,7 +5,7 @@ ghost use Rattle.std.specs.Option.{option_copied, option_map};
 ghost use Rattle.cnb_world.specs.Calls.{MayMisuse};
 ghost use Rattle.steps.specs.Causes.{IsAnswer};
 ghost use Rattle.steps.specs.Outside.{seen};
-ghost use Rattle.steps.specs.Reading.{ReadFrame};
+ghost use Rattle.steps.specs.Reading.{LeavesUnchanged};
 ghost use Rattle.doc_files.specs.Faults.{read_cause};
 ghost use Rattle.doc_files.specs.Reading.{BlamesOne};
 ghost use Rattle.cnb_env.specs.Layers.{AreShort, IsOfSets, are_fit_launch_sets, launch_env};
@@ -38,7 +38,7 @@ pub fn launch_env<W: World>(
     ensures reads { IfSome (W.tree world.old) (λ tree.
         IsAnswer read_cause result (launch_env sets.now (option_copied kind.entry) base.now tree)) }
     ensures blames { IfErr result (BlamesOne (IsOfSets sets.now)) }
-    ensures frame { ReadFrame read_cause result (seen W.World world.old) (seen W.World world.new) }
+    ensures leaves { LeavesUnchanged read_cause result (seen W.World world.old) (seen W.World world.new) }
     ensures misused { MayMisuse (option_map (λ tree. are_fit_launch_sets (option_copied kind.entry) tree sets.now)
         (W.tree world.old)) (W.misused world.old) (W.misused world.new) }
 {

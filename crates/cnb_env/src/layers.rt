@@ -6,7 +6,7 @@ ghost use Rattle.cnb_world.specs.Calls.{MayMisuse};
 ghost use Rattle.cnb_world.specs.Path.{is_part, joined};
 ghost use Rattle.steps.specs.Causes.{IsAnswer};
 ghost use Rattle.steps.specs.Outside.{seen};
-ghost use Rattle.steps.specs.Reading.{ReadFrame};
+ghost use Rattle.steps.specs.Reading.{LeavesUnchanged};
 ghost use Rattle.doc_files.specs.Faults.{read_cause};
 ghost use Rattle.doc_files.specs.Reading.{BlamesOne};
 ghost use Rattle.cnb_env.specs.Files.{IsOfFolder, is_fit_folder};
@@ -54,7 +54,7 @@ fn apply_folder<W: World>(
     ensures reads { IfSome (W.tree world.old) (λ files.
         IsAnswer read_cause (giving env.new result) (folder_applied files (joined layer.now name.now) env.old)) }
     ensures blames { IfErr result (BlamesOne (IsOfFolder (joined layer.now name.now))) }
-    ensures frame { ReadFrame read_cause result (seen W.World world.old) (seen W.World world.new) }
+    ensures leaves { LeavesUnchanged read_cause result (seen W.World world.old) (seen W.World world.new) }
     ensures misused { MayMisuse (option_map (is_fit_folder (joined layer.now name.now)) (W.tree world.old))
         (W.misused world.old) (W.misused world.new) }
 {
@@ -76,7 +76,7 @@ fn apply_type_folder<W: World>(
     ensures reads { IfSome (W.tree world.old) (λ files. IsAnswer read_cause (giving env.new result)
         (each (folder_applied files) (type_folders kind.now folder.now) env.old)) }
     ensures blames { IfErr result (BlamesOne (IsOfFolderIn folder.now)) }
-    ensures frame { ReadFrame read_cause result (seen W.World world.old) (seen W.World world.new) }
+    ensures leaves { LeavesUnchanged read_cause result (seen W.World world.old) (seen W.World world.new) }
     ensures misused { MayMisuse (option_map (λ files. are_fit_folders files (type_folders kind.now folder.now))
         (W.tree world.old)) (W.misused world.old) (W.misused world.new) }
 {
@@ -98,7 +98,7 @@ fn apply_launch_folders<W: World>(
     ensures reads { IfSome (W.tree world.old) (λ files. IsAnswer read_cause (giving env.new result)
         (each (folder_applied files) (launch_folders kind.now layer.now) env.old)) }
     ensures blames { IfErr result (BlamesOne (IsOfLayer layer.now)) }
-    ensures frame { ReadFrame read_cause result (seen W.World world.old) (seen W.World world.new) }
+    ensures leaves { LeavesUnchanged read_cause result (seen W.World world.old) (seen W.World world.new) }
     ensures misused { MayMisuse (option_map (λ files. are_fit_folders files (launch_folders kind.now layer.now))
         (W.tree world.old)) (W.misused world.old) (W.misused world.new) }
 {
@@ -120,7 +120,7 @@ fn apply_phase_folders<W: World>(
     ensures reads { IfSome (W.tree world.old) (λ files. IsAnswer read_cause (giving env.new result)
         (each (folder_applied files) (phase_folders phase.now layer.now) env.old)) }
     ensures blames { IfErr result (BlamesOne (IsOfLayer layer.now)) }
-    ensures frame { ReadFrame read_cause result (seen W.World world.old) (seen W.World world.new) }
+    ensures leaves { LeavesUnchanged read_cause result (seen W.World world.old) (seen W.World world.new) }
     ensures misused { MayMisuse (option_map (λ files. are_fit_folders files (phase_folders phase.now layer.now))
         (W.tree world.old)) (W.misused world.old) (W.misused world.new) }
 {
@@ -142,7 +142,7 @@ fn apply_layer<W: World>(
     ensures reads { IfSome (W.tree world.old) (λ files.
         IsAnswer read_cause (giving env.new result) (layer_applied phase.now files layer.now env.old)) }
     ensures blames { IfErr result (BlamesOne (IsOfLayer layer.now)) }
-    ensures frame { ReadFrame read_cause result (seen W.World world.old) (seen W.World world.new) }
+    ensures leaves { LeavesUnchanged read_cause result (seen W.World world.old) (seen W.World world.new) }
     ensures misused { MayMisuse (option_map (λ files. is_fit_layer phase.now files layer.now) (W.tree world.old))
         (W.misused world.old) (W.misused world.new) }
 {
@@ -163,7 +163,7 @@ fn apply_layers<W: World>(
     ensures reads { IfSome (W.tree world.old) (λ files.
         IsAnswer read_cause (giving env.new result) (each (layer_applied phase.now files) layers.now env.old)) }
     ensures blames { IfErr result (BlamesOne (IsOfLayers layers.now)) }
-    ensures frame { ReadFrame read_cause result (seen W.World world.old) (seen W.World world.new) }
+    ensures leaves { LeavesUnchanged read_cause result (seen W.World world.old) (seen W.World world.new) }
     ensures misused { MayMisuse (option_map (λ files. is_fit_set phase.now files layers.now) (W.tree world.old))
         (W.misused world.old) (W.misused world.new) }
 {
@@ -185,7 +185,7 @@ fn apply_set<W: World>(
     ensures reads { IfSome (W.tree world.old) (λ files.
         IsAnswer read_cause (giving env.new result) (set_applied phase.now files layers.now env.old)) }
     ensures blames { IfErr result (BlamesOne (IsOfLayers layers.now)) }
-    ensures frame { ReadFrame read_cause result (seen W.World world.old) (seen W.World world.new) }
+    ensures leaves { LeavesUnchanged read_cause result (seen W.World world.old) (seen W.World world.new) }
     ensures misused { MayMisuse (option_map (λ files. is_fit_set phase.now files layers.now) (W.tree world.old))
         (W.misused world.old) (W.misused world.new) }
 {
@@ -207,7 +207,7 @@ pub(crate) fn apply_sets<W: World>(
     ensures reads { IfSome (W.tree world.old) (λ files.
         IsAnswer read_cause (giving env.new result) (each (set_applied phase.now files) sets.now env.old)) }
     ensures blames { IfErr result (BlamesOne (IsOfSets sets.now)) }
-    ensures frame { ReadFrame read_cause result (seen W.World world.old) (seen W.World world.new) }
+    ensures leaves { LeavesUnchanged read_cause result (seen W.World world.old) (seen W.World world.new) }
     ensures misused { MayMisuse (option_map (λ files. are_fit_sets phase.now files sets.now) (W.tree world.old))
         (W.misused world.old) (W.misused world.new) }
 {

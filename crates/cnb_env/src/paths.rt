@@ -6,7 +6,7 @@ ghost use Rattle.cnb_world.specs.Path.{is_part};
 ghost use Rattle.cnb_world.specs.Tree.{is_folder, item_at};
 ghost use Rattle.steps.specs.Causes.{IsAnswer};
 ghost use Rattle.steps.specs.Outside.{seen};
-ghost use Rattle.steps.specs.Reading.{ReadFrame};
+ghost use Rattle.steps.specs.Reading.{LeavesUnchanged};
 ghost use Rattle.doc_files.specs.Faults.{read_cause};
 ghost use Rattle.doc_files.specs.Reading.{BlamesOne, FailsAt};
 ghost use Rattle.cnb_env.specs.Layers.{FailsOne, IsOfLayers, IsShort, folders_at, giving, separated, standing_at};
@@ -34,7 +34,7 @@ fn push_standing<W: World>(
     ensures found { IfSome (W.tree world.old) (λ files. OnOk result (paths.new ≡ paths.old ++ filter (λ p.
         is_folder (item_at files p)) (path ∷ []))) }
     ensures fails { IfErr result (FailsAt path) }
-    ensures frame { ReadFrame read_cause result (seen W.World world.old) (seen W.World world.new) }
+    ensures leaves { LeavesUnchanged read_cause result (seen W.World world.old) (seen W.World world.new) }
     ensures misused { W.misused world.new ≡ W.misused world.old }
 {
     if is_folder(alloc, world, &path)? {
@@ -55,7 +55,7 @@ fn standing<W: World>(
     ensures found { IfSome (W.tree world.old) (λ files. IfOk result (λ paths.
         paths ≡ standing_at files layers.now name.now)) }
     ensures fails { IfErr result (FailsOne (IsOfLayers layers.now)) }
-    ensures frame { ReadFrame read_cause result (seen W.World world.old) (seen W.World world.new) }
+    ensures leaves { LeavesUnchanged read_cause result (seen W.World world.old) (seen W.World world.new) }
     ensures misused { W.misused world.new ≡ W.misused world.old }
 {
     let mut paths = List::new(alloc);
@@ -98,7 +98,7 @@ fn folders<W: World>(
     ensures found { IfSome (W.tree world.old) (λ files. IfOk result (λ text.
         text ≡ folders_at files layers.now name.now)) }
     ensures fails { IfErr result (FailsOne (IsOfLayers layers.now)) }
-    ensures frame { ReadFrame read_cause result (seen W.World world.old) (seen W.World world.new) }
+    ensures leaves { LeavesUnchanged read_cause result (seen W.World world.old) (seen W.World world.new) }
     ensures misused { W.misused world.new ≡ W.misused world.old }
 {
     let paths = standing(alloc, world, layers, name)?;
@@ -134,7 +134,7 @@ fn put_folders<W: World>(
     ensures found { IfSome (W.tree world.old) (λ files. OnOk result (env.new ≡
         with_front variable.now (folders_at files layers.now name.now) env.old)) }
     ensures fails { IfErr result (FailsOne (IsOfLayers layers.now)) }
-    ensures frame { ReadFrame read_cause result (seen W.World world.old) (seen W.World world.new) }
+    ensures leaves { LeavesUnchanged read_cause result (seen W.World world.old) (seen W.World world.new) }
     ensures misused { W.misused world.new ≡ W.misused world.old }
 {
     let folders = folders(alloc, world, layers, name)?;
@@ -153,7 +153,7 @@ fn put_launch_paths<W: World>(
     ensures found { IfSome (W.tree world.old) (λ files.
         OnOk result (env.new ≡ with_launch_paths files layers.now env.old)) }
     ensures fails { IfErr result (FailsOne (IsOfLayers layers.now)) }
-    ensures frame { ReadFrame read_cause result (seen W.World world.old) (seen W.World world.new) }
+    ensures leaves { LeavesUnchanged read_cause result (seen W.World world.old) (seen W.World world.new) }
     ensures misused { W.misused world.new ≡ W.misused world.old }
 {
     put_folders(alloc, world, env, layers, "bin", "PATH")?;
@@ -171,7 +171,7 @@ fn put_build_paths<W: World>(
     ensures found { IfSome (W.tree world.old) (λ files.
         OnOk result (env.new ≡ with_build_paths files layers.now env.old)) }
     ensures fails { IfErr result (FailsOne (IsOfLayers layers.now)) }
-    ensures frame { ReadFrame read_cause result (seen W.World world.old) (seen W.World world.new) }
+    ensures leaves { LeavesUnchanged read_cause result (seen W.World world.old) (seen W.World world.new) }
     ensures misused { W.misused world.new ≡ W.misused world.old }
 {
     put_folders(alloc, world, env, layers, "bin", "PATH")?;
@@ -194,7 +194,7 @@ pub(crate) fn put_paths<W: World>(
     ensures found { IfSome (W.tree world.old) (λ files.
         OnOk result (env.new ≡ with_paths when files layers.now env.old)) }
     ensures fails { IfErr result (FailsOne (IsOfLayers layers.now)) }
-    ensures frame { ReadFrame read_cause result (seen W.World world.old) (seen W.World world.new) }
+    ensures leaves { LeavesUnchanged read_cause result (seen W.World world.old) (seen W.World world.new) }
     ensures misused { W.misused world.new ≡ W.misused world.old }
 {
     match when {
@@ -216,7 +216,7 @@ pub fn layer_paths<W: World>(
         IsAnswer read_cause (giving env.new result) (Ok (with_paths when files layers.now env.old))) }
     ensures refused { OnErr result (env.new ≡ env.old) }
     ensures blames { IfErr result (BlamesOne (IsOfLayers layers.now)) }
-    ensures frame { ReadFrame read_cause result (seen W.World world.old) (seen W.World world.new) }
+    ensures leaves { LeavesUnchanged read_cause result (seen W.World world.old) (seen W.World world.new) }
     ensures misused { W.misused world.new ≡ W.misused world.old }
 {
     let mut changed = env.copy()?;

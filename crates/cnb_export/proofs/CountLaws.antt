@@ -145,7 +145,7 @@ read_needed_counts : {A : Type 0} (form : List ℕ → Result A DocFault) (folde
 unfolding reads_needed
 read_needed_counts form folder name =
     obeys_bind _ _ _ _ files_link (obeys_gives _ _ _ files_rest)
-    (λ path. obeys_bind _ _ _ _ files_link (reads_counts cause_of _ _) (λ found. obeys_gives _ _ _ files_rest))
+    (λ path. obeys_bind _ _ _ _ files_link (reads_counts cause_of _ _ _) (λ found. obeys_gives _ _ _ files_rest))
 
 read_given_counts : (words : ExportWords) → Obeys FileCounts refusal_cause (reads_given words)
 unfolding reads_given reads_group

@@ -48,11 +48,11 @@ of_image step h = decided_told images.cause_of cause_of of_image_fault step imag
 
 one_run : (store name : List ℕ) → AreDecided images.cause_of (reads_run_image store name)
 unfolding reads_run_image
-one_run store name = decided_reads images.cause_of _ _
+one_run store name = decided_reads images.cause_of _ _ _
 
 one_document : (store name : List ℕ) → AreDecided images.cause_of (reads_image store name)
 unfolding reads_image
-one_document store name = decided_reads images.cause_of _ _
+one_document store name = decided_reads images.cause_of _ _ _
 
 one_rows : (store name : List ℕ) → AreDecided cause_of (reads_layers store name)
 unfolding reads_layers

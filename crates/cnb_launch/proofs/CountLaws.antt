@@ -70,7 +70,7 @@ lay_image_counts : (store root : List ℕ) (doc : ImageDoc) → Obeys FileCounts
 unfolding lays_image
 lay_image_counts store root doc =
     obeys_bind FileCounts cause_of _ _ files_link
-    (obeys_told FileCounts _ cause_of _ _ read_same (reads_counts read_cause _ _))
+    (obeys_told FileCounts _ cause_of _ _ read_same (reads_counts read_cause _ _ _))
     (λ absent. obeys_bind FileCounts cause_of _ _ files_link (obeys_gives FileCounts cause_of _ files_rest)
     (λ free. obeys_bind FileCounts cause_of _ _ files_link
     (obeys_each FileCounts cause_of _ files_link files_rest (row_counts store root) doc.rows tt)
@@ -94,6 +94,6 @@ unpack_counts options =
 pub launch_counts : (options : LaunchWords) (env : List Variable)
     → Obeys AllCounts cause_of (launches_command options env)
 launch_counts options env =
-    command_obeys AllCounts all_link all_rest (λ A fits want. files_among cause_of _
-    (obeys_told FileCounts read_cause cause_of of_read_fault _ read_same (reads_counts read_cause fits want)))
+    command_obeys AllCounts all_link all_rest (λ A Among fits want. files_among cause_of _
+    (obeys_told FileCounts read_cause cause_of of_read_fault _ read_same (reads_counts read_cause Among fits want)))
     (runs_child_counts cause_of) options env

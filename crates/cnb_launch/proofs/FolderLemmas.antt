@@ -1,7 +1,7 @@
 -- What is wanted of folders: lengths, and how far a loop has come.
 use Rattle.std.proofs.Common.{◌≡◌, ◌≢◌, ◌∙◌, refl, sym, ap, subst, ℕ, ◌+◌, ◌≤◌, ◌<◌, nat_le, nat_lt, Bool, true, false}
 use Rattle.std.proofs.Common.{not, IsTrue, List, [], ◌∷◌, ◌++◌, append_assoc, append-nil, length, codes, get_or, arith}
-use Rattle.std.proofs.Common.{length-append, Option, Some, None, Result, Ok, Err}
+use Rattle.std.proofs.Common.{length-append, Option, Some, None, Result, Ok, Err, inl, inr}
 use Rattle.std.specs.Prelude.{◌&&◌, if◌then◌else◌, IfSome}
 use Rattle.std.specs.List.{All, list_all}
 use Rattle.std.specs.Str.{bytes_eq}
@@ -12,13 +12,15 @@ use Rattle.cnb_world.specs.Tree.{Tree}
 use Rattle.cnb_world.specs.declared.world.FileFault.{FileFault}
 use Rattle.cnb_world.specs.declared.world.FileFault.TheVariants as file_fault
 use Rattle.cnb_toml.specs.Names.{is_process_type}
+use Rattle.cnb_env.specs.Files.{IsOfFolder}
 use Rattle.cnb_env.proofs.TypeLemmas.{type_is_part}
 use Rattle.steps.specs.Causes.{Decided, IsAnswer}
 use Rattle.doc_files.specs.Faults.{read_cause}
-use Rattle.doc_files.specs.Reading.{Blames}
+use Rattle.doc_files.specs.Reading.{Blames, BlamesOne, FailsAt}
 use Rattle.doc_files.specs.declared.fault.ReadFault.{ReadFault}
 use Rattle.doc_files.specs.declared.fault.ReadFault.TheVariants.{File, Document, Limit, Memory}
-use Rattle.cnb_launch.specs.Folders.{AreWithin, all_in, in_front, wanted_in}
+use Rattle.doc_files.proofs.Blame.{blames_among, blames_more, fails_among}
+use Rattle.cnb_launch.specs.Folders.{AreWithin, IsOfFolders, all_in, in_front, wanted_in}
 use Rattle.cnb_launch.specs.declared.folders.Wanted.{Wanted}
 
 joined_by : (root : Bool) (path name : List ℕ) → length ((if root then path else path ++ 47 ∷ []) ++ name)
@@ -110,6 +112,30 @@ fails_free (File path) want h = tt
 fails_free Memory want h = tt
 fails_free (Document path fault) want h = absurd (h refl)
 fails_free (Limit kind) want h = absurd (h refl)
+
+-- which path it names: the folder, one right in it, or one of a folder among others
+pub blamed_itself : (folder : List ℕ) (fault : FileFault) (refusal : ReadFault) → Blames folder fault refusal
+    → BlamesOne (IsOfFolder folder) refusal
+blamed_itself folder fault refusal h = blames_among folder (IsOfFolder folder) (λ blamed is. inl is) fault refusal h
+
+pub fails_itself : (folder : List ℕ) (fault : ReadFault) → FailsAt folder fault → BlamesOne (IsOfFolder folder) fault
+fails_itself folder fault h = fails_among folder (IsOfFolder folder) (λ blamed is. inl is) fault h
+
+pub blamed_below : (folder name other path : List ℕ) (fault : FileFault) (refusal : ReadFault)
+    → path ≡ joined folder other → other ≡ name → IsTrue (is_part name) → Blames path fault refusal
+    → BlamesOne (IsOfFolder folder) refusal
+blamed_below folder name other path fault refusal below same part h = blames_among path (IsOfFolder folder)
+    (λ blamed is. inr (name, part, is ∙ below ∙ ap (joined folder) same)) fault refusal h
+
+pub among_folders : (folders : List (List ℕ)) (i : ℕ) (folder : List ℕ) → i < length folders
+    → folder ≡ get_or folders i folder → (fault : ReadFault) → BlamesOne (IsOfFolder folder) fault
+    → BlamesOne (IsOfFolders folders) fault
+among_folders folders i folder lt is fault h = blames_more (IsOfFolder folder) (IsOfFolders folders)
+    (λ path of. (folder, (i, (lt, is)), of)) fault h
+
+pub folders_as : (folders other : List (List ℕ)) → folders ≡ other → (fault : ReadFault)
+    → BlamesOne (IsOfFolders folders) fault → BlamesOne (IsOfFolders other) fault
+folders_as folders other same fault h = subst (λ fs. BlamesOne (IsOfFolders fs) fault) same h
 
 -- ---- one folder after another
 

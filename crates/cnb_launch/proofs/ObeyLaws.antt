@@ -18,8 +18,8 @@ use Rattle.cnb_launch.specs.Planning.{launches, plans, prepares, prepares_in, pr
 use Rattle.cnb_launch.specs.declared.choosing.ChosenProcess.{ChosenProcess}
 
 module _ (R : Relation Seen) (links : Links R) (rests : Rests R)
-    (read : (A : Type 0) (fits : Tree → Bool) (want : Tree → Result A ReadFault)
-    → Obeys R cause_of (map_err of_read_fault (reads read_cause fits want)))
+    (read : (A : Type 0) (Among : List ℕ → Type 0) (fits : Tree → Bool) (want : Tree → Result A ReadFault)
+    → Obeys R cause_of (map_err of_read_fault (reads read_cause Among fits want)))
     (run : (job : ChildJob) → Obeys R cause_of (runs_child cause_of job)) where
   exec_obeys : (dir program : List ℕ) (env : List Variable) → Obeys R cause_of (runs_exec dir program env)
   unfolding runs_exec
@@ -34,19 +34,19 @@ module _ (R : Relation Seen) (links : Links R) (rests : Rests R)
   in_obeys : (root : List ℕ) (env : List Variable) (chosen : ChosenProcess) (sets : List (List (List ℕ)))
       → Obeys R cause_of (prepares_in root env chosen sets)
   unfolding prepares_in
-  in_obeys root env chosen sets = obeys_bind R cause_of _ _ links (read _ _ _)
-      (λ start. obeys_bind R cause_of _ _ links (read _ _ _) (λ execs. obeys_gives R cause_of _ rests))
+  in_obeys root env chosen sets = obeys_bind R cause_of _ _ links (read _ _ _ _)
+      (λ start. obeys_bind R cause_of _ _ links (read _ _ _ _) (λ execs. obeys_gives R cause_of _ rests))
 
   of_obeys : (root : List ℕ) (call : Call) (env : List Variable) (doc : LaunchDoc)
       → Obeys R cause_of (prepares_of root call env doc)
   unfolding prepares_of
   of_obeys root call env doc =
       obeys_bind R cause_of _ _ links (obeys_gives R cause_of _ rests)
-      (λ chosen. obeys_bind R cause_of _ _ links (read _ _ _) (λ sets. in_obeys root env chosen sets))
+      (λ chosen. obeys_bind R cause_of _ _ links (read _ _ _ _) (λ sets. in_obeys root env chosen sets))
 
   prepare_obeys : (root : List ℕ) (call : Call) (env : List Variable) → Obeys R cause_of (prepares root call env)
   unfolding prepares
-  prepare_obeys root call env = obeys_bind R cause_of _ _ links (read _ _ _) (λ doc. of_obeys root call env doc)
+  prepare_obeys root call env = obeys_bind R cause_of _ _ links (read _ _ _ _) (λ doc. of_obeys root call env doc)
 
   pub plan_obeys : (root : List ℕ) (call : Call) (env : List Variable) → Obeys R cause_of (plans root call env)
   unfolding plans

@@ -9,14 +9,16 @@ use Rattle.cnb_world.specs.Tree.{Tree}
 use Rattle.cnb_world.specs.declared.env.Variable.{Variable}
 use Rattle.cnb_world.specs.declared.world.World as world
 use Rattle.cnb_toml.specs.declared.names.Key.{Key}
-use Rattle.cnb_env.specs.Layers.{AreShort, IsShort, are_fit_launch_sets, launch_env}
+use Rattle.cnb_env.specs.Layers.{AreShort, IsOfSets, IsShort, are_fit_launch_sets, launch_env}
 use Rattle.doc_files.specs.Faults.{read_cause}
+use Rattle.doc_files.specs.Reading.{BlamesOne}
 use Rattle.doc_files.specs.declared.fault.ReadFault.{ReadFault}
+use Rattle.doc_files.proofs.Blame.{all_named}
 use Rattle.steps.specs.Causes.{IsAnswer, IsGivenCause}
 use Rattle.steps.specs.Outside.{Seen, seen}
-use Rattle.steps.specs.Reading.{ReadFrame}
+use Rattle.steps.specs.Reading.{LeavesUnchanged}
 use Rattle.steps.specs.Steps.{gives, reads}
-use Rattle.steps.proofs.ReadingLaws.{read_framed}
+use Rattle.steps.proofs.ReadingLaws.{read_unchanged}
 use Rattle.cnb_launch.specs.Exec.{runs_all, runs_execs}
 use Rattle.cnb_launch.specs.Faults.{cause_of}
 use Rattle.cnb_launch.specs.Folders.{AreWithin, all_exec_folders, all_in, set_folders}
@@ -26,42 +28,43 @@ use Rattle.cnb_launch.specs.declared.folders.Wanted.TheVariants.{Folders, Files}
 
 -- ---- files that were read
 
-pub read_step : {W T : Type 0} (ghosts : world.Ghosts W) (fits : Tree → Bool) (want : Tree → Result T ReadFault)
-    (result : Result T ReadFault) (old new : W)
+pub read_step : {W T : Type 0} (ghosts : world.Ghosts W) (Among : List ℕ → Type 0) (fits : Tree → Bool)
+    (want : Tree → Result T ReadFault) (result : Result T ReadFault) (old new : W)
     → IfSome (ghosts.tree old) (λ files. IsAnswer read_cause result (want files))
-    → ReadFrame read_cause result (seen ghosts old) (seen ghosts new)
+    → LeavesUnchanged read_cause result (seen ghosts old) (seen ghosts new) → IfErr result (BlamesOne Among)
     → MayMisuse (option_map fits (ghosts.tree old)) (ghosts.misused old) (ghosts.misused new)
-    → reads read_cause fits want (seen ghosts old) result (seen ghosts new)
-read_step ghosts fits want result old new answer frame allows = read_framed read_cause fits want result answer
-    frame allows
+    → reads read_cause Among fits want (seen ghosts old) result (seen ghosts new)
+read_step ghosts Among fits want result old new answer left blames allows = read_unchanged read_cause Among fits
+    want result answer left (all_named Among result blames) allows
 
 -- the environment, by the type that was handed on
 pub env_step : {W : Type 0} (ghosts : world.Ghosts W) (kind handed : Option (List ℕ))
     (sets : List (List (List ℕ))) (base : List Variable) (result : Result (List Variable) ReadFault) (old new : W)
     → handed ≡ kind
     → IfSome (ghosts.tree old) (λ files. IsAnswer read_cause result (launch_env sets handed base files))
-    → ReadFrame read_cause result (seen ghosts old) (seen ghosts new)
+    → LeavesUnchanged read_cause result (seen ghosts old) (seen ghosts new) → IfErr result (BlamesOne (IsOfSets sets))
     → MayMisuse (option_map (λ files. are_fit_launch_sets handed files sets) (ghosts.tree old))
     (ghosts.misused old) (ghosts.misused new)
-    → reads read_cause (λ files. are_fit_launch_sets kind files sets) (launch_env sets kind base)
+    → reads read_cause (IsOfSets sets) (λ files. are_fit_launch_sets kind files sets) (launch_env sets kind base)
     (seen ghosts old) result (seen ghosts new)
-env_step ghosts kind handed sets base result old new same answer frame allows =
-    let P : Option (List ℕ) → Type 0 = λ k. reads read_cause (λ files. are_fit_launch_sets k files sets)
-    (launch_env sets k base) (seen ghosts old) result (seen ghosts new) in
-    subst P same (read_step ghosts (λ files. are_fit_launch_sets handed files sets)
-    (launch_env sets handed base) result old new answer frame allows)
+env_step ghosts kind handed sets base result old new same answer left blames allows =
+    let P : Option (List ℕ) → Type 0 = λ k. reads read_cause (IsOfSets sets)
+    (λ files. are_fit_launch_sets k files sets) (launch_env sets k base) (seen ghosts old) result
+    (seen ghosts new) in
+    subst P same (read_step ghosts (IsOfSets sets) (λ files. are_fit_launch_sets handed files sets)
+    (launch_env sets handed base) result old new answer left blames allows)
 
 pub env_refused : {W : Type 0} (ghosts : world.Ghosts W) (kind handed : Option (List ℕ))
     (sets : List (List (List ℕ))) (base : List Variable) (fault : ReadFault) (old new : W) → handed ≡ kind
     → IfSome (ghosts.tree old) (λ files. IsAnswer {A = List Variable} read_cause (Err fault)
-    (launch_env sets handed base files)) → ReadFrame {A = List Variable} read_cause (Err fault)
-    (seen ghosts old) (seen ghosts new)
+    (launch_env sets handed base files)) → LeavesUnchanged {A = List Variable} read_cause (Err fault)
+    (seen ghosts old) (seen ghosts new) → BlamesOne (IsOfSets sets) fault
     → MayMisuse (option_map (λ files. are_fit_launch_sets handed files sets) (ghosts.tree old))
     (ghosts.misused old) (ghosts.misused new)
-    → reads read_cause (λ files. are_fit_launch_sets kind files sets) (launch_env sets kind base)
+    → reads read_cause (IsOfSets sets) (λ files. are_fit_launch_sets kind files sets) (launch_env sets kind base)
     (seen ghosts old) (Err fault) (seen ghosts new)
-env_refused ghosts kind handed sets base fault old new same answer frame allows = env_step ghosts kind handed sets
-    base (Err fault) old new same answer frame allows
+env_refused ghosts kind handed sets base fault old new same answer left blames allows = env_step ghosts kind
+    handed sets base (Err fault) old new same answer left blames allows
 
 -- ---- folders that were computed
 

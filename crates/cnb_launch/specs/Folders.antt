@@ -1,7 +1,7 @@
 -- What stands in folders: the layers of buildpacks, and the programs in `exec.d`.
 use Rattle.std.specs.Prelude.{ℕ, ◌≤◌, Bool, true, false, List, [], ◌∷◌, codes, filter, length, map, Option, Some, None}
 use Rattle.std.specs.Prelude.{Result, Ok, Err}
-use Rattle.std.specs.List.{All, flat_map, list_all}
+use Rattle.std.specs.List.{All, IsAmong, flat_map, list_all}
 use Rattle.cnb_world.specs.Path.{joined}
 use Rattle.cnb_world.specs.Tree.{Tree, item_at, kind_of}
 use Rattle.cnb_world.specs.declared.world.Item.{Item}
@@ -9,7 +9,7 @@ use Rattle.cnb_world.specs.declared.world.Kind.{Kind}
 use Rattle.cnb_world.specs.declared.world.Kind.TheVariants as kind
 use Rattle.cnb_toml.specs.Names.{folder_of}
 use Rattle.cnb_toml.specs.declared.names.Key.{Key}
-use Rattle.cnb_env.specs.Files.{is_fit_folder}
+use Rattle.cnb_env.specs.Files.{IsOfFolder, is_fit_folder}
 use Rattle.cnb_env.specs.Layers.{type_folders}
 use Rattle.doc_files.specs.Reading.{names_at}
 use Rattle.doc_files.specs.declared.fault.ReadFault.{ReadFault}
@@ -61,6 +61,10 @@ all_in wanted (folder ∷ folders) files = in_front (wanted_in wanted files fold
 -- each is a folder, or isn't there
 abbrev pub are_fit : List (List ℕ) → Tree → Bool
 are_fit folders files = list_all (λ folder. is_fit_folder folder files) folders
+
+-- what is read of some folders: each of them, and what stands right in it
+abbrev pub IsOfFolders : List (List ℕ) → List ℕ → Type 0
+IsOfFolders folders path = (folder : List ℕ) × IsAmong folders folder × IsOfFolder folder path
 
 -- ---- which folders
 

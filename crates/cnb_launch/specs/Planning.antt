@@ -5,18 +5,19 @@ use Rattle.cnb_world.specs.declared.child.ChildJob.{ChildJob}
 use Rattle.cnb_world.specs.declared.child.End.{End}
 use Rattle.cnb_world.specs.declared.env.Variable.{Variable}
 use Rattle.cnb_toml.specs.declared.names.Key.{Key}
-use Rattle.cnb_env.specs.Layers.{are_fit_launch_sets, launch_env}
+use Rattle.cnb_env.specs.Layers.{IsOfSets, are_fit_launch_sets, launch_env}
 use Rattle.doc_files.specs.Faults.{read_cause}
 use Rattle.doc_files.specs.declared.fault.ReadFault.{ReadFault}
 use Rattle.image_docs.specs.declared.launch_doc.LaunchDoc.{LaunchDoc}
+use Rattle.steps.specs.Causes.{Only}
 use Rattle.steps.specs.Outside.{Seen}
 use Rattle.steps.specs.Steps.{◌>>=◌, gives, map_err, reads, runs_child, yields}
 use Rattle.cnb_launch.specs.Choosing.{chosen_in}
 use Rattle.cnb_launch.specs.Documents.{is_fit_doc, launch_doc_under}
 use Rattle.cnb_launch.specs.Exec.{runs_all}
 use Rattle.cnb_launch.specs.Faults.{cause_of, of_read_fault}
-use Rattle.cnb_launch.specs.Folders.{all_exec_folders, all_in, are_fit, set_folders}
-use Rattle.cnb_launch.specs.Places.{dir_in}
+use Rattle.cnb_launch.specs.Folders.{IsOfFolders, all_exec_folders, all_in, are_fit, set_folders}
+use Rattle.cnb_launch.specs.Places.{dir_in, launch_doc_path}
 use Rattle.cnb_words.specs.declared.launch.Call.{Call}
 use Rattle.cnb_launch.specs.declared.choosing.ChosenProcess.{ChosenProcess}
 use Rattle.cnb_launch.specs.declared.fault.LaunchFault.{LaunchFault}
@@ -51,9 +52,10 @@ prepared_of root chosen env execs = record {
 unfoldable pub prepares_in : List ℕ → List Variable → ChosenProcess → List (List (List ℕ)) → Seen
     → Result Prepared LaunchFault → Seen → Type 0
 prepares_in root env chosen sets = do
-  start ← map_err of_read_fault (reads read_cause (λ files. are_fit_launch_sets chosen.kind files sets)
-      (launch_env sets chosen.kind env))
-  execs ← map_err of_read_fault (reads read_cause (are_fit_execs chosen.kind sets) (execs_in chosen.kind sets))
+  start ← map_err of_read_fault (reads read_cause (IsOfSets sets)
+      (λ files. are_fit_launch_sets chosen.kind files sets) (launch_env sets chosen.kind env))
+  execs ← map_err of_read_fault (reads read_cause (IsOfFolders (all_exec_folders chosen.kind sets))
+      (are_fit_execs chosen.kind sets) (execs_in chosen.kind sets))
   gives cause_of (Ok (prepared_of root chosen start execs))
 
 -- the process, and the layers
@@ -61,14 +63,16 @@ unfoldable pub prepares_of : List ℕ → Call → List Variable → LaunchDoc �
     → Type 0
 prepares_of root call env doc = do
   chosen ← gives cause_of (chosen_in doc call)
-  sets ← map_err of_read_fault (reads read_cause (are_fit_layers root doc.buildpacks) (sets_in root doc.buildpacks))
+  sets ← map_err of_read_fault (reads read_cause (IsOfFolders (set_folders root doc.buildpacks))
+      (are_fit_layers root doc.buildpacks) (sets_in root doc.buildpacks))
   prepares_in root env chosen sets
 
 -- The document, the process, the layers, their environment files, the names of their programs: all of it is read before
 -- the first program runs.
 unfoldable pub prepares : List ℕ → Call → List Variable → Seen → Result Prepared LaunchFault → Seen → Type 0
 prepares root call env = do
-  doc ← map_err of_read_fault (reads read_cause (is_fit_doc root) (launch_doc_under root))
+  doc ← map_err of_read_fault (reads read_cause (Only (launch_doc_path root)) (is_fit_doc root)
+      (launch_doc_under root))
   prepares_of root call env doc
 
 abbrev pub plan_of : Prepared → List Variable → LaunchPlan

@@ -9,7 +9,7 @@ use Rattle.image_docs.specs.declared.image.ImageDoc.{ImageDoc}
 use Rattle.image_docs.specs.declared.launch_doc.LaunchDoc.{LaunchDoc}
 use Rattle.image_docs.specs.declared.row.Row.{Row}
 use Rattle.image_files.specs.Images.{reads_image}
-use Rattle.steps.specs.Causes.{Cause, OutOfMemory}
+use Rattle.steps.specs.Causes.{Cause, Only, OutOfMemory}
 use Rattle.steps.specs.Each.{for_each}
 use Rattle.steps.specs.Outside.{Seen}
 use Rattle.steps.specs.Steps.{◌>>=◌, gives, map_err, reads}
@@ -54,7 +54,7 @@ lays_launch root launch = do
 -- the root must be absent, the rows are laid in their order, and then the document of the launch
 unfoldable pub lays_image : List ℕ → List ℕ → ImageDoc → Seen → Result (Unit {0}) LaunchFault → Seen → Type 0
 lays_image store root doc = do
-  absent ← map_err of_read_fault (reads read_cause (λ files. true)
+  absent ← map_err of_read_fault (reads read_cause (Only root) (λ files. true)
       (λ files. Ok (is_absent (kind_of (item_at files root)))))
   free ← gives cause_of (if_absent root absent)
   laid ← for_each (lays_row store root) doc.rows tt

@@ -5,12 +5,14 @@ ghost use Rattle.std.specs.Option.{option_map};
 ghost use Rattle.cnb_world.specs.Calls.{AreNames, MayMisuse};
 ghost use Rattle.cnb_world.specs.Path.{is_part};
 ghost use Rattle.cnb_world.specs.Tree.{can_list};
-ghost use Rattle.cnb_env.specs.Files.{is_fit_folder};
+ghost use Rattle.cnb_env.specs.Files.{IsOfFolder, is_fit_folder};
 ghost use Rattle.steps.specs.Causes.{Decided, IsAnswer};
 ghost use Rattle.steps.specs.Outside.{seen};
-ghost use Rattle.steps.specs.Reading.{ReadFrame};
+ghost use Rattle.steps.specs.Reading.{LeavesUnchanged};
 ghost use Rattle.doc_files.specs.Faults.{read_cause};
-ghost use Rattle.cnb_launch.specs.Folders.{AreWithin, all_in, are_fit, is_wanted, listed, wanted_among, wanted_in};
+ghost use Rattle.doc_files.specs.Reading.{BlamesOne};
+ghost use Rattle.cnb_launch.specs.Folders.{AreWithin, IsOfFolders, all_in, are_fit, is_wanted, listed, wanted_among};
+ghost use Rattle.cnb_launch.specs.Folders.{wanted_in};
 
 use cnb_world::{Kind, List, Path, Text, World};
 use doc_files::{ReadFault, blamed, list_names};
@@ -33,7 +35,7 @@ fn is_wanted(wanted: Wanted, kind: Kind) -> bool
 }
 
 // The paths with that of a name behind them, where such a thing stands there.
-#[tactic(auto, using(crate::proofs::FolderLemmas::below_within, crate::proofs::FolderLemmas::push_within, crate::proofs::FolderLemmas::blamed_fails, doc_files::proofs::Blame::blamed_last))]
+#[tactic(auto, using(crate::proofs::FolderLemmas::below_within, crate::proofs::FolderLemmas::push_within, crate::proofs::FolderLemmas::blamed_fails, crate::proofs::FolderLemmas::blamed_below, doc_files::proofs::Blame::blamed_last))]
 fn push_wanted<W: World>(
     alloc: Global,
     world: &mut W,
@@ -49,7 +51,8 @@ fn push_wanted<W: World>(
     ensures within { AreWithin (length folder.now + 256) paths.old
         → OnOk result (AreWithin (length folder.now + 256) paths.new) }
     ensures fails { IfErr result (λ fault. read_cause fault ≢ Decided) }
-    ensures frame { ReadFrame read_cause result (seen W.World world.old) (seen W.World world.new) }
+    ensures blames { IfErr result (BlamesOne (IsOfFolder folder.now)) }
+    ensures leaves { LeavesUnchanged read_cause result (seen W.World world.old) (seen W.World world.new) }
     ensures misused { W.misused world.new ≡ W.misused world.old }
 {
     let path = folder.below(alloc, name.as_str())?;
@@ -74,7 +77,8 @@ fn wanted_among<W: World>(
         paths ≡ wanted_among wanted files folder.now names.now)) }
     ensures within { IfOk result (AreWithin (length folder.now + 256)) }
     ensures fails { IfErr result (λ fault. read_cause fault ≢ Decided) }
-    ensures frame { ReadFrame read_cause result (seen W.World world.old) (seen W.World world.new) }
+    ensures blames { IfErr result (BlamesOne (IsOfFolder folder.now)) }
+    ensures leaves { LeavesUnchanged read_cause result (seen W.World world.old) (seen W.World world.new) }
     ensures misused { W.misused world.new ≡ W.misused world.old }
 {
     let mut paths = List::new(alloc);
@@ -85,7 +89,7 @@ fn wanted_among<W: World>(
 }
 
 // What is wanted of a folder that stands there.
-#[tactic(auto, using(crate::proofs::FolderLemmas::fails_free))]
+#[tactic(auto, using(crate::proofs::FolderLemmas::fails_free, crate::proofs::FolderLemmas::fails_itself))]
 fn listed<W: World>(
     alloc: Global,
     world: &mut W,
@@ -95,7 +99,8 @@ fn listed<W: World>(
     requires { length folder.now ≤ 8448 }
     ensures reads { IfSome (W.tree world.old) (λ files. IsAnswer read_cause result (listed wanted files folder.now)) }
     ensures within { IfOk result (AreWithin (length folder.now + 256)) }
-    ensures frame { ReadFrame read_cause result (seen W.World world.old) (seen W.World world.new) }
+    ensures blames { IfErr result (BlamesOne (IsOfFolder folder.now)) }
+    ensures leaves { LeavesUnchanged read_cause result (seen W.World world.old) (seen W.World world.new) }
     ensures misused { MayMisuse (option_map (λ files. can_list files folder.now) (W.tree world.old))
         (W.misused world.old) (W.misused world.new) }
 {
@@ -105,7 +110,7 @@ fn listed<W: World>(
 }
 
 // What is wanted of a folder, ascending by name; nothing where nothing stands there.
-#[tactic(auto, using(doc_files::proofs::Blame::blamed_last))]
+#[tactic(auto, using(crate::proofs::FolderLemmas::blamed_itself, doc_files::proofs::Blame::blamed_last))]
 fn wanted_in<W: World>(
     alloc: Global,
     world: &mut W,
@@ -116,7 +121,8 @@ fn wanted_in<W: World>(
     ensures reads { IfSome (W.tree world.old) (λ files.
         IsAnswer read_cause result (wanted_in wanted files folder.now)) }
     ensures within { IfOk result (AreWithin (length folder.now + 256)) }
-    ensures frame { ReadFrame read_cause result (seen W.World world.old) (seen W.World world.new) }
+    ensures blames { IfErr result (BlamesOne (IsOfFolder folder.now)) }
+    ensures leaves { LeavesUnchanged read_cause result (seen W.World world.old) (seen W.World world.new) }
     ensures misused { MayMisuse (option_map (is_fit_folder folder.now) (W.tree world.old))
         (W.misused world.old) (W.misused world.new) }
 {
@@ -137,7 +143,8 @@ pub(crate) fn all_in<W: World>(
     requires { AreWithin 8448 folders.now }
     ensures reads { IfSome (W.tree world.old) (λ files. IsAnswer read_cause result (all_in wanted folders.now files)) }
     ensures within { (room : ℕ) → AreWithin room folders.now → IfOk result (All (AreWithin (room + 256))) }
-    ensures frame { ReadFrame read_cause result (seen W.World world.old) (seen W.World world.new) }
+    ensures blames { IfErr result (BlamesOne (IsOfFolders folders.now)) }
+    ensures leaves { LeavesUnchanged read_cause result (seen W.World world.old) (seen W.World world.new) }
     ensures misused { MayMisuse (option_map (are_fit folders.now) (W.tree world.old))
         (W.misused world.old) (W.misused world.new) }
 {

@@ -2,7 +2,7 @@
 ghost use Rattle.std.specs.Prelude.{◌≡◌, ◌≤◌, ℕ, List as Seq, IfOk, IsTrue, length};
 ghost use Rattle.std.specs.List.{All, list_all};
 ghost use Rattle.cnb_toml.specs.Process.{is_process};
-ghost use Rattle.steps.specs.Frames.{Keeps};
+ghost use Rattle.steps.specs.Keeping.{Keeps};
 ghost use Rattle.steps.specs.Outside.{seen};
 ghost use Rattle.cnb_launch.specs.Folders.{AreWithin};
 ghost use Rattle.cnb_launch.specs.Places.{IsShortDir};

@@ -7,9 +7,10 @@ ghost use Rattle.cnb_world.specs.Path.{joined};
 ghost use Rattle.cnb_toml.specs.Names.{folder_of};
 ghost use Rattle.steps.specs.Causes.{IsAnswer};
 ghost use Rattle.steps.specs.Outside.{seen};
-ghost use Rattle.steps.specs.Reading.{ReadFrame};
+ghost use Rattle.steps.specs.Reading.{LeavesUnchanged};
 ghost use Rattle.doc_files.specs.Faults.{read_cause};
-ghost use Rattle.cnb_launch.specs.Folders.{AreWithin, all_exec_folders, exec_folders, set_folders};
+ghost use Rattle.doc_files.specs.Reading.{BlamesOne};
+ghost use Rattle.cnb_launch.specs.Folders.{AreWithin, IsOfFolders, all_exec_folders, exec_folders, set_folders};
 ghost use Rattle.cnb_launch.specs.Planning.{are_fit_execs, are_fit_layers, execs_in, sets_in};
 
 use crate::folders::{Wanted, all_in};
@@ -54,7 +55,8 @@ pub(crate) fn sets_in<W: World>(
     ensures reads { IfSome (W.tree world.old) (λ files.
         IsAnswer read_cause result (sets_in root.now doc.now.buildpacks files)) }
     ensures short { IfOk result (All (AreWithin 4615)) }
-    ensures frame { ReadFrame read_cause result (seen W.World world.old) (seen W.World world.new) }
+    ensures blames { IfErr result (BlamesOne (IsOfFolders (set_folders root.now doc.now.buildpacks))) }
+    ensures leaves { LeavesUnchanged read_cause result (seen W.World world.old) (seen W.World world.new) }
     ensures misused { MayMisuse (option_map (are_fit_layers root.now doc.now.buildpacks) (W.tree world.old))
         (W.misused world.old) (W.misused world.new) }
 {
@@ -128,7 +130,8 @@ pub(crate) fn execs_in<W: World>(
 ) -> Result<List<List<Path>>, ReadFault>
     requires { All (AreWithin 4615) sets.now }
     ensures reads { IfSome (W.tree world.old) (λ files. IsAnswer read_cause result (execs_in kind.now sets.now files)) }
-    ensures frame { ReadFrame read_cause result (seen W.World world.old) (seen W.World world.new) }
+    ensures blames { IfErr result (BlamesOne (IsOfFolders (all_exec_folders kind.now sets.now))) }
+    ensures leaves { LeavesUnchanged read_cause result (seen W.World world.old) (seen W.World world.new) }
     ensures misused { MayMisuse (option_map (are_fit_execs kind.now sets.now) (W.tree world.old))
         (W.misused world.old) (W.misused world.new) }
 {

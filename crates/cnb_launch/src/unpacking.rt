@@ -4,13 +4,14 @@ ghost use Rattle.std.specs.List.{list_all};
 ghost use Rattle.cnb_world.specs.Tree.{item_at, kind_of};
 ghost use Rattle.cnb_env.specs.Files.{is_absent};
 ghost use Rattle.doc_files.specs.Faults.{read_cause};
+ghost use Rattle.doc_files.specs.Reading.{BlamesOnly};
 ghost use Rattle.image_docs.specs.Image.{is_image_doc};
 ghost use Rattle.image_docs.specs.LaunchDoc.{is_launch_doc};
 ghost use Rattle.image_docs.specs.Row.{is_row};
 ghost use Rattle.steps.specs.Causes.{IsAnswer, IsGivenCause};
 ghost use Rattle.steps.specs.Each.{for_each};
 ghost use Rattle.steps.specs.Outside.{seen};
-ghost use Rattle.steps.specs.Reading.{ReadFrame};
+ghost use Rattle.steps.specs.Reading.{LeavesUnchanged};
 ghost use Rattle.cnb_launch.specs.Faults.{cause_of};
 ghost use Rattle.cnb_launch.specs.Unpacking.{ReadsAs, file_of, if_absent, launch_doc_place, lays_image, lays_launch};
 ghost use Rattle.cnb_launch.specs.Unpacking.{lays_row, unpacks};
@@ -29,7 +30,8 @@ use tree_store::{lay_stored, write_tree};
 fn is_absent<W: World>(alloc: Global, world: &mut W, path: &Path) -> Result<bool, ReadFault>
     ensures reads { IfSome (W.tree world.old) (λ files. IsAnswer read_cause result
         (Ok (is_absent (kind_of (item_at files path.now))))) }
-    ensures frame { ReadFrame read_cause result (seen W.World world.old) (seen W.World world.new) }
+    ensures blames { IfErr result (BlamesOnly path.now) }
+    ensures leaves { LeavesUnchanged read_cause result (seen W.World world.old) (seen W.World world.new) }
     ensures misused { W.misused world.new ≡ W.misused world.old }
 {
     match world.kind(path) {

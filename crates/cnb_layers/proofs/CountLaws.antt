@@ -41,22 +41,22 @@ of_store step p = obeys_told FileCounts tree_store.cause_of cause_of Store step 
 read_as_counts : {A : Type 0} (form : List ℕ → Result A DocFault) (path : List ℕ)
     → Obeys FileCounts cause_of (reads_as form path)
 unfolding reads_as
-read_as_counts form path = obeys_bind _ _ _ _ files_link (reads_counts cause_of _ _)
+read_as_counts form path = obeys_bind _ _ _ _ files_link (reads_counts cause_of _ _ _)
     (λ found. obeys_gives _ _ _ files_rest)
 
 read_some_counts : {A : Type 0} (form : List ℕ → Result A DocFault) (path : List ℕ)
     → Obeys FileCounts cause_of (reads_some form path)
 unfolding reads_some
-read_some_counts form path = obeys_bind _ _ _ _ files_link (reads_counts cause_of _ _)
+read_some_counts form path = obeys_bind _ _ _ _ files_link (reads_counts cause_of _ _ _)
     (λ found. obeys_gives _ _ _ files_rest)
 
 list_unless_counts : (absent : Bool) (folder : List ℕ) → Obeys FileCounts cause_of (lists_unless absent folder)
 list_unless_counts true folder = obeys_yields _ _ _ files_rest
-list_unless_counts false folder = reads_counts cause_of _ _
+list_unless_counts false folder = reads_counts cause_of _ _ _
 
 read_names_counts : (folder : List ℕ) → Obeys FileCounts cause_of (reads_names folder)
 unfolding reads_names
-read_names_counts folder = obeys_bind _ _ _ _ files_link (reads_counts cause_of _ _)
+read_names_counts folder = obeys_bind _ _ _ _ files_link (reads_counts cause_of _ _ _)
     (λ kind. list_unless_counts (is_absent kind) folder)
 
 read_layer_names_counts : (folder : List ℕ) → Obeys FileCounts cause_of (reads_layer_names folder)
@@ -68,12 +68,12 @@ read_layer_names_counts folder = obeys_bind _ _ _ _ files_link (read_names_count
 
 read_layer_counts : (path : List ℕ) → Obeys FileCounts cause_of (reads_layer path)
 unfolding reads_layer
-read_layer_counts path = obeys_bind _ _ _ _ files_link (reads_counts cause_of _ _)
+read_layer_counts path = obeys_bind _ _ _ _ files_link (reads_counts cause_of _ _ _)
     (λ found. obeys_gives _ _ _ files_rest)
 
 look_for_contents_counts : (path : List ℕ) → Obeys FileCounts cause_of (looks_for_contents path)
 unfolding looks_for_contents
-look_for_contents_counts path = obeys_bind _ _ _ _ files_link (reads_counts cause_of _ _)
+look_for_contents_counts path = obeys_bind _ _ _ _ files_link (reads_counts cause_of _ _ _)
     (λ kind. obeys_gives _ _ _ files_rest)
 
 keep_tree_counts : (store : List ℕ) (launch : Bool) (tree : Node)

@@ -60,10 +60,10 @@ told_answer : {E A : Type 0} (cause_of : E → Cause) (o : Option Tree) (t : Tre
     → IsAnswer cause_of result (want t)
 told_answer cause_of o t want result is h = subst (λ x. IfSome x (λ files. IsAnswer cause_of result (want files))) is h
 
-pub decided_reads : {E A : Type 0} (cause_of : E → Cause) (fits : Tree → Bool) (want : Tree → Result A E)
-    → AreDecided cause_of (reads cause_of fits want)
+pub decided_reads : {E A : Type 0} (cause_of : E → Cause) (Among : List ℕ → Type 0) (fits : Tree → Bool)
+    (want : Tree → Result A E) → AreDecided cause_of (reads cause_of Among fits want)
 unfolding reads
-decided_reads cause_of fits want t old new old' new' result result' is is' h h' =
+decided_reads cause_of Among fits want t old new old' new' result result' is is' h h' =
     answered cause_of (want t) t new new' result result' (h.same.files ∙ is) (h'.same.files ∙ is')
     (told_answer cause_of old.files t want result is h.answer)
     (told_answer cause_of old'.files t want result' is' h'.answer)
@@ -239,7 +239,7 @@ decided_puts store tree t old new old' new' (Err fault) (Err other) is is' h h' 
 
 pub decided_reads_tree : (path : List ℕ) → AreDecided stored.cause_of (reads_tree path)
 unfolding reads_tree
-decided_reads_tree path = decided_reads stored.cause_of _ _
+decided_reads_tree path = decided_reads stored.cause_of _ _ _
 
 -- ---- trees of folders that are put
 

@@ -47,11 +47,11 @@ of_store step h = decided_told stored.cause_of cause_of Store step stored_cause 
 
 one_as : {A : Type 0} (form : List ℕ → Result A DocFault) (at : List ℕ) → AreDecided cause_of (reads_as form at)
 unfolding reads_as
-one_as form at = decided_bind cause_of _ _ (decided_reads cause_of _ _) (λ found. decided_gives cause_of _)
+one_as form at = decided_bind cause_of _ _ (decided_reads cause_of _ _ _) (λ found. decided_gives cause_of _)
 
 one_some : {A : Type 0} (form : List ℕ → Result A DocFault) (at : List ℕ) → AreDecided cause_of (reads_some form at)
 unfolding reads_some
-one_some form at = decided_bind cause_of _ _ (decided_reads cause_of _ _) (λ found. decided_gives cause_of _)
+one_some form at = decided_bind cause_of _ _ (decided_reads cause_of _ _ _) (λ found. decided_gives cause_of _)
 
 one_launch : (folder id : List ℕ) → AreDecided cause_of (reads_launch folder id)
 unfolding reads_launch
@@ -65,11 +65,12 @@ one_store folder = decided_bind cause_of _ _ (decided_gives cause_of _) (λ at. 
 
 one_listing : (absent : Bool) (folder : List ℕ) → AreDecided cause_of (lists_unless absent folder)
 one_listing true folder = decided_yields cause_of _
-one_listing false folder = decided_reads cause_of _ _
+one_listing false folder = decided_reads cause_of _ _ _
 
 one_names : (folder : List ℕ) → AreDecided cause_of (reads_names folder)
 unfolding reads_names
-one_names folder = decided_bind cause_of _ _ (decided_reads cause_of _ _) (λ kind. one_listing (is_absent kind) folder)
+one_names folder = decided_bind cause_of _ _ (decided_reads cause_of _ _ _)
+    (λ kind. one_listing (is_absent kind) folder)
 
 one_layer_names : (folder : List ℕ) → AreDecided cause_of (reads_layer_names folder)
 unfolding reads_layer_names
@@ -78,15 +79,16 @@ one_layer_names folder = decided_bind cause_of _ _ (one_names folder)
 
 one_layer_document : (at : List ℕ) → AreDecided cause_of (reads_layer at)
 unfolding reads_layer
-one_layer_document at = decided_bind cause_of _ _ (decided_reads cause_of _ _) (λ found. decided_gives cause_of _)
+one_layer_document at = decided_bind cause_of _ _ (decided_reads cause_of _ _ _) (λ found. decided_gives cause_of _)
 
 one_look : (at : List ℕ) → AreDecided cause_of (looks_for_contents at)
 unfolding looks_for_contents
-one_look at = decided_bind cause_of _ _ (decided_reads cause_of _ _) (λ kind. decided_gives cause_of (there_by at kind))
+one_look at = decided_bind cause_of _ _ (decided_reads cause_of _ _ _)
+    (λ kind. decided_gives cause_of (there_by at kind))
 
 one_tree_look : (store digest : List ℕ) → AreDecided stored.cause_of (looks_for_tree store digest)
 unfolding looks_for_tree
-one_tree_look store digest = decided_reads stored.cause_of _ _
+one_tree_look store digest = decided_reads stored.cause_of _ _ _
 
 one_stored : (store digest : List ℕ) → AreDecided cause_of (looks_for_stored store digest)
 unfolding looks_for_stored

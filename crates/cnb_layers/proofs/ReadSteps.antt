@@ -11,13 +11,13 @@ use Rattle.doc_files.specs.Faults.{read_cause}
 use Rattle.doc_files.specs.Reading as reading
 use Rattle.doc_files.specs.declared.fault.ReadFault.{ReadFault}
 use Rattle.doc_files.specs.declared.fault.ReadFault.TheVariants as read
-use Rattle.doc_files.proofs.Blame.{blamed_last}
-use Rattle.steps.specs.Causes.{CountsFiles, IsAnswer, IsGivenCause, IsReadCause}
+use Rattle.doc_files.proofs.Blame.{blamed_last, blames_among, blames_named}
+use Rattle.steps.specs.Causes.{CountsFiles, IsAnswer, IsGivenCause, IsReadCause, NamesOne, Only}
 use Rattle.steps.specs.Counts.{FileCounts}
 use Rattle.steps.specs.Each.{for_each}
 use Rattle.steps.specs.Outside.{Seen}
 use Rattle.steps.specs.Steps.{gives}
-use Rattle.steps.proofs.StepLemmas.{cause_told}
+use Rattle.steps.proofs.StepLemmas.{cause_told, named_told}
 use Rattle.tree_store.specs.declared.fault.StoreFault.TheVariants as stored
 use Rattle.cnb_layers.specs.declared.fault.ExportFault.{ExportFault}
 use Rattle.cnb_layers.specs.declared.fault.ExportFault.TheVariants as build
@@ -52,6 +52,13 @@ counted_so T path file_fault.Failed (read.Document blamed why) old new files chi
 counted_so T path file_fault.Memory (read.Document blamed why) old new files children blames = absurd blames
 counted_so T path file_fault.Failed (read.Limit kind) old new files children blames = absurd blames
 counted_so T path file_fault.Memory (read.Limit kind) old new files children blames = absurd blames
+
+-- and no other path is named
+pub named_so : (path : List ℕ) (fault : FileFault) (refusal : ReadFault) → reading.Blames path fault refusal
+    → NamesOne (Only path) (cause_of (of_read_fault refusal))
+named_so path fault refusal blames = named_told read_cause cause_of of_read_fault (Only path) refusal
+    (same_cause refusal)
+    (blames_named (Only path) refusal (blames_among path (Only path) (λ blamed is. is) fault refusal blames))
 
 -- what is known of a document that was read costs no call
 no_call : (path : List ℕ) → ((n : ℕ) → CountsFiles {A = Unit {0}} read_cause (Err (read.File path)) n n) → ⊥

@@ -9,6 +9,7 @@ use Rattle.layer_flags.specs.declared.flags.Flags.{Flags}
 use Rattle.run_docs.specs.Layer.{layer_in}
 use Rattle.run_docs.specs.declared.layer.LayerDoc.{LayerDoc}
 use Rattle.shelf_set.specs.Caching.{digest_of_tree}
+use Rattle.steps.specs.Causes.{Only}
 use Rattle.steps.specs.Outside.{Seen}
 use Rattle.steps.specs.Steps.{◌>>=◌, gives, map_err, yields}
 use Rattle.tree_canon.specs.declared.node.Node.{Node}
@@ -22,7 +23,7 @@ use Rattle.cnb_layers.specs.Refusals.{cause_of}
 
 -- a layer's document is read, where a regular file is there
 abbrev pub reads_regular : List ℕ → Seen → Result (Option (List ℕ)) ExportFault → Seen → Type 0
-reads_regular path = reads_files (λ files. true) (λ files. contents_of (item_at files path))
+reads_regular path = reads_files (Only path) (λ files. true) (λ files. contents_of (item_at files path))
 
 unfoldable pub reads_layer : List ℕ → Seen → Result (Option LayerDoc) ExportFault → Seen → Type 0
 reads_layer path = do

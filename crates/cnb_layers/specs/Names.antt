@@ -4,6 +4,7 @@ use Rattle.cnb_world.specs.Tree.{can_list}
 use Rattle.cnb_env.specs.Files.{is_absent}
 use Rattle.doc_files.specs.Reading.{names_at}
 use Rattle.layer_paths.specs.Names.{layers_among}
+use Rattle.steps.specs.Causes.{Only}
 use Rattle.steps.specs.Outside.{Seen}
 use Rattle.steps.specs.Steps.{◌>>=◌, gives, yields}
 use Rattle.cnb_layers.specs.declared.fault.ExportFault.{ExportFault}
@@ -11,7 +12,7 @@ use Rattle.cnb_layers.specs.Reading.{reads_files, reads_kind}
 use Rattle.cnb_layers.specs.Refusals.{cause_of}
 
 abbrev pub lists : List ℕ → Seen → Result (List (List ℕ)) ExportFault → Seen → Type 0
-lists folder = reads_files (λ files. can_list files folder) (λ files. names_at files folder)
+lists folder = reads_files (Only folder) (λ files. can_list files folder) (λ files. names_at files folder)
 
 -- the names in a folder, of which there are none where nothing stands
 abbrev pub lists_unless : Bool → List ℕ → Seen → Result (List (List ℕ)) ExportFault → Seen → Type 0

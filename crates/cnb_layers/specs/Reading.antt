@@ -5,24 +5,26 @@ use Rattle.cnb_world.specs.declared.world.Kind.{Kind}
 use Rattle.cnb_toml.specs.declared.fault.DocFault.{DocFault}
 use Rattle.doc_files.specs.Reading.{document_at, read_at}
 use Rattle.doc_files.specs.declared.fault.ReadFault.{ReadFault}
+use Rattle.steps.specs.Causes.{Only}
 use Rattle.steps.specs.Outside.{Seen}
 use Rattle.steps.specs.Results.{and_then, with_fault}
 use Rattle.steps.specs.Steps.{◌>>=◌, gives, reads}
 use Rattle.cnb_layers.specs.declared.fault.ExportFault.{ExportFault}
 use Rattle.cnb_layers.specs.Refusals.{cause_of, of_read_fault}
 
--- files are read
-abbrev pub reads_files : {A : Type 0} → (Tree → Bool) → (Tree → Result A ReadFault) → Seen → Result A ExportFault
-    → Seen → Type 0
-reads_files fits want = reads cause_of fits (λ files. with_fault of_read_fault (want files))
+-- files are read; a failed call is told with one of these paths
+abbrev pub reads_files : {A : Type 0} → (List ℕ → Type 0) → (Tree → Bool) → (Tree → Result A ReadFault) → Seen
+    → Result A ExportFault → Seen → Type 0
+reads_files Among fits want = reads cause_of Among fits (λ files. with_fault of_read_fault (want files))
 
 -- what stands at a path
 abbrev pub reads_kind : List ℕ → Seen → Result Kind ExportFault → Seen → Type 0
-reads_kind path = reads_files (λ files. true) (λ files. Ok (kind_of (item_at files path)))
+reads_kind path = reads_files (Only path) (λ files. true) (λ files. Ok (kind_of (item_at files path)))
 
 -- the document at a path is read, where one is there
 abbrev pub reads_document : List ℕ → Seen → Result (Option (List ℕ)) ExportFault → Seen → Type 0
-reads_document path = reads_files (λ files. is_file_or_absent (item_at files path)) (λ files. document_at files path)
+reads_document path = reads_files (Only path) (λ files. is_file_or_absent (item_at files path))
+    (λ files. document_at files path)
 
 -- what the reader of a document answers
 abbrev pub value_at : {A : Type 0} → List ℕ → Result A DocFault → Result A ExportFault

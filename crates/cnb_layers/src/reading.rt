@@ -15,7 +15,7 @@ use run_docs::{LaunchToml, StoreToml, read_launch, read_store};
 use std::alloc::Global;
 
 /// What stands at a path.
-#[tactic(auto, unfolding(steps::specs::Steps::reads), using(steps::proofs::StepLemmas::allowed_by, crate::proofs::ReadSteps::blamed_so, crate::proofs::ReadSteps::counted_so))]
+#[tactic(auto, unfolding(steps::specs::Steps::reads), using(steps::proofs::StepLemmas::allowed_by, crate::proofs::ReadSteps::blamed_so, crate::proofs::ReadSteps::counted_so, crate::proofs::ReadSteps::named_so))]
 pub(crate) fn kind_at<W: World>(
     alloc: Global,
     world: &mut W,

@@ -222,14 +222,16 @@ module _ (frame : BuildFrame) (apart : is_within (plans_folder frame.work) frame
   plain_gives P want = serves_less Fit P P (λ a. want ≡ Ok a) any (λ a. P) (λ a. P) (gives cause_of want)
       (λ t fit. fit) (λ a good. tt) (λ a t fit. fit) (serves_gives Fit P cause_of want)
 
-  plain_reads : {A : Type 0} (P : Tree → Type 0) (fits : Tree → Bool) (want : Tree → Result A ReadFault)
-      → ((t : Tree) → P t → IsTrue (fits t)) → Plain P P (reads_files fits want)
-  plain_reads P fits want so = serves_reads Fit P cause_of fits (λ files. with_fault of_read_fault (want files)) so
+  plain_reads : {A : Type 0} (P : Tree → Type 0) (Among : List ℕ → Type 0) (fits : Tree → Bool)
+      (want : Tree → Result A ReadFault)
+      → ((t : Tree) → P t → IsTrue (fits t)) → Plain P P (reads_files Among fits want)
+  plain_reads P Among fits want so = serves_reads Fit P cause_of Among fits
+      (λ files. with_fault of_read_fault (want files)) so
 
   plain_as : {A : Type 0} (form : List ℕ → Result A DocFault) (path : List ℕ)
       → ((t : Tree) → Fit t → IsTrue (is_file_or_absent (item_at t path))) → Plain Fit Fit (reads_as form path)
   unfolding reads_as
-  plain_as form path so = plain_bind Fit Fit Fit _ _ (plain_reads Fit _ _ so) (λ found. plain_gives Fit _)
+  plain_as form path so = plain_bind Fit Fit Fit _ _ (plain_reads Fit _ _ _ so) (λ found. plain_gives Fit _)
 
   module _ (row : GroupRow) (valid : IsTrue (is_key row.key)) where
     abbrev folder : List ℕ
@@ -244,7 +246,7 @@ module _ (frame : BuildFrame) (apart : is_within (plans_folder frame.work) frame
     unfolding prepares reads_descriptor
     prepare_serves pending =
         plain_bind Fit Fit (FitsLayers frame.layers) _ _
-        (plain_bind Fit Fit Fit _ _ (plain_reads Fit _ _ (λ t fit. (built_so t fit row.key valid).descriptor))
+        (plain_bind Fit Fit Fit _ _ (plain_reads Fit _ _ _ (λ t fit. (built_so t fit row.key valid).descriptor))
         (λ found. plain_gives Fit _))
         (λ clear_env. plain_bind Fit Made (FitsLayers frame.layers) _ _
         (serves_folder Fit Fit Made cause_of folder (λ t fit. (built_so t fit row.key valid).folder)
@@ -270,7 +272,7 @@ module _ (frame : BuildFrame) (apart : is_within (plans_folder frame.work) frame
     unfolding runs_build
     run_serves base clear_env done sets =
         plain_bind (FitsLayers frame.layers) (FitsLayers frame.layers) Fit _ _
-        (plain_reads (FitsLayers frame.layers) _ _ (λ t fit. fit_sets frame.layers t fit done sets))
+        (plain_reads (FitsLayers frame.layers) _ _ _ (λ t fit. fit_sets frame.layers t fit done sets))
         (λ env. plain_bind (FitsLayers frame.layers) Fit Fit _ _
         (serves_child Fit (FitsLayers frame.layers) cause_of _) (λ end. plain_gives Fit _))
 
@@ -294,7 +296,7 @@ module _ (frame : BuildFrame) (apart : is_within (plans_folder frame.work) frame
     unfolding reads_names
     names_serve =
         serves_bind Fit Fit any Known any (λ names. Fit) _ _
-        (serves_known Fit Fit cause_of (λ files. true) _ (λ t fit. refl))
+        (serves_known Fit Fit cause_of _ (λ files. true) _ (λ t fit. refl))
         (λ kind good. by kind (is_absent kind) refl)
       where
         by : (kind : Kind) (absent : Bool) → is_absent kind ≡ absent → Plain (Known kind) Fit (names_if folder absent)
@@ -303,7 +305,7 @@ module _ (frame : BuildFrame) (apart : is_within (plans_folder frame.work) frame
         by kind false is =
             serves_less Fit (Known kind) (Known kind) any any (λ a. Known kind) (λ a. Fit) (names_if folder false)
             (λ t fit. fit) (λ a good. tt) (λ a t known. known.0)
-            (plain_reads (Known kind) (λ files. can_list files folder) (λ files. names_at files folder)
+            (plain_reads (Known kind) _ (λ files. can_list files folder) (λ files. names_at files folder)
             (λ t known. listed kind t known is))
 
     layer_serves : (layer : List ℕ) → IsTrue (is_layer_name layer) → (found : List (List ℕ))
@@ -312,7 +314,7 @@ module _ (frame : BuildFrame) (apart : is_within (plans_folder frame.work) frame
     unfolding reads_layer
     layer_serves layer named found all =
         serves_bind Fit Fit any (λ a. Fit) (AreLayers frame.layers) (λ more. Fit) _ _
-        (plain_reads Fit (λ files. true) _ (λ t fit. refl))
+        (plain_reads Fit _ (λ files. true) _ (λ t fit. refl))
         (λ document good. serves_less Fit Fit Fit (λ more. found_with folder layer found document ≡ Ok more)
         (AreLayers frame.layers) (λ a. Fit) (λ a. Fit)
         (gives cause_of (found_with folder layer found document))
@@ -383,7 +385,7 @@ module _ (frame : BuildFrame) (apart : is_within (plans_folder frame.work) frame
     unfolding prepares reads_descriptor
     first_prepares pending =
         plain_bind First First Whatever _ _ (plain_bind First First First _ _
-        (plain_reads First _ _ (λ t (fit : First t). fit.descriptor)) (λ found. plain_gives First _))
+        (plain_reads First _ _ _ (λ t (fit : First t). fit.descriptor)) (λ found. plain_gives First _))
         (λ clear_env. plain_bind First Writable Whatever _ _
         (serves_folder Fit First Writable cause_of folder (λ t (fit : First t). fit.folder)
         (λ t (fit : First t). plan_behind_folder frame.work frame.layers row.key row.key t apart fit.plan))
@@ -398,7 +400,7 @@ module _ (frame : BuildFrame) (apart : is_within (plans_folder frame.work) frame
         (runs_build frame base row (places_of frame row.key) clear_env [])
     unfolding runs_build
     first_runs base clear_env =
-        plain_bind Whatever Whatever Fit _ _ (plain_reads Whatever _ _ (λ t fit. refl))
+        plain_bind Whatever Whatever Fit _ _ (plain_reads Whatever _ _ _ (λ t fit. refl))
         (λ env. plain_bind Whatever Fit Fit _ _ (serves_child Fit Whatever cause_of _)
         (λ end. plain_gives Fit _))
 
@@ -495,7 +497,7 @@ module _ (words : BuildWords) (env : List Variable)
       → Serves {E = BuildFault} Left Start Good (λ a. Start) (reads_needed form path)
   unfolding reads_needed
   needed_serves Good form path so value =
-      serves_bind Left Start any (λ a. Start) Good (λ a. Start) _ _ (serves_reads Left Start cause_of _ _ so)
+      serves_bind Left Start any (λ a. Start) Good (λ a. Start) _ _ (serves_reads Left Start cause_of _ _ _ so)
       (λ found good. serves_less Left Start Start (λ a. needed form path found ≡ Ok a) Good (λ a. Start)
       (λ a. Start) (gives cause_of (needed form path found)) (λ t fit. fit) (λ a is. value found a is)
       (λ a t fit. fit) (serves_gives Left Start cause_of _))
@@ -516,9 +518,9 @@ module _ (words : BuildWords) (env : List Variable)
       (needed_serves any plan_in documents.plan (λ t fit. subst
       (λ d. IsTrue (is_file_or_absent (item_at t d.plan))) same fit.plan) (λ found plan is. tt))
       (λ plan good. serves_bind Left Start any (λ a. Start) IsGiven (λ a. Start) _ _
-      (serves_reads Left Start cause_of _ _ (λ t fit. fit.target))
+      (serves_reads Left Start cause_of _ _ _ (λ t fit. fit.target))
       (λ target good. serves_bind Left Start any (λ a. Start) IsGiven (λ a. Start) _ _
-      (serves_reads Left Start cause_of _ _ (λ t fit. fit.platform))
+      (serves_reads Left Start cause_of _ _ _ (λ t fit. fit.platform))
       (λ files good. serves_less Left Start Start (λ given. Ok
       (record { group = group; plan = plan; frame = frame_of words env target files }) ≡ Ok given) IsGiven
       (λ a. Start) (λ a. Start) _ (λ t fit. fit)

@@ -26,8 +26,8 @@ use Rattle.cnb_world.specs.Whole.{can_write, written}
 use Rattle.cnb_world.specs.declared.world.Item.{Item}
 use Rattle.cnb_world.specs.declared.world.Item.TheVariants as item
 use Rattle.layer_paths.specs.Paths.{layers_folder}
-use Rattle.steps.proofs.FrameLaws.{made_free}
-use Rattle.steps.specs.Frames.{folder_paths}
+use Rattle.steps.proofs.KeepingLaws.{made_free}
+use Rattle.steps.specs.Keeping.{folder_paths}
 use Rattle.tree_store.proofs.Apart.{above_within}
 use Rattle.tree_store.proofs.Blames.{within_child, within_itself}
 use Rattle.tree_store.proofs.Places.{child_not_root}

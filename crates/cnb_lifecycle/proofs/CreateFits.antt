@@ -1,23 +1,16 @@
--- Where the files and the caches fit `create`, and each child of a build leaves files that fit, it makes no call on a
--- path of the wrong kind.
-use Rattle.std.proofs.Common.{◌≡◌, ◌∙◌, refl, sym, ap, subst, arith, length-append, ℕ, ◌<◌, Bool, true, false, cond}
-use Rattle.std.proofs.Common.{not, ◌&&◌, ◌||◌, List, [], ◌∷◌, ◌++◌, append-nil, append_assoc, codes, length, Option}
-use Rattle.std.proofs.Common.{Some, None, Result, Ok, Err, inl, inr, ◌⊎◌, is_some}
+-- Where the files and the caches fit `create`, it makes no call on a path of the wrong kind.
+use Rattle.std.proofs.Common.{◌≡◌, ◌∙◌, refl, sym, ap, subst, arith, ℕ, ◌<◌, true}
+use Rattle.std.proofs.Common.{◌&&◌, List, [], ◌∷◌, ◌++◌, append-nil, length, Option}
+use Rattle.std.proofs.Common.{Some, None, Result, Ok, Err, inl, inr}
 use Rattle.std.proofs.lemmas.Bool.{and_from, and_parts}
 use Rattle.std.specs.Prelude.{IfOk, IfSome, IsTrue, nat_le}
-use Rattle.std.specs.FinMap.{get}
-use Rattle.std.specs.List.{AllByRecursion, list_all, list_any}
-use Rattle.std.specs.Option.{option_map}
-use Rattle.std.specs.Str.{bytes_eq}
+use Rattle.std.specs.List.{AllByRecursion, list_all}
 use Rattle.cnb_build.proofs.OutcomeLaws.{runs_builds}
 use Rattle.cnb_build.specs.Builds.{builds}
 use Rattle.cnb_build.specs.Outcome.{left_by}
 use Rattle.cnb_build.specs.Refusals as building
 use Rattle.cnb_build.specs.declared.fault.BuildFault.{BuildFault}
 use Rattle.cnb_build.specs.declared.frame.BuildFrame.{BuildFrame}
-use Rattle.cnb_create.proofs.ApartLemmas.{Below, Inside, below_below, folder_not_root, inside_below, inside_deeper}
-use Rattle.cnb_create.proofs.ApartLemmas.{inside_joined, never, one_in_other, path_not_root, under, unless_within}
-use Rattle.cnb_create.proofs.ApartLemmas.{within_so}
 use Rattle.cnb_create.proofs.ChoiceLaws.{chosen_keyed}
 use Rattle.cnb_create.proofs.CreateLaws.{trees_apart}
 use Rattle.cnb_create.proofs.ExportLaws.{keeps_exports}
@@ -37,684 +30,63 @@ use Rattle.cnb_detect.specs.Documents.{group_document, plan_document, writes_cho
 use Rattle.cnb_detect.specs.Preparation.{is_fit_preparation, prepares}
 use Rattle.cnb_detect.specs.Refusals as detecting
 use Rattle.cnb_detect.specs.declared.target.TargetSource.TheVariants.{Given}
-use Rattle.cnb_env.specs.Buildpack.{buildpack_folder, plan_name_of}
 use Rattle.cnb_env.specs.Files.{is_fit_platform, is_folder_or_absent}
 use Rattle.cnb_env.specs.declared.files.EnvFile.{EnvFile}
 use Rattle.cnb_export.specs.Exports.{exports}
 use Rattle.cnb_layers.specs.Refusals as exporting
 use Rattle.cnb_layers.specs.Refusals.{of_image_fault}
 use Rattle.cnb_restore.specs.Analyzes.{analyzes}
-use Rattle.cnb_restore.specs.Faults.{cause_of, of_laying_fault}
-use Rattle.cnb_restore.specs.Images.{kept_for, store_of}
-use Rattle.cnb_restore.specs.Layers.{lays_contents, writes_layer, writes_store}
-use Rattle.cnb_restore.specs.Restored.{after_search, gathered_first, with_layer}
-use Rattle.cnb_restore.specs.Restores.{listed, prepares_folder, restores, restores_buildpack, restores_contents}
-use Rattle.cnb_restore.specs.Restores.{restores_document, restores_each, restores_found, restores_group, restores_laid}
-use Rattle.cnb_restore.specs.Restores.{restores_layer, restores_layers, restores_part, restores_rows}
-use Rattle.cnb_restore.specs.Rows.{layer_names}
+use Rattle.cnb_restore.specs.Faults.{cause_of}
+use Rattle.cnb_restore.specs.Restores.{restores}
 use Rattle.cnb_restore.specs.declared.fault.RestoreFault.{RestoreFault}
 use Rattle.cnb_restore.specs.declared.restored.Restored.{Restored}
-use Rattle.cnb_restore.specs.declared.sources.Sources.{Sources}
 use Rattle.cnb_toml.specs.Keys.{is_key}
-use Rattle.cnb_toml.specs.Names.{folder_of, is_bp_id, is_bp_version}
+use Rattle.cnb_toml.specs.Names.{is_bp_id, is_bp_version}
 use Rattle.cnb_toml.specs.declared.names.Key.{Key}
 use Rattle.cnb_toml.specs.declared.target.Target.{Target}
 use Rattle.cnb_words.specs.declared.create.CreateWords.{CreateWords}
-use Rattle.cnb_world.proofs.EffectLemmas.{same_path}
-use Rattle.cnb_world.proofs.Folders.{get-without}
-use Rattle.cnb_world.proofs.Joins.{beside-joined}
-use Rattle.cnb_world.specs.Path.{beside, is_path, joined, parent_of}
+use Rattle.cnb_world.specs.Path.{beside, is_path, parent_of}
 use Rattle.cnb_world.specs.Runs.{Run}
-use Rattle.cnb_world.specs.Tree.{Tree, can_make_folder, folder_made, is_file_or_absent, is_folder, is_root, is_within}
-use Rattle.cnb_world.specs.Tree.{item_at, without}
+use Rattle.cnb_world.specs.Tree.{Tree, can_make_folder, is_file_or_absent}
+use Rattle.cnb_world.specs.Tree.{item_at}
 use Rattle.cnb_world.specs.Whole.{can_write, written}
 use Rattle.cnb_world.specs.declared.env.Variable.{Variable}
-use Rattle.cnb_world.specs.declared.world.Item.{Item}
-use Rattle.cnb_world.specs.declared.world.Item.TheVariants.{Folder}
 use Rattle.image_docs.specs.declared.analyzed.Analyzed.{Analyzed}
-use Rattle.image_docs.specs.declared.layer_row.LayerRow.{LayerRow}
-use Rattle.image_docs.specs.declared.store_row.StoreRow.{StoreRow}
 use Rattle.image_files.specs.Images.{writes_readable_image}
 use Rattle.image_files.specs.Paths.{image_path}
 use Rattle.image_files.specs.Target.{target_of}
-use Rattle.layer_flags.specs.declared.restore.RestoreRow.{RestoreRow}
-use Rattle.layer_flags.specs.declared.restore.RestoreRow.TheVariants as part
 use Rattle.layer_paths.specs.Paths.{layers_folder}
 use Rattle.run_docs.specs.Group.{is_row}
 use Rattle.run_docs.specs.declared.group.GroupRow.{GroupRow}
 use Rattle.run_docs.specs.declared.plan.PlanEntry.{PlanEntry}
-use Rattle.shelf_set.specs.Caches.{Caches, WorldAndCaches, in_caches, in_world}
+use Rattle.shelf_set.specs.Caches.{Caches, WorldAndCaches, in_world}
 use Rattle.shelf_set.specs.ShelfState.{ShelfState}
-use Rattle.shelf_set.specs.declared.finding.Found.{Found}
-use Rattle.shelf_set.specs.declared.finding.Found.TheVariants as found
 use Rattle.steps.specs.Causes.{Cause}
 use Rattle.steps.specs.Each.{for_each}
-use Rattle.steps.specs.Frames.{Spares, standing}
+use Rattle.steps.specs.Keeping.{Spares, standing}
 use Rattle.steps.specs.Outside.{Outside, Seen, SpawnerSeen}
 use Rattle.steps.specs.Steps as steps
-use Rattle.steps.specs.Steps.{◌>>=◌, gives, in_spawners, makes_folder, map_err, reads, removes, writes, yields}
-use Rattle.tree_canon.specs.declared.node.Node.{Node}
-use Rattle.tree_store.proofs.Around.{at_one}
-use Rattle.tree_store.proofs.Blames.{within_itself}
-use Rattle.tree_store.proofs.Places.{child_not_root}
-use Rattle.tree_store.specs.Around.{IsMadeAbove, KeepsAround}
-use Rattle.tree_store.specs.Steps.{lays_tree}
+use Rattle.steps.specs.Steps.{◌>>=◌, gives, in_spawners, map_err, yields}
 use Rattle.cnb_lifecycle.specs.Fitting.{ArePlacesApart, FitsCreate, FitsFirst, FitsImage, FitsLeft, FitsRestore}
-use Rattle.cnb_lifecycle.specs.Fitting.{LeaveFit, LeaveTold, NoMisuse, plans_folder, restore_words, with_analyzed}
+use Rattle.cnb_lifecycle.specs.Fitting.{LeaveFit, LeaveTold, NoMisuse, restore_words, with_analyzed}
 use Rattle.cnb_lifecycle.specs.Fitting.{with_group, with_plan}
 use Rattle.cnb_lifecycle.proofs.BuildFits.{builds_first}
-use Rattle.cnb_lifecycle.proofs.DetectFits.{made_within, folder_stays as stays_behind}
 use Rattle.cnb_lifecycle.proofs.ExportFits.{CachedGoes, CachedMinds, cached_behind, cached_bind, cached_caches}
 use Rattle.cnb_lifecycle.proofs.ExportFits.{cached_gives, cached_last, cached_told, cached_world, cached_yields}
 use Rattle.cnb_lifecycle.proofs.ExportFits.{goes_gains}
 use Rattle.cnb_lifecycle.proofs.FitPasses.{Passes}
 use Rattle.cnb_lifecycle.proofs.FitSteps.{minds_told, minds_writes}
-use Rattle.cnb_lifecycle.proofs.RestoreFits.{Brings, HasId, all_by, beside_caches, brings_around, brings_change}
-use Rattle.cnb_lifecycle.proofs.RestoreFits.{brings_on, brings_same, can_be_folder, folder_stays, itself, kept_folder}
-use Rattle.cnb_lifecycle.proofs.RestoreFits.{reach, restores_leads, root_is_folder}
-use Rattle.cnb_lifecycle.proofs.ServeLaws.{allowed, no_runs}
-
--- ---- steps that run no child, behind which this holds of the files where it did
-
-module _ {S : Type 0} (view : S → Seen) (K : Tree → Type 0) where
-  abbrev Bears : {E A : Type 0} → (S → Result A E → S → Type 0) → Type 0
-  Bears {E} {A} step = (old new : S) (result : Result A E) → step old result new
-      → ((view new).runs ≡ (view old).runs) × IfOk result (λ a. Brings K K (view old).files (view new).files)
-
-  bears_same : {E A : Type 0} (old new : S) (result : Result A E) → (view new).runs ≡ (view old).runs
-      → (view new).files ≡ (view old).files → ((view new).runs ≡ (view old).runs)
-      × IfOk result (λ a. Brings K K (view old).files (view new).files)
-  bears_same old new (Ok a) runs files = (runs, brings_same K (view old).files (view new).files files)
-  bears_same old new (Err fault) runs files = (runs, tt)
-
-  bears_unmoved : {E A : Type 0} (old new : S) (result : Result A E) → new ≡ old
-      → ((view new).runs ≡ (view old).runs) × IfOk result (λ a. Brings K K (view old).files (view new).files)
-  bears_unmoved old new result same = bears_same old new result (ap (λ s. (view s).runs) same)
-      (ap (λ s. (view s).files) same)
-
-  bears_bind : {E A B : Type 0} (first : S → Result A E → S → Type 0) (next : A → S → Result B E → S → Type 0)
-      → Bears first → ((a : A) → Bears (next a)) → Bears (first >>= next)
-  unfolding ◌>>=◌
-  bears_bind first next p q old new (Ok value) (a, mid, h, k) =
-      let one = p old mid (Ok a) h in
-      let two = q a mid new (Ok value) k in
-      (two.0 ∙ one.0, brings_on K K K (view old).files (view mid).files (view new).files one.1 two.1)
-  bears_bind first next p q old new (Err fault) (inl h) = ((p old new (Err fault) h).0, tt)
-  bears_bind first next p q old new (Err fault) (inr (a, mid, h, k)) =
-      ((q a mid new (Err fault) k).0 ∙ (p old mid (Ok a) h).0, tt)
-
-  bears_told : {E F A : Type 0} (of : E → F) (step : S → Result A E → S → Type 0) → Bears step → Bears (map_err of step)
-  unfolding map_err
-  bears_told of step p old new (Ok value) h = p old new (Ok value) h
-  bears_told of step p old new (Err refusal) (fault, is, h) = ((p old new (Err fault) h).0, tt)
-
-  bears_gives : {E A : Type 0} (cause : E → Cause) (want : Result A E) → Bears (gives cause want)
-  unfolding gives
-  bears_gives cause want old new result h = bears_unmoved old new result h.0
-
-  bears_yields : {E A : Type 0} (want : A) → Bears {E = E} {A = A} (yields want)
-  unfolding yields
-  bears_yields {E = E} want old new (Ok value) h = bears_unmoved {E = E} old new (Ok value) h.1
-  bears_yields want old new (Err fault) h = absurd h
-
-  bears_each : {E A X : Type 0} (step : X → A → S → Result A E → S → Type 0) (xs : List X) (so_far : A)
-      → ((x : X) (a : A) → Bears (step x a)) → Bears (for_each step xs so_far)
-  unfolding for_each
-  bears_each step [] so_far p = bears_yields so_far
-  bears_each step (x ∷ xs) so_far p = bears_bind (step x so_far) (for_each step xs) (p x so_far)
-      (λ a. bears_each step xs a p)
-
-module _ (K : Tree → Type 0) where
-  bears_in_world : {E A : Type 0} (step : Seen → Result A E → Seen → Type 0) → Bears itself K step
-      → Bears beside_caches K (in_world step)
-  unfolding in_world
-  bears_in_world step p old new result h = p old.world new.world result h.0
-
-  bears_in_caches : {E A : Type 0} (step : Caches → Result A E → Caches → Type 0)
-      → Bears beside_caches K (in_caches step)
-  unfolding in_caches
-  bears_in_caches step old new result h = bears_same beside_caches K old new result
-      (ap (λ (s : Seen). s.runs) h.1) (ap (λ (s : Seen). s.files) h.1)
-
-  bears_reads : {E A : Type 0} (cause : E → Cause) (fits : Tree → Bool) (want : Tree → Result A E)
-      → Bears itself K (reads cause fits want)
-  unfolding reads
-  bears_reads cause fits want old new result h = bears_same itself K old new result h.same.runs h.same.files
-
-  bears_removes : {E : Type 0} (cause : E → Cause) (path : List ℕ) → ((t : Tree) → K t → K (without path t))
-      → Bears itself K (removes cause path)
-  unfolding removes
-  bears_removes cause path so old new (Ok done) h =
-      (h.0.runs, brings_change K K (without path) old.files new.files so h.0.files)
-  bears_removes cause path so old new (Err fault) h = (h.1.runs, tt)
-
-  bears_makes : {E : Type 0} (cause : E → Cause) (path : List ℕ) → ((t : Tree) → K t → K (folder_made path t))
-      → Bears itself K (makes_folder cause path)
-  unfolding makes_folder
-  bears_makes cause path so old new (Ok done) h =
-      (h.0.runs, brings_change K K (folder_made path) old.files new.files so h.0.files)
-  bears_makes cause path so old new (Err fault) h = (h.1.runs, tt)
-
-  bears_writes : {E : Type 0} (cause : E → Cause) (path : List ℕ) (Says : List ℕ → Type 0)
-      → ((bytes : List ℕ) (t : Tree) → K t → K (written path bytes t)) → Bears itself K (writes cause path Says)
-  unfolding writes
-  bears_writes cause path Says so old new (Ok done) h =
-      (h.runs, brings_change K K (written path h.bytes) old.files new.files (so h.bytes) h.files)
-  bears_writes cause path Says so old new (Err fault) h = (h.1.runs, tt)
-
-  bears_lays : (root place : List ℕ) (tree : Node) → ((t after : Tree) → K t → KeepsAround root t after → K after)
-      → Bears itself K (lays_tree root place tree)
-  unfolding lays_tree
-  bears_lays root place tree so old new (Ok done) h =
-      (h.1.runs, brings_around K K root old.files new.files so h.1.files)
-  bears_lays root place tree so old new (Err fault) h = (h.1.runs, tt)
-
--- ---- a restoration
-
--- this stays where a folder of layers is removed and made, and where documents are written and layers laid in it
-record Stays (layers : List ℕ) (K : Tree → Type 0) : Type 0 where
-  gone : (id : List ℕ) (t : Tree) → K t → K (without (layers_folder layers id) t)
-  made : (id : List ℕ) (t : Tree) → K t → K (folder_made (layers_folder layers id) t)
-  wrote : (id name bytes : List ℕ) (t : Tree) → K t → K (written (joined (layers_folder layers id) name) bytes t)
-  laid : (id name : List ℕ) (t after : Tree) → K t → KeepsAround (joined (layers_folder layers id) name) t after
-      → K after
-
-module _ (layers : List ℕ) (K : Tree → Type 0) (stays : Stays layers K) (id : List ℕ) where
-  abbrev folder : List ℕ
-  folder = layers_folder layers id
-
-  borne_layer : (row : LayerRow) → Bears itself K (writes_layer folder row)
-  unfolding writes_layer
-  borne_layer row = bears_writes K cause_of _ _ (stays.wrote id _)
-
-  borne_store : (row : Option StoreRow) → Bears itself K (writes_store folder row)
-  unfolding writes_store
-  borne_store None = bears_yields itself K tt
-  borne_store (Some row) = bears_writes K cause_of _ _ (stays.wrote id _)
-
-  borne_contents : (row : LayerRow) (tree : Node) → Bears itself K (lays_contents folder row tree)
-  unfolding lays_contents
-  borne_contents row tree = bears_told itself K of_laying_fault _
-      (bears_lays K (joined folder row.layer) (codes "/") tree (stays.laid id row.layer))
-
-  borne_folder : (rows : List StoreRow) → Bears itself K (prepares_folder folder id rows)
-  unfolding prepares_folder
-  borne_folder rows =
-      bears_bind itself K _ _ (bears_removes K cause_of folder (stays.gone id))
-      (λ removed. bears_bind itself K _ _ (bears_makes K cause_of folder (stays.made id))
-      (λ made. borne_store (kept_for id rows)))
-
-  borne_document : (row : LayerRow) (contents : Bool) (restored : Restored)
-      → Bears beside_caches K (restores_document folder row contents restored)
-  unfolding restores_document
-  borne_document row contents restored = bears_bind beside_caches K _ _ (bears_in_world K _ (borne_layer row))
-      (λ written. bears_gives beside_caches K cause_of (Ok (with_layer row contents restored)))
-
-  borne_laid : (row : LayerRow) (restored : Restored) (tree : Node)
-      → Bears beside_caches K (restores_laid folder row restored tree)
-  unfolding restores_laid
-  borne_laid row restored tree = bears_bind beside_caches K _ _ (bears_in_world K _ (borne_contents row tree))
-      (λ laid. borne_document row true restored)
-
-  borne_found : (row : LayerRow) (restored : Restored) (answer : Found)
-      → Bears beside_caches K (restores_found folder row restored answer)
-  unfolding restores_found
-  borne_found row restored found.None = bears_yields beside_caches K restored
-  borne_found row restored (found.Damaged asked is bad) = bears_gives beside_caches K cause_of _
-  borne_found row restored (found.Tree tree) = borne_laid row restored tree
-
-  borne_search : (row : LayerRow) (restored : Restored) → Bears beside_caches K (restores_contents folder row restored)
-  unfolding restores_contents
-  borne_search row restored =
-      bears_bind beside_caches K _ _ (bears_in_caches K _)
-      (λ search. bears_bind beside_caches K _ _ (bears_gives beside_caches K cause_of
-      (Ok (after_search search.gone restored))) (λ counted. borne_found row counted search.found))
-
-  borne_part : (source : Option LayerRow) (line : RestoreRow) (restored : Restored)
-      → Bears beside_caches K (restores_part folder source line restored)
-  unfolding restores_part
-  borne_part None line restored = bears_yields beside_caches K restored
-  borne_part (Some source) part.Nothing restored = bears_yields beside_caches K restored
-  borne_part (Some source) part.Meta restored = borne_document source false restored
-  borne_part (Some source) part.Both restored = borne_search source restored
-
-  borne_one : (app cache : List LayerRow) (name : List ℕ) (restored : Restored)
-      → Bears beside_caches K (restores_layer folder app cache name restored)
-  unfolding restores_layer
-  borne_one app cache name restored = borne_part _ _ restored
-
-  borne_layers : (app cache : List LayerRow) (restored : Restored)
-      → Bears beside_caches K (restores_layers folder app cache restored)
-  unfolding restores_layers restores_each
-  borne_layers app cache restored =
-      bears_bind beside_caches K _ _ (bears_gives beside_caches K cause_of listed)
-      (λ made. bears_each beside_caches K (restores_layer folder app cache) (layer_names app cache) restored
-      (λ name so_far. borne_one app cache name so_far))
-
-  borne_buildpack : (sources : Sources) (restored : Restored)
-      → Bears beside_caches K (restores_buildpack layers sources id restored)
-  unfolding restores_buildpack restores_rows
-  borne_buildpack sources restored =
-      bears_bind beside_caches K _ _ (bears_in_world K _ (borne_folder (store_of sources.previous)))
-      (λ prepared. bears_bind beside_caches K _ _ (bears_gives beside_caches K cause_of listed)
-      (λ made. borne_layers _ _ restored))
-
-module _ (layers : List ℕ) (K : Tree → Type 0) (store : List ℕ) (name : Option (List ℕ)) (group : List GroupRow)
-    (each : (sources : Sources) (restored : Restored) → Bears beside_caches K
-    (restores_group layers sources group restored)) where
-  borne_restores : Bears beside_caches K (restores store name group layers)
-  unfolding restores
-  borne_restores =
-      bears_bind beside_caches K _ _ (bears_in_world K _ (bears_reads K cause_of _ _))
-      (λ previous. bears_bind beside_caches K _ _ (bears_in_caches K _)
-      (λ gathered. bears_bind beside_caches K _ _ (bears_gives beside_caches K cause_of
-      (Ok (gathered_first gathered.unread gathered.gone)))
-      (λ restored. each (record { previous = previous; rows = gathered.rows }) restored)))
-
-borne_group : (layers : List ℕ) (K : Tree → Type 0) → Stays layers K
-    → (group : List GroupRow) (sources : Sources) (restored : Restored)
-    → Bears beside_caches K (restores_group layers sources group restored)
-unfolding restores_group
-borne_group layers K stays group sources restored = bears_each beside_caches K _ group restored
-    (λ row so_far. borne_buildpack layers K stays row.key.id sources so_far)
-
-borne_none : (layers : List ℕ) (K : Tree → Type 0) (sources : Sources) (restored : Restored)
-    → Bears beside_caches K (restores_group layers sources [] restored)
-unfolding restores_group for_each
-borne_none layers K sources restored = bears_yields beside_caches K restored
-
--- ---- folders that stay so
-
-over_without : (root keep : Bool) (old : Option Item) →
-    (is_folder (cond root (Some Folder) old) || not (is_some (cond root (Some Folder) old))) ≡ true
-    → (is_folder (cond root (Some Folder) (cond keep old None))
-    || not (is_some (cond root (Some Folder) (cond keep old None)))) ≡ true
-over_without true keep old h = refl
-over_without false true old h = h
-over_without false false old h = refl
-
-can_of : (t : Tree) (q : List ℕ) → (is_root q ≡ false → can_be_folder t q ≡ true) → can_be_folder t q ≡ true
-can_of t q h = by (is_root q) refl
-  where
-    by : (r : Bool) → is_root q ≡ r → can_be_folder t q ≡ true
-    by true is = root_is_folder (is_root q) (get t q) is
-    by false is = h is
-
-or_first : (a b : Bool) → a ≡ true → (a || b) ≡ true
-or_first true b h = refl
-or_first false b h = absurd (cc)
-
-within_on : (a q p : List ℕ) → is_root q ≡ false → is_within a q ≡ true → is_within q p ≡ true → is_within a p ≡ true
-within_on a q p plain first second = by (within_so a q first) (within_so q p second)
-  where
-    by : (is_root a ≡ true) ⊎ Below a q → (is_root q ≡ true) ⊎ Below q p → is_within a p ≡ true
-    by (inl root) later = or_first (is_root a) _ root
-    by (inr one) (inl root) = absurd (let no : true ≡ false = sym root ∙ plain in cc)
-    by (inr one) (inr two) = under a p (below_below a q p one two)
-
-folder_around : (root q : List ℕ) (t after : Tree) → can_be_folder t q ≡ true → (item_at after q ≡ item_at t q)
-    ⊎ IsMadeAbove root q t after → can_be_folder after q ≡ true
-folder_around root q t after fit (inl same) = kept_folder (item_at t q) (item_at after q) fit (inl same)
-folder_around root q t after fit (inr made) = kept_folder (item_at t q) (item_at after q) fit (inr made.after)
-
--- what lies in a folder that is apart from another is apart from it
-inside_apart : (layers folder path : List ℕ) → are_apart layers folder ≡ true → is_root path ≡ false
-    → Inside folder path → are_apart layers path ≡ true
-inside_apart layers folder path apart plain inside =
-    let parts = and_parts (not (is_within layers folder)) (not (is_within folder layers)) apart in
-    let below : Below folder path = inside_below folder path inside in
-    let either : Below layers folder ⊎ Below folder layers → ⊥ = λ h. one_of layers folder parts.0 parts.1 h in
-    and_from (not (is_within layers path)) (not (is_within path layers))
-    (unless_within layers path (folder_not_root layers folder apart)
-    (λ h. either (one_in_other layers folder path h below)))
-    (unless_within path layers plain (λ h. either (inr (below_below folder path layers below h))))
-  where
-    one_of : (a b : List ℕ) → not (is_within a b) ≡ true → not (is_within b a) ≡ true → Below a b ⊎ Below b a → ⊥
-    one_of a b first second (inl h) = never (is_within a b) first (under a b h)
-    one_of a b first second (inr h) = never (is_within b a) second (under b a h)
-
-module _ (words : CreateWords) (places : ArePlacesApart words) where
-  descriptor_apart : (key : Key) → are_apart words.layers
-      (joined (buildpack_folder words.detect.buildpacks key) (codes "buildpack.toml")) ≡ true
-  descriptor_apart key =
-      let inside : Inside words.detect.buildpacks (joined (buildpack_folder words.detect.buildpacks key)
-      (codes "buildpack.toml")) =
-      inside_deeper words.detect.buildpacks (buildpack_folder words.detect.buildpacks key)
-      (codes "buildpack.toml") (inside_deeper words.detect.buildpacks _ key.version
-      (inside_joined words.detect.buildpacks _ (path_not_root words.layers words.detect.buildpacks
-      places.buildpacks))) in
-      inside_apart words.layers words.detect.buildpacks _ places.buildpacks
-      (child_not_root (buildpack_folder words.detect.buildpacks key) (codes "buildpack.toml") (omega arith))
-      inside
-
-  plans_outside : is_within (plans_folder words.detect.work) words.layers ≡ false
-  plans_outside = by (is_within (plans_folder words.detect.work) words.layers)
-      (and_parts (not (is_within words.layers (plans_folder words.detect.work)))
-      (not (is_within (plans_folder words.detect.work) words.layers)) places.plans).1
-    where
-      by : (v : Bool) → not v ≡ true → v ≡ false
-      by true h = absurd (cc)
-      by false h = refl
-
-  plan_apart : (key : Key) → are_apart words.layers (joined (plans_folder words.detect.work) (plan_name_of key)) ≡ true
-  plan_apart key =
-      inside_apart words.layers (plans_folder words.detect.work) _ places.plans
-      (child_not_root (plans_folder words.detect.work) (plan_name_of key)
-      (omega (arith, length-append (folder_of key.id ++ codes "@" ++ key.version) (codes ".toml"))))
-      (inside_joined (plans_folder words.detect.work) (plan_name_of key)
-      (path_not_root words.layers (plans_folder words.detect.work) places.plans))
-
-  beside_plan_apart : (key : Key) → are_apart words.layers
-      (beside (joined (plans_folder words.detect.work) (plan_name_of key))) ≡ true
-  beside_plan_apart key =
-      subst (λ p. are_apart words.layers p ≡ true) (sym (beside-joined (plans_folder words.detect.work)
-      (plan_name_of key)))
-      (inside_apart words.layers (plans_folder words.detect.work)
-      (joined (plans_folder words.detect.work) (beside (plan_name_of key))) places.plans
-      (child_not_root (plans_folder words.detect.work) (beside (plan_name_of key))
-      (omega (arith, length-append (plan_name_of key) (46 ∷ 110 ∷ 101 ∷ 119 ∷ []))))
-      (inside_joined (plans_folder words.detect.work) (beside (plan_name_of key))
-      (path_not_root words.layers (plans_folder words.detect.work) places.plans)))
-
-  abbrev plan_of : Key → List ℕ
-  plan_of key = joined (plans_folder words.detect.work) (plan_name_of key)
-
-  -- a folder that must be there
-  abbrev IsMade : List ℕ → Type 0
-  IsMade p = ((key : Key) × IsTrue (is_key key) × (p ≡ parent_of (plan_of key)))
-      ⊎ ((key : Key) × IsTrue (is_key key) × (p ≡ layers_folder words.layers key.id))
-
-  abbrev IsWanted : List ℕ → Type 0
-  IsWanted q = (p : List ℕ) × IsMade p × (list_any (bytes_eq q) (reach p) ≡ true)
-
-  abbrev Folders : Tree → Type 0
-  Folders t = (q : List ℕ) → IsWanted q → can_be_folder t q ≡ true
-
-  above : (p : List ℕ) → IsMade p → (id name : List ℕ) → is_within (joined (layers_folder words.layers id) name) p
-      ≡ false
-  above p (inl (key, valid, is)) id name = subst
-      (λ p. is_within (joined (layers_folder words.layers id) name) p ≡ false) (sym is)
-      (places.above_plan key valid id name)
-  above p (inr (other, valid, is)) id name = subst
-      (λ p. is_within (joined (layers_folder words.layers id) name) p ≡ false) (sym is)
-      (places.above_layers id other.id name)
-
-  away : (q : List ℕ) → IsWanted q → is_root q ≡ false → (id name : List ℕ)
-      → is_within (joined (layers_folder words.layers id) name) q ≡ false
-  away q (p, made, is) plain id name = by (is_within (joined (layers_folder words.layers id) name) q) refl
-    where
-      by : (v : Bool) → is_within (joined (layers_folder words.layers id) name) q ≡ v → v ≡ false
-      by false e = refl
-      by true e = sym (within_on (joined (layers_folder words.layers id) name) q p plain e (made_within p q is))
-          ∙ above p made id name
-
-  other_path : (a q : List ℕ) → is_within a q ≡ false → bytes_eq a q ≡ false
-  other_path a q out = by (bytes_eq a q) refl
-    where
-      by : (v : Bool) → bytes_eq a q ≡ v → v ≡ false
-      by false e = refl
-      by true e = absurd (let no : true ≡ false = sym (within_itself a) ∙ ap (is_within a) (same_path a q e) ∙ out
-          in cc)
-
-  folders_stay : Stays words.layers Folders
-  folders_stay = record {
-    gone = λ id t fit q wanted. ap (λ v. is_folder (cond (is_root q) (Some Folder) v)
-        || not (is_some (cond (is_root q) (Some Folder) v))) (get-without (layers_folder words.layers id) t q)
-        ∙ over_without (is_root q) (not (is_within (layers_folder words.layers id) q)) (get t q) (fit q wanted);
-    made = λ id t fit q wanted. folder_stays (layers_folder words.layers id) q t (fit q wanted);
-    wrote = λ id name bytes t fit q wanted. can_of (written (joined (layers_folder words.layers id) name) bytes t) q
-        (λ plain. stays_behind (joined (layers_folder words.layers id) name) bytes t q
-        (other_path (joined (layers_folder words.layers id) name) q (away q wanted plain id name))
-        (fit q wanted));
-    laid = λ id name t after fit around q wanted. can_of after q
-        (λ plain. folder_around (joined (layers_folder words.layers id) name) q t after (fit q wanted)
-        (around q (away q wanted plain id name)));
-  }
-
-  -- what is wanted of the first build's folders
-  folders_of : (t : Tree) → ((key : Key) → IsTrue (is_key key)
-      → can_make_folder t (parent_of (plan_of key)) ≡ true) →
-      ((key : Key) → IsTrue (is_key key) → can_make_folder t (layers_folder words.layers key.id) ≡ true)
-      → Folders t
-  folders_of t plans layers q (p, inl (key, valid, same), is) = at_one (can_be_folder t) (reach p) q
-      (subst (λ p. can_make_folder t p ≡ true) (sym same) (plans key valid)) is
-  folders_of t plans layers q (p, inr (key, valid, same), is) = at_one (can_be_folder t) (reach p) q
-      (subst (λ p. can_make_folder t p ≡ true) (sym same) (layers key valid)) is
-
-  made_of : (t : Tree) (p : List ℕ) → IsMade p → Folders t → can_make_folder t p ≡ true
-  made_of t p made fit = all_by (can_be_folder t) (reach p) (λ q is. fit q (p, made, is))
-
--- ---- what steps come to where the files are told
-
--- files are told, and are as this says
-record IsTold (Q : Tree → Type 0) (files : Option Tree) : Type 0 where
-  tree : Tree
-  is : files ≡ Some tree
-  fit : Q tree
-
--- What steps come to where the files are told and are as `P` says, and each child leaves files as `Left` says, which
--- are told: no such call, and files that are told and are as `Q` says of the value.
-record Came {E A : Type 0} (Left P : Tree → Type 0) (Good : A → Type 0) (Q : A → Tree → Type 0) (old : Seen)
-    (result : Result A E) (new : Seen) : Type 0 where
-  rows : List Run
-  runs : new.runs ≡ old.runs ++ rows
-  good : IfOk result Good
-  minds : (t : Tree) → old.files ≡ Some t → P t → LeaveTold Left rows → (new.misused ≡ old.misused)
-      × IfOk result (λ a. IsTold (Q a) new.files)
-
--- the same of the last steps, behind which the files don't matter
-record Ended (Left P : Tree → Type 0) (old new : Seen) : Type 0 where
-  rows : List Run
-  runs : new.runs ≡ old.runs ++ rows
-  minds : (t : Tree) → old.files ≡ Some t → P t → LeaveTold Left rows → new.misused ≡ old.misused
-
-told_both : (Left : Tree → Type 0) (first second : List Run) → LeaveTold Left (first ++ second)
-    → LeaveTold Left first × LeaveTold Left second
-told_both Left [] second h = (tt, h)
-told_both Left (run ∷ first) second h = let rest = told_both Left first second h.1 in ((h.0, rest.0), rest.1)
-
-runs_on : (a b c first second : List Run) → b ≡ a ++ first → c ≡ b ++ second → c ≡ a ++ (first ++ second)
-runs_on a b c first second one two = two ∙ ap (λ rs. rs ++ second) one ∙ append_assoc a first second
-
-module _ (Left : Tree → Type 0) where
-  came_then : {E A B : Type 0} (P : Tree → Type 0) (Good : A → Type 0) (Q : A → Tree → Type 0) (Last : B → Type 0)
-      (R : B → Tree → Type 0) (old mid new : Seen) (a : A) (result : Result B E)
-      → Came {E = E} {A = A} Left P Good Q old (Ok a) mid → Came {E = E} {A = B} Left (Q a) Last R mid result new
-      → Came {E = E} {A = B} Left P Last R old result new
-  came_then P Good Q Last R old mid new a result h k = record {
-    rows = h.rows ++ k.rows;
-    runs = runs_on old.runs mid.runs new.runs h.rows k.rows h.runs k.runs;
-    good = k.good;
-    minds = λ t is fit left.
-        let parts = told_both Left h.rows k.rows left in
-        let one = h.minds t is fit parts.0 in
-        let two = k.minds one.1.tree one.1.is one.1.fit parts.1 in
-        (two.0 ∙ one.0, two.1);
-  }
-
-  ended_then : {E A : Type 0} (P : Tree → Type 0) (Good : A → Type 0) (Q : A → Tree → Type 0) (old mid new : Seen)
-      (a : A) → Came {E = E} {A = A} Left P Good Q old (Ok a) mid → Ended Left (Q a) mid new
-      → Ended Left P old new
-  ended_then P Good Q old mid new a h k = record {
-    rows = h.rows ++ k.rows;
-    runs = runs_on old.runs mid.runs new.runs h.rows k.rows h.runs k.runs;
-    minds = λ t is fit left.
-        let parts = told_both Left h.rows k.rows left in
-        let one = h.minds t is fit parts.0 in
-        k.minds one.1.tree one.1.is one.1.fit parts.1 ∙ one.0;
-  }
-
-  ended_refused : {E A : Type 0} (P : Tree → Type 0) (Good : A → Type 0) (Q : A → Tree → Type 0) (old new : Seen)
-      (fault : E) → Came {E = E} {A = A} Left P Good Q old (Err fault) new → Ended Left P old new
-  ended_refused P Good Q old new fault h = record
-      { rows = h.rows; runs = h.runs; minds = λ t is fit left. (h.minds t is fit left).0 }
-
-  came_refused : {E F A B : Type 0} (P : Tree → Type 0) (Good : A → Type 0) (Q : A → Tree → Type 0)
-      (Last : B → Type 0) (R : B → Tree → Type 0) (old new : Seen) (fault : E) (other : F)
-      → Came {E = E} {A = A} Left P Good Q old (Err fault) new
-      → Came {E = F} {A = B} Left P Last R old (Err other) new
-  came_refused P Good Q Last R old new fault other h = record
-      { rows = h.rows; runs = h.runs; good = tt; minds = λ t is fit left. ((h.minds t is fit left).0, tt) }
-
-  module _ {S : Type 0} (view : S → Seen) where
-    abbrev Comes : {E A : Type 0} → (S → Tree → Type 0) → (A → Type 0) → (A → S → Tree → Type 0)
-        → (S → Result A E → S → Type 0) → Type 0
-    Comes {E} {A} P Good Q step = (old new : S) (result : Result A E) → step old result new
-        → Came {E = E} {A = A} Left (P old) Good (λ a. Q a new) (view old) result (view new)
-
-    abbrev Ends : {E A : Type 0} → (S → Tree → Type 0) → (S → Result A E → S → Type 0) → Type 0
-    Ends {E} {A} P step = (old new : S) (result : Result A E) → step old result new
-        → Ended Left (P old) (view old) (view new)
-
-    comes_bind : {E A B : Type 0} (P : S → Tree → Type 0) (Good : A → Type 0) (Q : A → S → Tree → Type 0)
-        (Last : B → Type 0) (R : B → S → Tree → Type 0) (first : S → Result A E → S → Type 0)
-        (next : A → S → Result B E → S → Type 0)
-        → Comes P Good Q first → ((a : A) → Good a → Comes (Q a) Last R (next a)) → Comes P Last R (first >>= next)
-    unfolding ◌>>=◌
-    comes_bind P Good Q Last R first next p q old new (Ok value) (a, mid, h, k) =
-        let one = p old mid (Ok a) h in
-        came_then (P old) Good (λ a. Q a mid) Last (λ b. R b new) (view old) (view mid) (view new) a
-        (Ok value) one (q a one.good mid new (Ok value) k)
-    comes_bind P Good Q Last R first next p q old new (Err fault) (inl h) = came_refused (P old) Good
-        (λ a. Q a new) Last (λ b. R b new) (view old) (view new) fault fault (p old new (Err fault) h)
-    comes_bind P Good Q Last R first next p q old new (Err fault) (inr (a, mid, h, k)) =
-        let one = p old mid (Ok a) h in
-        came_then (P old) Good (λ a. Q a mid) Last (λ b. R b new) (view old) (view mid) (view new) a
-        (Err fault) one (q a one.good mid new (Err fault) k)
-
-    ends_bind : {E A B : Type 0} (P : S → Tree → Type 0) (Good : A → Type 0) (Q : A → S → Tree → Type 0)
-        (first : S → Result A E → S → Type 0) (next : A → S → Result B E → S → Type 0)
-        → Comes P Good Q first → ((a : A) → Good a → Ends (Q a) (next a)) → Ends P (first >>= next)
-    unfolding ◌>>=◌
-    ends_bind P Good Q first next p q old new (Ok value) (a, mid, h, k) =
-        let one = p old mid (Ok a) h in
-        ended_then (P old) Good (λ a. Q a mid) (view old) (view mid) (view new) a one
-        (q a one.good mid new (Ok value) k)
-    ends_bind P Good Q first next p q old new (Err fault) (inl h) = ended_refused (P old) Good (λ a. Q a new)
-        (view old) (view new) fault (p old new (Err fault) h)
-    ends_bind P Good Q first next p q old new (Err fault) (inr (a, mid, h, k)) =
-        let one = p old mid (Ok a) h in
-        ended_then (P old) Good (λ a. Q a mid) (view old) (view mid) (view new) a one
-        (q a one.good mid new (Err fault) k)
-
-    comes_told : {E F A : Type 0} (P : S → Tree → Type 0) (Good : A → Type 0) (Q : A → S → Tree → Type 0)
-        (of : E → F) (step : S → Result A E → S → Type 0) → Comes P Good Q step → Comes P Good Q (map_err of step)
-    unfolding map_err
-    comes_told P Good Q of step p old new (Ok value) h = let one = p old new (Ok value) h
-        in record { rows = one.rows; runs = one.runs; good = one.good; minds = one.minds }
-    comes_told P Good Q of step p old new (Err refusal) (fault, is, h) = came_refused (P old) Good
-        (λ a. Q a new) Good (λ a. Q a new) (view old) (view new) fault refusal (p old new (Err fault) h)
-
-    -- what is seen of the world stays
-    came_same : {E A : Type 0} (P : Tree → Type 0) (Good : A → Type 0) (old new : S) (result : Result A E)
-        → IfOk result Good → view new ≡ view old → Came {E = E} {A = A} Left P Good (λ a. P) (view old) result
-        (view new)
-    came_same P Good old new (Ok a) good same = record {
-      rows = [];
-      runs = no_runs Left (view old) (view new) (ap (λ (s : Seen). s.runs) same);
-      good = good;
-      minds = λ t is fit left. (
-        ap (λ (s : Seen). s.misused) same,
-        record
-            { tree = t; is = ap (λ (s : Seen). s.files) same ∙ is; fit = fit },
-      );
-    }
-    came_same P Good old new (Err fault) good same = record {
-      rows = [];
-      runs = no_runs Left (view old) (view new) (ap (λ (s : Seen). s.runs) same);
-      good = tt;
-      minds = λ t is fit left. (ap (λ (s : Seen). s.misused) same, tt);
-    }
-
-    comes_gives : {E A : Type 0} (P : Tree → Type 0) (cause : E → Cause) (want : Result A E)
-        → Comes (λ s. P) (λ a. want ≡ Ok a) (λ a s. P) (gives cause want)
-    unfolding gives
-    comes_gives P cause want old new (Ok a) h = came_same P (λ a. want ≡ Ok a) old new (Ok a) h.1 (ap view h.0)
-    comes_gives P cause want old new (Err fault) h = came_same P (λ a. want ≡ Ok a) old new (Err fault) tt (ap view h.0)
-
-    comes_yields : {E A : Type 0} (P : Tree → Type 0) (want : A)
-        → Comes {E = E} {A = A} (λ s. P) (λ a. Unit {0}) (λ a s. P) (yields want)
-    unfolding yields
-    comes_yields {E = E} P want old new (Ok a) h = came_same {E = E} P (λ a. Unit {0}) old new (Ok a) tt (ap view h.1)
-    comes_yields P want old new (Err fault) h = absurd h
-
-  -- ---- one step
-
-  at_told : (P : Tree → Type 0) (fits : Tree → Bool) (o : Option Tree) (t : Tree) → o ≡ Some t
-      → ((t : Tree) → P t → IsTrue (fits t)) → P t → IfSome o (λ t. IsTrue (fits t))
-  at_told P fits o t is so fit = subst (λ o. IfSome o (λ t. IsTrue (fits t))) (sym is) (so t fit)
-
-  came_looks : {E A : Type 0} (P : Tree → Type 0) (fits : Tree → Bool) (old new : Seen) (result : Result A E)
-      → ((t : Tree) → P t → IsTrue (fits t)) → new.runs ≡ old.runs → new.files ≡ old.files
-      → steps.Allows fits old new
-      → Came {E = E} {A = A} Left P (λ a. Unit {0}) (λ a. P) old result new
-  came_looks P fits old new (Ok a) so runs files allows = record {
-    rows = [];
-    runs = no_runs Left old new runs;
-    good = tt;
-    minds = λ t is fit left. (
-      allowed fits old.files old.misused new.misused
-          (at_told P fits old.files t is so fit) allows,
-      record { tree = t; is = files ∙ is; fit = fit },
-    );
-  }
-  came_looks P fits old new (Err fault) so runs files allows = record {
-    rows = [];
-    runs = no_runs Left old new runs;
-    good = tt;
-    minds = λ t is fit left. (
-      allowed fits old.files old.misused new.misused
-          (at_told P fits old.files t is so fit) allows,
-      tt,
-    );
-  }
-
-  comes_reads : {E A : Type 0} (P : Tree → Type 0) (cause : E → Cause) (fits : Tree → Bool)
-      (want : Tree → Result A E) → ((t : Tree) → P t → IsTrue (fits t))
-      → Comes itself (λ s. P) (λ a. Unit {0}) (λ a s. P) (reads cause fits want)
-  unfolding reads
-  comes_reads P cause fits want so old new result h = came_looks P fits old new result so h.same.runs h.same.files
-      h.allows
-
-  comes_writes : {E : Type 0} (P R : Tree → Type 0) (cause : E → Cause) (path : List ℕ) (Says : List ℕ → Type 0)
-      → ((t : Tree) → P t → IsTrue (can_write path t))
-      → ((bytes : List ℕ) (t : Tree) → P t → R (written path bytes t))
-      → Comes itself (λ s. P) (λ done. Unit {0}) (λ done s. R) (writes cause path Says)
-  unfolding writes
-  comes_writes P R cause path Says so after old new (Ok done) h = record {
-    rows = [];
-    runs = no_runs Left old new h.runs;
-    good = tt;
-    minds = λ t is fit left. (
-      allowed (can_write path) old.files old.misused new.misused
-          (at_told P (can_write path) old.files t is so fit) h.allows,
-      record {
-        tree = written path h.bytes t;
-        is = h.files ∙ ap (option_map (written path h.bytes)) is;
-        fit = after
-            h.bytes t fit;
-      },
-    );
-  }
-  comes_writes P R cause path Says so after old new (Err fault) h = record {
-    rows = [];
-    runs = no_runs Left old new h.1.runs;
-    good = tt;
-    minds = λ t is fit left. (
-      allowed (can_write path) old.files old.misused new.misused
-          (at_told P (can_write path) old.files t is so fit) h.1.allows,
-      tt,
-    );
-  }
-
-  -- whatever the value is
-  any_came : {E A : Type 0} {Good : A → Type 0} (P : Tree → Type 0) (old new : Seen) (result : Result A E)
-      → Came {E = E} {A = A} Left P Good (λ a. P) old result new
-      → Came {E = E} {A = A} Left P (λ a. Unit {0}) (λ a. P) old result new
-  any_came P old new (Ok a) h = record { rows = h.rows; runs = h.runs; good = tt; minds = h.minds }
-  any_came P old new (Err fault) h = record { rows = h.rows; runs = h.runs; good = tt; minds = h.minds }
-
--- ---- the documents that are written
+use Rattle.cnb_lifecycle.proofs.LeadingSteps.{Brings, beside_caches}
+use Rattle.cnb_lifecycle.proofs.ReadNames.{HasId}
+use Rattle.cnb_lifecycle.proofs.LeadingSteps.{itself}
+use Rattle.cnb_lifecycle.proofs.RestoreFits.{restores_leads}
+use Rattle.cnb_lifecycle.proofs.ServeLaws.{no_runs}
+use Rattle.cnb_lifecycle.proofs.CreateRestores.{Folders, Stays, beside_plan_apart, borne_group, borne_none}
+use Rattle.cnb_lifecycle.proofs.CreateRestores.{borne_restores, descriptor_apart, folder, folders_of, folders_stay}
+use Rattle.cnb_lifecycle.proofs.CreateRestores.{made_of, plan_apart, plan_of, plans_outside}
+use Rattle.cnb_lifecycle.proofs.ToldSteps.{Came, Comes, Ends, IsTold, any_came, came_looks, came_same, comes_bind}
+use Rattle.cnb_lifecycle.proofs.ToldSteps.{comes_gives, comes_reads, comes_told, comes_writes, comes_yields, ends_bind}
+use Rattle.cnb_lifecycle.proofs.ToldSteps.{runs_on}
 
 record IsAnalyzed (words : CreateWords) (shelves : List ShelfState) (t : Tree) : Type 0 where
   start : Tree
@@ -741,7 +113,7 @@ abbrev any : {A : Type 0} → A → Type 0
 any a = Unit {0}
 
 module _ (words : CreateWords) where
-  abbrev Left : Tree → Type 0
+  abbrev pub Left : Tree → Type 0
   Left = FitsLeft words
 
   images_come : (shelves : List ShelfState) → Comes Left itself (λ s. FitsCreate words shelves) any
@@ -752,9 +124,9 @@ module _ (words : CreateWords) where
       let Behind : Tree → Type 0 = IsAnalyzed words shelves in
       comes_bind Left itself (λ s. Start) any (λ a s. Start) any (λ a s. Behind) _ _
       (comes_bind Left itself (λ s. Start) any (λ a s. Start) any (λ a s. Start) _ _
-      (comes_reads Left Start cause_of _ _ (λ t (fit : FitsCreate words shelves t). fit.run))
+      (comes_reads Left Start cause_of _ _ _ (λ t (fit : FitsCreate words shelves t). fit.run))
       (λ image good. comes_bind Left itself (λ s. Start) any (λ a s. Start) any (λ a s. Start) _ _
-      (comes_reads Left Start cause_of _ _ (λ t (fit : FitsCreate words shelves t). fit.previous))
+      (comes_reads Left Start cause_of _ _ _ (λ t (fit : FitsCreate words shelves t). fit.previous))
       (λ known good old new result h. let one = comes_gives Left itself Start cause_of _ old new result h
       in any_came Left Start old new result one)))
       (λ analyzed good. comes_bind Left itself (λ s. Start) any (λ a s. Behind) any (λ a s. Behind) _ _
@@ -1178,7 +550,7 @@ module _ (words : CreateWords) where
   group_comes known env choice keys =
       let P : Tree → Type 0 = After choice.group in
       comes_bind Left itself (λ s. P) any (λ a s. P) any (λ a s. CanExport) _ _
-      (comes_reads Left P building.cause_of _ _ (λ t (fit : After choice.group t). fit.platform))
+      (comes_reads Left P building.cause_of _ _ _ (λ t (fit : After choice.group t). fit.platform))
       (λ files good. comes_bind Left itself (λ s. P) (λ frame. Ok (build_frame known words env files) ≡ Ok frame)
       (λ a s. P) any (λ a s. CanExport) _ _ (comes_gives Left itself P building.cause_of _)
       (λ frame is. subst (λ (frame : BuildFrame). Comes Left itself (λ s. P) any (λ a s. CanExport)

@@ -30,7 +30,7 @@ use Rattle.cnb_world.specs.Whole.{can_write, written}
 use Rattle.cnb_world.specs.declared.env.Variable.{Variable}
 use Rattle.cnb_world.specs.declared.world.Item.{Item}
 use Rattle.cnb_world.specs.declared.world.Item.TheVariants.{File, Folder}
-use Rattle.steps.specs.Frames.{folder_paths}
+use Rattle.steps.specs.Keeping.{folder_paths}
 use Rattle.steps.specs.Outside.{Outside}
 use Rattle.tree_store.proofs.Apart.{above_within}
 use Rattle.tree_store.proofs.Blames.{within_itself}

@@ -73,7 +73,7 @@ use Rattle.run_docs.specs.declared.layer.LayerDoc.{LayerDoc}
 use Rattle.sha2.proofs.Facts256.{length-sha256}
 use Rattle.sha2.specs.Sha256.{digest_bytes, sha256}
 use Rattle.shelf_set.specs.Caches.{Caches, WorldAndCaches, in_caches, in_world}
-use Rattle.steps.proofs.FrameLaws.{made_free}
+use Rattle.steps.proofs.KeepingLaws.{made_free}
 use Rattle.steps.specs.Causes.{Cause}
 use Rattle.steps.specs.Outside.{Seen}
 use Rattle.steps.specs.Steps.{◌>>=◌, gives, map_err, yields}
@@ -399,19 +399,19 @@ module _ (Fit : Tree → Type 0) where
   looks_as : {A : Type 0} (form : List ℕ → Result A DocFault) (at : List ℕ)
       → ((t : Tree) → Fit t → IsTrue (is_file_or_absent (item_at t at))) → Looks Fit (reads_as form at)
   unfolding reads_as
-  looks_as form at so = looks_bind Fit _ _ (looks_reads Fit cause_of _ _ so) (λ found. looks_gives Fit cause_of _)
+  looks_as form at so = looks_bind Fit _ _ (looks_reads Fit cause_of _ _ _ so) (λ found. looks_gives Fit cause_of _)
 
   looks_some : {A : Type 0} (form : List ℕ → Result A DocFault) (at : List ℕ)
       → ((t : Tree) → Fit t → IsTrue (is_file_or_absent (item_at t at))) → Looks Fit (reads_some form at)
   unfolding reads_some
-  looks_some form at so = looks_bind Fit _ _ (looks_reads Fit cause_of _ _ so) (λ found. looks_gives Fit cause_of _)
+  looks_some form at so = looks_bind Fit _ _ (looks_reads Fit cause_of _ _ _ so) (λ found. looks_gives Fit cause_of _)
 
   looks_needed : {A : Type 0} (form : List ℕ → Result A DocFault) (folder name : List ℕ)
       → ((t : Tree) → Fit t → IsTrue (is_file_or_absent (item_at t (joined folder name))))
       → Looks Fit (reads_needed form folder name)
   unfolding reads_needed
   looks_needed form folder name so = looks_given Fit cause_of (joined folder name) _
-      (looks_bind Fit _ _ (looks_reads Fit cause_of _ _ so) (λ found. looks_gives Fit cause_of _))
+      (looks_bind Fit _ _ (looks_reads Fit cause_of _ _ _ so) (λ found. looks_gives Fit cause_of _))
 
   looks_pattern : (id text : List ℕ) → Looks Fit (reads_pattern id text)
   unfolding reads_pattern
@@ -432,22 +432,22 @@ module _ (Fit : Tree → Type 0) where
 
   looks_cut : (app : List ℕ) (slices : Slices) → Looks Fit (cuts_app app slices)
   unfolding cuts_app reads_tree
-  looks_cut app slices = looks_bind Fit _ _ (looks_told Fit Store _ (looks_reads Fit _ _ _ (λ t fit. refl)))
+  looks_cut app slices = looks_bind Fit _ _ (looks_told Fit Store _ (looks_reads Fit _ _ _ _ (λ t fit. refl)))
       (λ tree. looks_gives Fit cause_of _)
 
   looks_layer : (at : List ℕ) → Looks Fit (reads_layer at)
   unfolding reads_layer
-  looks_layer at = looks_bind Fit _ _ (looks_reads Fit cause_of _ _ (λ t fit. refl))
+  looks_layer at = looks_bind Fit _ _ (looks_reads Fit cause_of _ _ _ (λ t fit. refl))
       (λ found. looks_gives Fit cause_of _)
 
   looks_contents : (at : List ℕ) → Looks Fit (looks_for_contents at)
   unfolding looks_for_contents
-  looks_contents at = looks_bind Fit _ _ (looks_reads Fit cause_of _ _ (λ t fit. refl))
+  looks_contents at = looks_bind Fit _ _ (looks_reads Fit cause_of _ _ _ (λ t fit. refl))
       (λ kind. looks_gives Fit cause_of (there_by at kind))
 
   looks_stored : (store digest : List ℕ) → Looks Fit (looks_for_stored store digest)
   unfolding looks_for_stored looks_for_tree
-  looks_stored store digest = looks_bind Fit _ _ (looks_told Fit Store _ (looks_reads Fit _ _ _ (λ t fit. refl)))
+  looks_stored store digest = looks_bind Fit _ _ (looks_told Fit Store _ (looks_reads Fit _ _ _ _ (λ t fit. refl)))
       (λ stored. looks_gives Fit cause_of _)
 
   looks_checked : (store : List ℕ) (digest : Option (List ℕ)) (before : Option LayerRow)
@@ -472,7 +472,7 @@ module _ (Fit : Tree → Type 0) where
 
   looks_names : (folder : List ℕ) → ((t : Tree) → Fit t → IsListed folder t) → Looks Fit (reads_layer_names folder)
   unfolding reads_layer_names reads_names
-  looks_names folder so = looks_bind Fit _ _ (reads_then Fit cause_of _ _ _ (λ t fit. refl)
+  looks_names folder so = looks_bind Fit _ _ (reads_then Fit cause_of _ _ _ _ (λ t fit. refl)
       (λ kind. by kind (is_absent kind) refl)) (λ names. looks_gives Fit cause_of (Ok (layers_among names)))
     where
       some_kind : (found : Option Item) → is_absent (kind_of found) ≡ false → is_some found ≡ true
@@ -482,14 +482,14 @@ module _ (Fit : Tree → Type 0) where
       by : (kind : Kind) (absent : Bool) → is_absent kind ≡ absent
           → Looks (Known folder kind) (lists_unless absent folder)
       by kind true is = looks_yields (Known folder kind) []
-      by kind false is = looks_reads (Known folder kind) cause_of _ _
+      by kind false is = looks_reads (Known folder kind) cause_of _ _ _
           (λ t fit. so t fit.0 (some_kind (item_at t folder)
           (ap is_absent (ok_is (kind_of (item_at t folder)) kind fit.1) ∙ is)))
 
   looks_rows : (store name : List ℕ) → ((t : Tree) → Fit t
       → IsTrue (is_file_or_absent (item_at t (image_path store name)))) → Looks Fit (reads_layers store name)
   unfolding reads_layers reads_image
-  looks_rows store name so = looks_bind Fit _ _ (looks_told Fit of_image_fault _ (looks_reads Fit _ _ _ so))
+  looks_rows store name so = looks_bind Fit _ _ (looks_told Fit of_image_fault _ (looks_reads Fit _ _ _ _ so))
       (λ image. looks_yields Fit image.layers)
 
   looks_previous : (store : List ℕ) (name : Option (List ℕ))
@@ -501,7 +501,7 @@ module _ (Fit : Tree → Type 0) where
   looks_run : (store name : List ℕ) → ((t : Tree) → Fit t
       → IsTrue (is_file_or_absent (item_at t (run_path store name)))) → Looks Fit (reads_run_image store name)
   unfolding reads_run_image
-  looks_run store name so = looks_reads Fit _ _ _ so
+  looks_run store name so = looks_reads Fit _ _ _ _ so
 
 -- ---- what puts trees
 
@@ -586,7 +586,7 @@ module _ (store layers image : List ℕ) (path : IsTrue (is_short_path store))
   goes_there : (cache launch : Bool) (at : List ℕ) → Goes Fits (takes_there store cache launch at)
   unfolding takes_whole puts_contents reads_tree
   goes_there true launch at =
-      goes_bind Fits _ _ (goes_looks Fits _ (looks_told Fits Store _ (looks_reads Fits _ _ _ (λ t fit. refl))))
+      goes_bind Fits _ _ (goes_looks Fits _ (looks_told Fits Store _ (looks_reads Fits _ _ _ _ (λ t fit. refl))))
       (λ tree. goes_bind Fits _ _ (goes_kept launch tree) (λ digest. goes_looks Fits _ (looks_yields Fits _)))
   goes_there false true at = goes_bind Fits _ _ (goes_told Fits Store _ (goes_folder at))
       (λ digest. goes_looks Fits _ (looks_yields Fits _))

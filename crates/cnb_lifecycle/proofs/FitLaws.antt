@@ -103,14 +103,15 @@ use Rattle.cnb_lifecycle.proofs.WordLaws.{HasPaths}
 
 show_minds : (words : ShowWords) → Minds (FitsShow words) (shows_command words)
 unfolding shows_command reads_image
-show_minds words = minds_looks _ _ (looks_bind _ _ _ (looks_reads _ _ _ _ (λ t fit. fit)) (λ image. looks_gives _ _ _))
+show_minds words = minds_looks _ _ (looks_bind _ _ _ (looks_reads _ _ _ _ _ (λ t fit. fit))
+    (λ image. looks_gives _ _ _))
 
 analyze_minds : (words : AnalyzeWords) → Minds (FitsAnalyze words) (analyzes_command words)
 unfolding analyzes_command analyzes
 analyze_minds words =
     minds_bind _ _ _
-    (looks_bind _ _ _ (looks_reads _ _ _ _ (λ t (fit : FitsAnalyze words t). fit.run))
-    (λ image. looks_bind _ _ _ (looks_reads _ _ _ _ (λ t (fit : FitsAnalyze words t). fit.previous))
+    (looks_bind _ _ _ (looks_reads _ _ _ _ _ (λ t (fit : FitsAnalyze words t). fit.run))
+    (λ image. looks_bind _ _ _ (looks_reads _ _ _ _ _ (λ t (fit : FitsAnalyze words t). fit.previous))
     (λ known. looks_gives _ _ _)))
     (λ analyzed. minds_bind _ _ _ (looks_gives _ _ _)
     (λ text. minds_yields _ _ _ (minds_writes _ _ _ _ (λ t (fit : FitsAnalyze words t). fit.written))))
@@ -119,8 +120,8 @@ rebase_minds : (words : RebaseWords) → Minds (FitsRebase words) (rebases_comma
 unfolding rebases_command rebases rebases_on saves_rebased reads_image reads_run_image writes_readable_image
 rebase_minds words =
     minds_bind _ _ _
-    (looks_bind _ _ _ (looks_told _ _ _ (looks_reads _ _ _ _ (λ t (fit : FitsRebase words t). fit.image)))
-    (λ image. looks_bind _ _ _ (looks_told _ _ _ (looks_reads _ _ _ _ (λ t (fit : FitsRebase words t). fit.run)))
+    (looks_bind _ _ _ (looks_told _ _ _ (looks_reads _ _ _ _ _ (λ t (fit : FitsRebase words t). fit.image)))
+    (λ image. looks_bind _ _ _ (looks_told _ _ _ (looks_reads _ _ _ _ _ (λ t (fit : FitsRebase words t). fit.run)))
     (λ base. looks_gives _ _ _)))
     (λ image. minds_bind _ _ _ (looks_gives _ _ _)
     (λ text. minds_yields _ _ _ (minds_told _ _ _
@@ -148,7 +149,7 @@ unfolding verifies_command verifies checks_image checks_all reads_image
 verify_minds words =
     minds_looks _ _
     (looks_bind _ _ _
-    (looks_bind _ _ _ (looks_told _ _ _ (looks_reads _ _ _ _ (λ t (fit : FitsVerify words t). fit.image)))
+    (looks_bind _ _ _ (looks_told _ _ _ (looks_reads _ _ _ _ _ (λ t (fit : FitsVerify words t). fit.image)))
     (λ image. looks_bind _ _ _ (looks_gives _ _ _)
     (λ digests. looks_bind _ _ _ (looks_each _ (checks_next words.store) digests tt
     (λ digest done. looks_told _ _ _ (looks_for_tree words.store digest _
@@ -168,19 +169,20 @@ check_minds words =
     minds_looks _ _
     (looks_bind _ _ _
     (looks_bind _ _ _
-    (looks_bind _ _ _ (looks_told _ _ _ (looks_reads _ _ _ _ (λ t (fit : FitsCheck words t). fit.order)))
-    (λ order. looks_bind _ _ _ (looks_told _ _ _ (looks_reads _ _ _ _ (λ t (fit : FitsCheck words t). fit.buildpacks)))
+    (looks_bind _ _ _ (looks_told _ _ _ (looks_reads _ _ _ _ _ (λ t (fit : FitsCheck words t). fit.order)))
+    (λ order. looks_bind _ _ _ (looks_told _ _ _ (looks_reads _ _ _ _ _
+    (λ t (fit : FitsCheck words t). fit.buildpacks)))
     (λ catalog. looks_bind _ _ _ (looks_told _ _ _ (looks_gives _ _ _)) (λ groups. looks_yields _ _))))
     (λ ordered. looks_bind _ _ _ (looks_told _ _ _
-    (looks_reads _ _ _ _ (λ t (fit : FitsCheck words t). fit.record_file)))
+    (looks_reads _ _ _ _ _ (λ t (fit : FitsCheck words t). fit.record_file)))
     (λ bytes. looks_told _ _ _ (looks_gives _ _ _))))
     (λ proved. looks_bind _ _ _
     (looks_bind _ _ _ (looks_bind _ _ _ (looks_told _ _ _
-    (looks_reads _ _ _ _ (λ t (fit : FitsCheck words t). fit.group)))
+    (looks_reads _ _ _ _ _ (λ t (fit : FitsCheck words t). fit.group)))
     (λ group. looks_bind _ _ _ (looks_gives _ _ _) (λ known. looks_yields _ _)))
     (λ group. looks_matched _ _ _ _))
     (λ group. looks_bind _ _ _ (looks_bind _ _ _ (looks_told _ _ _
-    (looks_reads _ _ _ _ (λ t (fit : FitsCheck words t). fit.plan))) (λ plan. looks_matched _ _ _ _))
+    (looks_reads _ _ _ _ _ (λ t (fit : FitsCheck words t). fit.plan))) (λ plan. looks_matched _ _ _ _))
     (λ plan. looks_gives _ _ _))))
 
 -- ---- prune
@@ -203,12 +205,12 @@ counts_removal cause path is old new result h = by result h
 looks_lists : (Fit : Tree → Type 0) (folder : List ℕ) → ((t : Tree) → Fit t → IsListed folder t)
     → Looks Fit (lists folder)
 unfolding lists looks_for lists_where
-looks_lists Fit folder so = reads_then Fit prune_cause _ (λ files. Ok (is_some (item_at files folder))) _
+looks_lists Fit folder so = reads_then Fit prune_cause _ _ (λ files. Ok (is_some (item_at files folder))) _
     (λ t fit. refl) by
   where
     by : (there : Bool) → Looks (λ t. Fit t × (◌≡◌ {A = Result Bool PruneFault} (Ok (is_some (item_at t folder)))
         (Ok there))) (lists_where folder there)
-    by true = looks_reads _ prune_cause _ _ (λ t fit. so t fit.0 (ok_is (is_some (item_at t folder)) true fit.1))
+    by true = looks_reads _ prune_cause _ _ _ (λ t fit. so t fit.0 (ok_is (is_some (item_at t folder)) true fit.1))
     by false = looks_yields _ []
 
 file_fits : (found : Option Item) → is_file found ≡ true → is_file_or_absent found ≡ true
@@ -217,12 +219,12 @@ file_fits found is = subst (λ v. (v || not (is_some found)) ≡ true) (sym is) 
 module _ {A : Type 0} (form : TableForm A) (digests : A → List (List ℕ)) (Fit : Tree → Type 0) where
   looks_document : (path : List ℕ) (named : List (List ℕ)) → Looks Fit (adds_document form digests path named)
   unfolding adds_document adds_where looks_for_file reads_names
-  looks_document path named = reads_then Fit prune_cause _ (λ files. Ok (is_file (item_at files path))) _
+  looks_document path named = reads_then Fit prune_cause _ _ (λ files. Ok (is_file (item_at files path))) _
       (λ t fit. refl) by
     where
       by : (there : Bool) → Looks (λ t. Fit t × (◌≡◌ {A = Result Bool PruneFault} (Ok (is_file (item_at t path)))
           (Ok there))) (adds_where form digests path named there)
-      by true = looks_bind _ _ _ (looks_reads _ prune_cause _ _
+      by true = looks_bind _ _ _ (looks_reads _ prune_cause _ _ _
           (λ t fit. file_fits (item_at t path) (ok_is (is_file (item_at t path)) true fit.1)))
           (λ more. looks_gives _ _ _)
       by false = looks_yields _ named
@@ -246,7 +248,7 @@ looks_digest : (Fit : Tree → Type 0) (store : List ℕ) (digest : Option (List
     → Looks Fit (adds_digest store digest trees)
 unfolding adds_digest looks_for_file
 looks_digest Fit store None trees = looks_yields Fit trees
-looks_digest Fit store (Some digest) trees = looks_bind Fit _ _ (looks_reads Fit prune_cause _ _ (λ t fit. refl))
+looks_digest Fit store (Some digest) trees = looks_bind Fit _ _ (looks_reads Fit prune_cause _ _ _ (λ t fit. refl))
     (λ there. looks_gives Fit prune_cause _)
 
 looks_survey : (words : PruneWords) → Looks (FitsPrune words) (surveys words.store)
@@ -419,18 +421,18 @@ module _ (words : LaunchWords) (env : List Variable) where
   launch_looks : Looks (FitsLaunch words) (prepares words.root words.call env)
   unfolding prepares prepares_of prepares_in
   launch_looks =
-      told_then (FitsLaunch words) _ read_cause _ (launch_doc_under words.root) _ (λ t fit. fit.document)
+      told_then (FitsLaunch words) _ read_cause _ _ (launch_doc_under words.root) _ (λ t fit. fit.document)
       (λ doc. given_then (Known doc) launching.cause_of (chosen_in doc words.call) _
       (λ chosen is.
       let layered : (sets : List (List (List ℕ))) (t : Tree) → KnownSets doc sets t
       → Layered chosen.kind sets t = λ sets t fit. of_ok _ sets _ fit.1
       (of_ok _ chosen _ is (of_ok _ doc _ fit.0.1 fit.0.0.process)) in
-      told_then (Known doc) _ read_cause _ (sets_in words.root doc.buildpacks) _
+      told_then (Known doc) _ read_cause _ _ (sets_in words.root doc.buildpacks) _
       (λ t (fit : Known doc t). of_ok _ doc _ fit.1 fit.0.layers)
       (λ sets. looks_bind (KnownSets doc sets) _ _ (looks_told _ _ _
-      (looks_reads _ read_cause _ _ (λ t fit. (layered sets t fit).0)))
+      (looks_reads _ read_cause _ _ _ (λ t fit. (layered sets t fit).0)))
       (λ start. looks_bind (KnownSets doc sets) _ _
-      (looks_told _ _ _ (looks_reads _ read_cause _ _ (λ t fit. (layered sets t fit).1)))
+      (looks_told _ _ _ (looks_reads _ read_cause _ _ _ (λ t fit. (layered sets t fit).1)))
       (λ execs. looks_gives _ _ _)))))
 
   launch_minds : Minds (FitsLaunch words) (launches_command words env)

@@ -85,10 +85,11 @@ unfolding map_err
 minds_told Fit of step p old new (Ok value) h = p old new (Ok value) h
 minds_told Fit of step p old new (Err refusal) (fault, is, h) = p old new (Err fault) h
 
-pub looks_reads : {E A : Type 0} (Fit : Tree → Type 0) (cause : E → Cause) (fits : Tree → Bool)
-    (want : Tree → Result A E) → ((t : Tree) → Fit t → IsTrue (fits t)) → Looks Fit (reads cause fits want)
+pub looks_reads : {E A : Type 0} (Fit : Tree → Type 0) (cause : E → Cause)
+    (Among : List ℕ → Type 0) (fits : Tree → Bool)
+    (want : Tree → Result A E) → ((t : Tree) → Fit t → IsTrue (fits t)) → Looks Fit (reads cause Among fits want)
 unfolding reads
-looks_reads Fit cause fits want so old new result h = (
+looks_reads Fit cause Among fits want so old new result h = (
   h.same.files,
   narrow (λ t. IsTrue (fits t)) Fit old.files old.misused new.misused so
       (by_allows fits old.files old.misused new.misused h.allows),
@@ -151,17 +152,18 @@ with_known P Q (Some t) o1 b c same q h =
     let at : IfSome (Some t) (λ t. P t × Q t → c ≡ b) = subst (λ v. IfSome v (λ t. P t × Q t → c ≡ b)) same h in
     subst (λ v. IfSome v (λ t. P t → c ≡ b)) (sym same) (λ p. at (p, q))
 
-pub reads_then : {E A B : Type 0} (Fit : Tree → Type 0) (cause : E → Cause) (fits : Tree → Bool)
+pub reads_then : {E A B : Type 0} (Fit : Tree → Type 0) (cause : E → Cause)
+    (Among : List ℕ → Type 0) (fits : Tree → Bool)
     (want : Tree → Result A E) (next : A → Seen → Result B E → Seen → Type 0)
     → ((t : Tree) → Fit t → IsTrue (fits t))
-    → ((a : A) → Looks (λ t. Fit t × (want t ≡ Ok a)) (next a)) → Looks Fit (reads cause fits want >>= next)
+    → ((a : A) → Looks (λ t. Fit t × (want t ≡ Ok a)) (next a)) → Looks Fit (reads cause Among fits want >>= next)
 unfolding ◌>>=◌ reads
-reads_then {E = E} {A = A} {B = B} Fit cause fits want next so later old new result h = by result h
+reads_then {E = E} {A = A} {B = B} Fit cause Among fits want next so later old new result h = by result h
   where
-    behind : (result : Result B E) (a : A) (mid : Seen) → reads cause fits want old (Ok a) mid
+    behind : (result : Result B E) (a : A) (mid : Seen) → reads cause Among fits want old (Ok a) mid
         → next a mid result new → (new.files ≡ old.files) × NoMisuse Fit old new
     behind result a mid h k =
-        let one = looks_reads Fit cause fits want so old mid (Ok a) h in
+        let one = looks_reads Fit cause Among fits want so old mid (Ok a) h in
         let two = later a mid new result k in (
           two.0 ∙ one.0,
           join Fit old.files mid.files old.misused mid.misused new.misused one.0 one.1
@@ -169,25 +171,26 @@ reads_then {E = E} {A = A} {B = B} Fit cause fits want next so later old new res
               two.1),
         )
 
-    by : (result : Result B E) → (reads cause fits want >>= next) old result new → (new.files ≡ old.files)
+    by : (result : Result B E) → (reads cause Among fits want >>= next) old result new → (new.files ≡ old.files)
         × NoMisuse Fit old new
     by (Ok value) (a, mid, h, k) = behind (Ok value) a mid h k
-    by (Err fault) (inl h) = looks_reads Fit cause fits want so old new (Err fault) h
+    by (Err fault) (inl h) = looks_reads Fit cause Among fits want so old new (Err fault) h
     by (Err fault) (inr (a, mid, h, k)) = behind (Err fault) a mid h k
 
 -- the same where the fault is told as another
-pub told_then : {E F A B : Type 0} (Fit : Tree → Type 0) (of : E → F) (cause : E → Cause) (fits : Tree → Bool)
+pub told_then : {E F A B : Type 0} (Fit : Tree → Type 0) (of : E → F)
+    (cause : E → Cause) (Among : List ℕ → Type 0) (fits : Tree → Bool)
     (want : Tree → Result A E) (next : A → Seen → Result B F → Seen → Type 0)
     → ((t : Tree) → Fit t → IsTrue (fits t))
     → ((a : A) → Looks (λ t. Fit t × (want t ≡ Ok a)) (next a))
-    → Looks Fit (map_err of (reads cause fits want) >>= next)
+    → Looks Fit (map_err of (reads cause Among fits want) >>= next)
 unfolding ◌>>=◌ map_err reads
-told_then {F = F} {A = A} {B = B} Fit of cause fits want next so later old new result h = by result h
+told_then {F = F} {A = A} {B = B} Fit of cause Among fits want next so later old new result h = by result h
   where
-    behind : (result : Result B F) (a : A) (mid : Seen) → reads cause fits want old (Ok a) mid
+    behind : (result : Result B F) (a : A) (mid : Seen) → reads cause Among fits want old (Ok a) mid
         → next a mid result new → (new.files ≡ old.files) × NoMisuse Fit old new
     behind result a mid h k =
-        let one = looks_reads Fit cause fits want so old mid (Ok a) h in
+        let one = looks_reads Fit cause Among fits want so old mid (Ok a) h in
         let two = later a mid new result k in (
           two.0 ∙ one.0,
           join Fit old.files mid.files old.misused mid.misused new.misused one.0 one.1
@@ -195,10 +198,10 @@ told_then {F = F} {A = A} {B = B} Fit of cause fits want next so later old new r
               two.1),
         )
 
-    by : (result : Result B F) → (map_err of (reads cause fits want) >>= next) old result new
+    by : (result : Result B F) → (map_err of (reads cause Among fits want) >>= next) old result new
         → (new.files ≡ old.files) × NoMisuse Fit old new
     by (Ok value) (a, mid, h, k) = behind (Ok value) a mid h k
-    by (Err refusal) (inl (fault, is, h)) = looks_reads Fit cause fits want so old new (Err fault) h
+    by (Err refusal) (inl (fault, is, h)) = looks_reads Fit cause Among fits want so old new (Err fault) h
     by (Err refusal) (inr (a, mid, h, k)) = behind (Err refusal) a mid h k
 
 pub given_then : {E A B : Type 0} (Fit : Tree → Type 0) (cause : E → Cause) (want : Result A E)

@@ -37,8 +37,9 @@ use Rattle.shelf_set.specs.Caches.{caches_of, in_world}
 use Rattle.shelf_set.specs.ShelfState.{ShelfState}
 use Rattle.steps.specs.Outside.{Outside, Seen}
 use Rattle.steps.specs.Steps.{◌>>=◌, gives, map_err, yields}
-use Rattle.steps.proofs.FrameLaws.{Preserves, keeps_bind, keeps_gives, keeps_reads, keeps_same, keeps_then, keeps_told}
-use Rattle.steps.proofs.FrameLaws.{keeps_yields}
+use Rattle.steps.proofs.KeepingLaws.{Preserves, keeps_bind, keeps_gives, keeps_reads, keeps_same, keeps_then}
+use Rattle.steps.proofs.KeepingLaws.{keeps_told}
+use Rattle.steps.proofs.KeepingLaws.{keeps_yields}
 use Rattle.tree_store.specs.Answers as tree_store
 use Rattle.tree_store.specs.Writing.{trees_of}
 use Rattle.cnb_lifecycle.specs.declared.answer.Answer.{Answer}
@@ -63,7 +64,7 @@ keeps_needed : {A : Type 0} (path : List ℕ) (form : List ℕ → Result A DocF
 unfolding reads_needed
 keeps_needed path form folder name =
     keeps_bind path _ _ (keeps_gives path exporting.cause_of _)
-    (λ at. keeps_bind path _ _ (keeps_reads path exporting.cause_of _ _)
+    (λ at. keeps_bind path _ _ (keeps_reads path exporting.cause_of _ _ _)
     (λ found. keeps_gives path exporting.cause_of _))
 
 keeps_group : (path work : List ℕ) → Preserves path (reads_group work)
@@ -118,8 +119,8 @@ export_refused words =
 keeps_rebases : (path store name run : List ℕ) → Preserves path (rebases store name run)
 unfolding rebases rebases_on reads_image reads_run_image
 keeps_rebases path store name run =
-    keeps_bind path _ _ (keeps_told path rebasing.of_image_fault _ (keeps_reads path _ _ _))
-    (λ image. keeps_bind path _ _ (keeps_told path rebasing.of_image_fault _ (keeps_reads path _ _ _))
+    keeps_bind path _ _ (keeps_told path rebasing.of_image_fault _ (keeps_reads path _ _ _ _))
+    (λ image. keeps_bind path _ _ (keeps_told path rebasing.of_image_fault _ (keeps_reads path _ _ _ _))
     (λ base. keeps_gives path rebasing.cause_of _))
 
 refused_rebase_save : (words : RebaseWords) (image : ImageDoc) (text : List ℕ)

@@ -1,9 +1,11 @@
+mod LineLemmas
 pub mod BuildFits
 pub mod BuildPlaces
 pub mod CauseLemmas
 pub mod CommandLemmas
 pub mod CountLaws
 pub mod CreateFits
+pub mod CreateRestores
 pub mod DetectFits
 pub mod DetectingLemmas
 pub mod EndLemmas
@@ -11,18 +13,23 @@ pub mod ExportFits
 pub mod FitLaws
 pub mod FitPasses
 pub mod FitSteps
+pub mod IdleSteps
 pub mod KeepLaws
-pub mod ServeLaws
-pub mod SinkLemmas
-pub mod SlicedLaws
+pub mod KeptFolders
+pub mod LayerNames
+pub mod LeadingSteps
+pub mod LeaveLemmas
+pub mod NumberLemmas
 pub mod OutcomeLaws
 pub mod PhaseLemmas
 pub mod PutFits
+pub mod ReadNames
 pub mod RestoreFits
-pub mod NumberLemmas
+pub mod ServeLaws
+pub mod SinkLemmas
+pub mod SlicedLaws
 pub mod TellingLemmas
+pub mod ToldSteps
 pub mod UnpackFits
-pub mod LeaveLemmas
 pub mod VerifiedLaws
 pub mod WordLaws
-mod LineLemmas

@@ -119,11 +119,12 @@ module _ (Left : Tree → Type 0) where
   no_runs old new same = same ∙ sym (append-nil old.runs)
 
   -- files are read, and the next steps know what was read of them
-  pub serves_known : {E A : Type 0} (P : Tree → Type 0) (cause : E → Cause) (fits : Tree → Bool)
+  pub serves_known : {E A : Type 0} (P : Tree → Type 0) (cause : E → Cause)
+      (Among : List ℕ → Type 0) (fits : Tree → Bool)
       (want : Tree → Result A E) → ((t : Tree) → P t → IsTrue (fits t))
-      → Serves Left P (λ (a : A). Unit {0}) (λ a t. P t × (want t ≡ Ok a)) (reads cause fits want)
+      → Serves Left P (λ (a : A). Unit {0}) (λ a t. P t × (want t ≡ Ok a)) (reads cause Among fits want)
   unfolding reads
-  serves_known P cause fits want so old new (Ok a) h = record {
+  serves_known P cause Among fits want so old new (Ok a) h = record {
     rows = [];
     runs = no_runs old new h.same.runs;
     good = tt;
@@ -133,7 +134,7 @@ module _ (Left : Tree → Type 0) where
           (with_both P (λ t. want t ≡ Ok a) old.files fit h.answer),
     );
   }
-  serves_known P cause fits want so old new (Err fault) h = record {
+  serves_known P cause Among fits want so old new (Err fault) h = record {
     rows = [];
     runs = no_runs old new h.same.runs;
     good = tt;
@@ -144,12 +145,13 @@ module _ (Left : Tree → Type 0) where
     );
   }
 
-  pub serves_reads : {E A : Type 0} (P : Tree → Type 0) (cause : E → Cause) (fits : Tree → Bool)
+  pub serves_reads : {E A : Type 0} (P : Tree → Type 0) (cause : E → Cause)
+      (Among : List ℕ → Type 0) (fits : Tree → Bool)
       (want : Tree → Result A E) → ((t : Tree) → P t → IsTrue (fits t))
-      → Serves Left P (λ (a : A). Unit {0}) (λ a. P) (reads cause fits want)
-  serves_reads P cause fits want so = serves_less P P (λ a. Unit {0}) (λ a. Unit {0})
-      (λ a t. P t × (want t ≡ Ok a)) (λ a. P) (reads cause fits want) (λ t fit. fit) (λ a good. tt)
-      (λ a t known. known.0) (serves_known P cause fits want so)
+      → Serves Left P (λ (a : A). Unit {0}) (λ a. P) (reads cause Among fits want)
+  serves_reads P cause Among fits want so = serves_less P P (λ a. Unit {0}) (λ a. Unit {0})
+      (λ a t. P t × (want t ≡ Ok a)) (λ a. P) (reads cause Among fits want) (λ t fit. fit) (λ a good. tt)
+      (λ a t known. known.0) (serves_known P cause Among fits want so)
 
   pub serves_gives : {E A : Type 0} (P : Tree → Type 0) (cause : E → Cause) (want : Result A E)
       → Serves Left P (λ a. want ≡ Ok a) (λ a. P) (gives cause want)

@@ -283,25 +283,27 @@ rows_sound store name files doc h = rows_of (found (document_at files (image_pat
 
 -- ---- steps of which the next ones know what was read, and write
 
-told_minds : {E F A B : Type 0} (Fit : Tree → Type 0) (of : E → F) (cause : E → Cause) (fits : Tree → Bool)
+told_minds : {E F A B : Type 0} (Fit : Tree → Type 0) (of : E → F) (cause : E → Cause)
+    (Among : List ℕ → Type 0) (fits : Tree → Bool)
     (want : Tree → Result A E) (next : A → Seen → Result B F → Seen → Type 0)
     → ((t : Tree) → Fit t → IsTrue (fits t))
     → ((a : A) → Minds (λ t. Fit t × (want t ≡ Ok a)) (next a))
-    → Minds Fit (map_err of (reads cause fits want) >>= next)
+    → Minds Fit (map_err of (reads cause Among fits want) >>= next)
 unfolding ◌>>=◌ map_err reads
-told_minds {F = F} {A = A} {B = B} Fit of cause fits want next so later old new result h = by result h
+told_minds {F = F} {A = A} {B = B} Fit of cause Among fits want next so later old new result h = by result h
   where
-    behind : (result : Result B F) (a : A) (mid : Seen) → reads cause fits want old (Ok a) mid
+    behind : (result : Result B F) (a : A) (mid : Seen) → reads cause Among fits want old (Ok a) mid
         → next a mid result new → NoMisuse Fit old new
     behind result a mid h k =
-        let one = looks_reads Fit cause fits want so old mid (Ok a) h in
+        let one = looks_reads Fit cause Among fits want so old mid (Ok a) h in
         join Fit old.files mid.files old.misused mid.misused new.misused one.0 one.1
         (with_known Fit (λ t. want t ≡ Ok a) old.files mid.files mid.misused new.misused one.0 h.answer
         (later a mid new result k))
 
-    by : (result : Result B F) → (map_err of (reads cause fits want) >>= next) old result new → NoMisuse Fit old new
+    by : (result : Result B F) → (map_err of (reads cause Among fits want) >>= next) old result new
+        → NoMisuse Fit old new
     by (Ok value) (a, mid, h, k) = behind (Ok value) a mid h k
-    by (Err refusal) (inl (fault, is, h)) = (looks_reads Fit cause fits want so old new (Err fault) h).1
+    by (Err refusal) (inl (fault, is, h)) = (looks_reads Fit cause Among fits want so old new (Err fault) h).1
     by (Err refusal) (inr (a, mid, h, k)) = behind (Err refusal) a mid h k
 
 given_minds : {E A B : Type 0} (Fit : Tree → Type 0) (cause : E → Cause) (want : Result A E)
@@ -498,10 +500,10 @@ pub unpack_minds : (words : UnpackWords) → Minds (FitsUnpack words) (unpacks_c
 unfolding unpacks_command unpacks lays_image reads_image
 unpack_minds words =
     minds_bind Fit _ _ (looks_gives Fit launching.cause_of _)
-    (λ text. minds_yields Fit _ _ (told_minds Fit _ image_files.cause_of
+    (λ text. minds_yields Fit _ _ (told_minds Fit _ image_files.cause_of _
     (is_fit_document (image_path words.store words.image)) (image_at words.store words.image) _
     (λ t fit. fit.image)
-    (λ doc. told_minds (Read doc) _ read_cause (λ files. true)
+    (λ doc. told_minds (Read doc) _ read_cause _ (λ files. true)
     (λ files. Ok (is_absent (kind_of (item_at files words.root)))) _ (λ t fit. refl)
     (λ absent. given_minds (Known doc absent) launching.cause_of (if_absent words.root absent) _
     (λ free is. minds_so (Lays words.store words.root doc) (Known doc absent) _

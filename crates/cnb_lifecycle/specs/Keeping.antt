@@ -5,7 +5,7 @@ use Rattle.cnb_words.specs.declared.words.Asked.{Asked}
 use Rattle.cnb_words.specs.declared.words.Asked.TheVariants.{Detect, Analyze, Restore, Build, Export, Create, Rebase}
 use Rattle.cnb_words.specs.declared.words.Asked.TheVariants.{Base, Unpack, Show, Prune, Verify, Check, Drill, Launch}
 use Rattle.image_files.specs.Paths.{image_path, run_path}
-use Rattle.steps.specs.Frames.{Keeps}
+use Rattle.steps.specs.Keeping.{Keeps}
 use Rattle.steps.specs.Outside.{Seen}
 use Rattle.cnb_lifecycle.specs.declared.status.Status.{Status}
 use Rattle.cnb_lifecycle.specs.declared.status.Status.TheVariants.{Refused}

@@ -14,13 +14,13 @@ use Rattle.doc_files.specs.Faults.{read_cause}
 use Rattle.doc_files.specs.declared.fault.ReadFault.{ReadFault}
 use Rattle.order_expand.specs.Check.{checked, cause_of as order_cause}
 use Rattle.order_expand.specs.declared.order.OrderFault.{OrderFault}
-use Rattle.order_files.specs.Catalog.{catalog_in, is_fit_catalog}
+use Rattle.order_files.specs.Catalog.{IsOfCatalog, catalog_in, is_fit_catalog}
 use Rattle.order_files.specs.OrderFile.{order_file_in, is_fit_order_file}
 use Rattle.run_docs.specs.Group.{group_in}
 use Rattle.run_docs.specs.Plan.{plan_in}
 use Rattle.run_docs.specs.declared.group.GroupRow.{GroupRow}
 use Rattle.run_docs.specs.declared.plan.PlanEntry.{PlanEntry}
-use Rattle.steps.specs.Causes.{WhereDecided}
+use Rattle.steps.specs.Causes.{Only, WhereDecided}
 use Rattle.steps.specs.Outside.{Seen}
 use Rattle.steps.specs.Results.{with_fault}
 use Rattle.steps.specs.Steps.{◌>>=◌, Same, gives, map_err, reads, yields}
@@ -42,11 +42,11 @@ use Rattle.cnb_record.proofs.CountLaws.{check_causes, order_causes, read_causes}
 -- ---- what is read
 
 -- a file that is read, in the refusals of `check`
-reads_one : {T : Type 0} (fits : Tree → Bool) (want : Tree → Result T ReadFault)
+reads_one : {T : Type 0} (Among : List ℕ → Type 0) (fits : Tree → Bool) (want : Tree → Result T ReadFault)
     → OnlyReads cause_of fits (λ files. with_fault of_read_fault (want files))
-    (map_err of_read_fault (reads read_cause fits want))
-reads_one fits want = reads_told read_cause cause_of of_read_fault fits want
-    (reads read_cause fits want) read_causes (reads_files read_cause fits want)
+    (map_err of_read_fault (reads read_cause Among fits want))
+reads_one Among fits want = reads_told read_cause cause_of of_read_fault fits want
+    (reads read_cause Among fits want) read_causes (reads_files read_cause Among fits want)
 
 checks_one : (want : Result ℕ OrderFault) → OnlyReads cause_of (λ files. true)
     (λ files. with_fault of_order_fault want) (map_err of_order_fault (gives order_cause want))
@@ -76,10 +76,10 @@ unfolding reads_ordered
 ordered_reads words =
     reads_then cause_of (is_fit_order_file words.order) _
     (λ files. with_fault of_read_fault (order_file_in words.order files)) _ _ _
-    (reads_one (is_fit_order_file words.order) (order_file_in words.order))
+    (reads_one (Only words.order) (is_fit_order_file words.order) (order_file_in words.order))
     (λ order. reads_then cause_of (is_fit_catalog words.buildpacks) _
     (λ files. with_fault of_read_fault (catalog_in words.buildpacks files)) _ _ _
-    (reads_one (is_fit_catalog words.buildpacks) (catalog_in words.buildpacks))
+    (reads_one (IsOfCatalog words.buildpacks) (is_fit_catalog words.buildpacks) (catalog_in words.buildpacks))
     (λ catalog. reads_then cause_of (λ files. true) (λ files. true)
     (λ files. with_fault of_order_fault (checked catalog order)) _ _ _ (checks_one (checked catalog order))
     (λ groups. yields_one (let ordered : Ordered = record { order = order; catalog = catalog } in ordered))))
@@ -90,7 +90,7 @@ unfolding follows
 follow_reads path ordered =
     reads_then cause_of (is_fit_file path) (λ files. true)
     (λ files. with_fault of_read_fault (record_at path files)) _ _ _
-    (reads_one (is_fit_file path) (record_at path))
+    (reads_one (Only path) (is_fit_file path) (record_at path))
     (λ bytes. follows_one (check_of ordered.catalog ordered.order bytes))
 
 abbrev fits_proof : CheckWords → Tree → Bool
@@ -109,12 +109,12 @@ unfolding reads_group
 group_reads path =
     reads_then cause_of (is_fit_file path) (λ files. true)
     (λ files. with_fault of_read_fault (needed_at group_in path files)) _ _ _
-    (reads_one (is_fit_file path) (needed_at group_in path))
+    (reads_one (Only path) (is_fit_file path) (needed_at group_in path))
     (λ group. reads_then cause_of (λ files. true) (λ files. true) (λ files. known_apis group) _ _ _
     (gives_known cause_of (known_apis group)) (λ known. yields_one group))
 
 plan_reads : (path : List ℕ) → OnlyReads cause_of (is_fit_file path) (plan_there path) (reads_plan path)
-plan_reads path = reads_one (is_fit_file path) (needed_at plan_in path)
+plan_reads path = reads_one (Only path) (is_fit_file path) (needed_at plan_in path)
 
 -- ---- what is compared
 

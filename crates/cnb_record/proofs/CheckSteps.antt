@@ -1,5 +1,5 @@
 -- What the calls of the layers below say, as steps of `check`.
-use Rattle.std.proofs.Common.{refl, Bool, Option, Some, None, Result, Err}
+use Rattle.std.proofs.Common.{refl, ℕ, Bool, List, Option, Some, None, Result, Err}
 use Rattle.std.specs.Prelude.{IfSome}
 use Rattle.cnb_world.specs.Tree.{Tree}
 use Rattle.detect_record.specs.Checking.{cause_of as check_cause}
@@ -28,15 +28,16 @@ any_files None = tt
 any_files (Some files) = tt
 
 -- memory ran out before a file was read
-pub not_read : {T : Type 0} (fits : Tree → Bool) (want : Tree → Result T ReadFault) (old : Seen)
-    → map_err of_read_fault (reads read_cause fits want) old (Err Memory) old
+pub not_read : {T : Type 0} (Among : List ℕ → Type 0) (fits : Tree → Bool) (want : Tree → Result T ReadFault)
+    (old : Seen) → map_err of_read_fault (reads read_cause Among fits want) old (Err Memory) old
 unfolding reads
-not_read fits want old =
-    mapped_fault of_read_fault (reads read_cause fits want) old old read.Memory
+not_read Among fits want old =
+    mapped_fault of_read_fault (reads read_cause Among fits want) old old read.Memory
     (record {
       same = record { files = refl; runs = refl };
       answer = any_files old.files;
       cause = tt;
+      named = tt;
       allows = allowed_by fits old.files old.misused old.misused refl;
       counts = files_rest.memory old;
     })

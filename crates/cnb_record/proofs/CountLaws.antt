@@ -49,9 +49,9 @@ ordered_counts : (order_file buildpacks : List ℕ) → Obeys FileCounts cause_o
 unfolding reads_ordered
 ordered_counts order_file buildpacks =
     obeys_bind _ _ _ _ files_link (obeys_told FileCounts read_cause cause_of of_read_fault _ read_causes
-    (reads_counts read_cause _ _))
+    (reads_counts read_cause _ _ _))
     (λ order. obeys_bind _ _ _ _ files_link (obeys_told FileCounts read_cause cause_of of_read_fault _ read_causes
-    (reads_counts read_cause _ _))
+    (reads_counts read_cause _ _ _))
     (λ catalog. obeys_bind _ _ _ _ files_link (obeys_told FileCounts order_cause cause_of of_order_fault _
     order_causes (obeys_gives _ _ _ files_rest))
     (λ groups. obeys_yields _ _ _ files_rest)))
@@ -60,7 +60,7 @@ follow_counts : (path : List ℕ) (ordered : Ordered) → Obeys FileCounts cause
 unfolding follows
 follow_counts path ordered =
     obeys_bind _ _ _ _ files_link (obeys_told FileCounts read_cause cause_of of_read_fault _ read_causes
-    (reads_counts read_cause _ _))
+    (reads_counts read_cause _ _ _))
     (λ bytes. obeys_told FileCounts check_cause cause_of of_check_fault _ check_causes (obeys_gives _ _ _ files_rest))
 
 prove_counts : (words : CheckWords) → Obeys FileCounts cause_of (proves words)
@@ -91,7 +91,7 @@ unfolding compares_group reads_group
 group_counts path proved =
     obeys_bind _ _ _ _ files_link
     (obeys_bind _ _ _ _ files_link (obeys_told FileCounts read_cause cause_of of_read_fault _ read_causes
-    (reads_counts read_cause _ _))
+    (reads_counts read_cause _ _ _))
     (λ group. obeys_bind _ _ _ _ files_link (obeys_gives _ _ _ files_rest) (λ known. obeys_yields _ _ _ files_rest)))
     (λ group. match_counts path proved group)
 
@@ -99,7 +99,7 @@ plan_counts : (path : List ℕ) (proved : List PlanEntry) → Obeys FileCounts c
 unfolding compares_plan
 plan_counts path proved =
     obeys_bind _ _ _ _ files_link (obeys_told FileCounts read_cause cause_of of_read_fault _ read_causes
-    (reads_counts read_cause _ _)) (λ plan. match_counts path proved plan)
+    (reads_counts read_cause _ _ _)) (λ plan. match_counts path proved plan)
 
 compare_counts : (work : List ℕ) (proved : Checked) → Obeys FileCounts cause_of (compares work proved)
 unfolding compares

@@ -36,7 +36,7 @@ use Rattle.steps.specs.Causes.{IsAnswer, IsGivenCause, IsWriteCause}
 use Rattle.steps.specs.Outside.{Outside, Seen, SpawnerSeen}
 use Rattle.steps.specs.Results.{with_fault}
 use Rattle.steps.specs.Steps.{◌>>=◌, LeavesUnwritten, Writes, gives, in_spawners, in_world, writes, yields}
-use Rattle.steps.proofs.FrameLaws.{some_left, step_at, written_free}
+use Rattle.steps.proofs.KeepingLaws.{some_left, step_at, written_free}
 use Rattle.steps.proofs.StepLemmas.{ended, given, went, within, yielded}
 use Rattle.cnb_record.specs.Choosing.{Proves, adds_record, chooses_recorded, finds, found_of, makes_record}
 use Rattle.cnb_record.specs.Choosing.{of_record_fault, over, record_in}

@@ -17,9 +17,9 @@ use Rattle.cnb_world.proofs.Trees.{bytes_eq-other, bytes_eq-same}
 use Rattle.cnb_words.specs.RecordPath.{has_room_beside, is_of_choice, is_record_path}
 use Rattle.cnb_detect.specs.Documents.{group_document, plan_document}
 use Rattle.cnb_detect.proofs.DocumentLemmas.{AreApart, apart, same_standing, written_other}
-use Rattle.steps.specs.Frames.{folder_paths, is_free, standing, touched}
+use Rattle.steps.specs.Keeping.{folder_paths, is_free, standing, touched}
 use Rattle.steps.specs.Steps.{LeavesSome}
-use Rattle.steps.proofs.FrameLaws.{left_free, step_at, written_free}
+use Rattle.steps.proofs.KeepingLaws.{left_free, step_at, written_free}
 
 -- ---- paths that differ
 

@@ -21,7 +21,7 @@ use Rattle.cnb_detect.specs.declared.target.TargetSource.{TargetSource}
 use Rattle.detect_core.specs.declared.chosen.Recorded.{Recorded}
 use Rattle.steps.specs.Asking.{AskedBy}
 use Rattle.steps.specs.Causes.{IsWriteCause}
-use Rattle.steps.specs.Frames.{IsOldOrNew, is_free, standing, touched}
+use Rattle.steps.specs.Keeping.{IsOldOrNew, is_free, standing, touched}
 use Rattle.steps.specs.Outside.{Outside}
 use Rattle.steps.specs.Steps.{Same}
 use Rattle.cnb_record.specs.Choosing.{Proves, found_of, record_in}

@@ -3,11 +3,12 @@ ghost use Rattle.std.specs.Prelude.{◌≤◌, ℕ, IfErr, IfOk, IfSome, Ok, len
 ghost use Rattle.std.specs.Option.{option_map};
 ghost use Rattle.cnb_world.specs.Calls.{MayMisuse};
 ghost use Rattle.doc_files.specs.Faults.{read_cause};
+ghost use Rattle.doc_files.specs.Reading.{BlamesOnly};
 ghost use Rattle.run_docs.specs.Group.{group_in};
 ghost use Rattle.run_docs.specs.Plan.{plan_in};
 ghost use Rattle.steps.specs.Causes.{CountsFiles, IsAnswer, IsGivenCause};
 ghost use Rattle.steps.specs.Outside.{seen};
-ghost use Rattle.steps.specs.Reading.{ReadFrame};
+ghost use Rattle.steps.specs.Reading.{LeavesUnchanged};
 ghost use Rattle.cnb_record.specs.Checks.{known_apis, reads_group};
 ghost use Rattle.cnb_record.specs.Reading.{is_fit_file, needed, needed_at, record_at};
 ghost use Rattle.cnb_record.specs.Refusals.{cause_of};
@@ -26,6 +27,7 @@ const LONGEST_RECORD: u64 = 16_777_216;
 fn record_of(alloc: Global, path: &Path, found: Option<Bytes>) -> Result<Bytes, ReadFault>
     requires { IfSome found (λ bytes. length bytes ≤ 16777216) }
     ensures reads { IsAnswer read_cause result (needed Ok path.now found) }
+    ensures blames { IfErr result (BlamesOnly path.now) }
     ensures within { IfOk result (λ bytes. length bytes ≤ 16777216) }
     ensures files { (n : ℕ) → CountsFiles read_cause result n n }
 {
@@ -43,7 +45,8 @@ pub(crate) fn read_record<W: World>(
 ) -> Result<Bytes, ReadFault>
     ensures reads { IfSome (W.tree world.old) (λ files. IsAnswer read_cause result (record_at path.now files)) }
     ensures within { IfOk result (λ bytes. length bytes ≤ 16777216) }
-    ensures frame { ReadFrame read_cause result (seen W.World world.old) (seen W.World world.new) }
+    ensures blames { IfErr result (BlamesOnly path.now) }
+    ensures leaves { LeavesUnchanged read_cause result (seen W.World world.old) (seen W.World world.new) }
     ensures misused { MayMisuse (option_map (is_fit_file path.now) (W.tree world.old))
         (W.misused world.old) (W.misused world.new) }
 {
@@ -55,6 +58,7 @@ pub(crate) fn read_record<W: World>(
 // The group that a document is.
 fn group_of(alloc: Global, path: &Path, found: Option<Bytes>) -> Result<GroupDoc, ReadFault>
     ensures reads { IsAnswer read_cause result (needed group_in path.now found) }
+    ensures blames { IfErr result (BlamesOnly path.now) }
     ensures files { (n : ℕ) → CountsFiles read_cause result n n }
 {
     match found {
@@ -69,7 +73,8 @@ fn group_of(alloc: Global, path: &Path, found: Option<Bytes>) -> Result<GroupDoc
 fn read_group_at<W: World>(alloc: Global, world: &mut W, path: &Path) -> Result<GroupDoc, ReadFault>
     ensures reads { IfSome (W.tree world.old) (λ files.
         IsAnswer read_cause result (needed_at group_in path.now files)) }
-    ensures frame { ReadFrame read_cause result (seen W.World world.old) (seen W.World world.new) }
+    ensures blames { IfErr result (BlamesOnly path.now) }
+    ensures leaves { LeavesUnchanged read_cause result (seen W.World world.old) (seen W.World world.new) }
     ensures misused { MayMisuse (option_map (is_fit_file path.now) (W.tree world.old))
         (W.misused world.old) (W.misused world.new) }
 {
@@ -105,6 +110,7 @@ pub(crate) fn read_group<W: World>(
 // The plan that a document is.
 fn plan_of(alloc: Global, path: &Path, found: Option<Bytes>) -> Result<PlanDoc, ReadFault>
     ensures reads { IsAnswer read_cause result (needed plan_in path.now found) }
+    ensures blames { IfErr result (BlamesOnly path.now) }
     ensures files { (n : ℕ) → CountsFiles read_cause result n n }
 {
     match found {
@@ -124,7 +130,8 @@ pub(crate) fn read_plan<W: World>(
 ) -> Result<PlanDoc, ReadFault>
     ensures reads { IfSome (W.tree world.old) (λ files.
         IsAnswer read_cause result (needed_at plan_in path.now files)) }
-    ensures frame { ReadFrame read_cause result (seen W.World world.old) (seen W.World world.new) }
+    ensures blames { IfErr result (BlamesOnly path.now) }
+    ensures leaves { LeavesUnchanged read_cause result (seen W.World world.old) (seen W.World world.new) }
     ensures misused { MayMisuse (option_map (is_fit_file path.now) (W.tree world.old))
         (W.misused world.old) (W.misused world.new) }
 {

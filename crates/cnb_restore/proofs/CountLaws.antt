@@ -44,8 +44,8 @@ pub analyzes_counts : (store run : List ℕ) (previous : Option (List ℕ))
     → Obeys FileCounts cause_of (analyzes store run previous)
 unfolding analyzes
 analyzes_counts store run previous =
-    obeys_bind _ _ _ _ files_link (reads_counts cause_of _ _)
-    (λ image. obeys_bind _ _ _ _ files_link (reads_counts cause_of _ _) (λ known. obeys_gives _ _ _ files_rest))
+    obeys_bind _ _ _ _ files_link (reads_counts cause_of _ _ _)
+    (λ image. obeys_bind _ _ _ _ files_link (reads_counts cause_of _ _ _) (λ known. obeys_gives _ _ _ files_rest))
 
 pub analyze_counts : (words : AnalyzeWords) → Obeys FileCounts cause_of (analyzes_command words)
 unfolding analyzes_command
@@ -188,7 +188,7 @@ pub restores_counts : (store : List ℕ) (name : Option (List ℕ)) (group : Lis
     → Obeys (BesideCaches FileCounts) cause_of (restores store name group layers)
 unfolding restores
 restores_counts store name group layers =
-    follows _ _ _ (over_world _ _ (reads_counts cause_of _ _))
+    follows _ _ _ (over_world _ _ (reads_counts cause_of _ _ _))
     (λ previous. follows _ _ _ (obeys_in_caches FileCounts cause_of _ files_rest (gathers_ends cause_of))
     (λ gathered. follows _ _ _ (known _ _) (λ restored. group_counts layers _ group restored)))
 
@@ -208,6 +208,6 @@ read_counts step p = obeys_told (BesideCaches FileCounts) cause_of refusal_cause
 pub restore_counts : (words : RestoreWords) → Obeys (BesideCaches FileCounts) refusal_cause (restores_command words)
 unfolding restores_command
 restore_counts words =
-    follows _ _ _ (read_counts _ (reads_counts cause_of _ _))
-    (λ analyzed. follows _ _ _ (read_counts _ (reads_counts cause_of _ _))
+    follows _ _ _ (read_counts _ (reads_counts cause_of _ _ _))
+    (λ analyzed. follows _ _ _ (read_counts _ (reads_counts cause_of _ _ _))
     (λ group. analyzed_counts words analyzed group))

@@ -21,7 +21,7 @@ use Rattle.steps.specs.Steps.{reads}
 use Rattle.steps.proofs.EndLaws.{files_rest}
 use Rattle.steps.proofs.StepLemmas.{allowed_by}
 use Rattle.cnb_restore.specs.declared.fault.RestoreFault.{RestoreFault}
-use Rattle.cnb_restore.specs.Analyzes.{analyzes, is_fit_image, previous_in}
+use Rattle.cnb_restore.specs.Analyzes.{OnlyImage, analyzes, is_fit_image, previous_in}
 use Rattle.cnb_restore.specs.Faults.{cause_of, of_read_fault}
 
 pub same_cause : (fault : ReadFault) → cause_of (of_read_fault fault) ≡ read_cause fault
@@ -35,13 +35,14 @@ no_image : {A : Type 0} (value : A) (o : Option Tree) → IfSome o (λ files. Is
 no_image value None = tt
 no_image value (Some files) = refl
 
-pub read_nothing : {A : Type 0} (value : A) (old : Seen)
-    → reads cause_of (λ files. true) (λ files. Ok value) old (Ok value) old
+pub read_nothing : {A : Type 0} (Among : List ℕ → Type 0) (value : A) (old : Seen)
+    → reads cause_of Among (λ files. true) (λ files. Ok value) old (Ok value) old
 unfolding reads
-read_nothing value old = record {
+read_nothing Among value old = record {
   same = record { files = refl; runs = refl };
   answer = no_image value old.files;
   cause = tt;
+  named = tt;
   allows = allowed_by (λ files. true) old.files old.misused old.misused refl;
   counts =
       files_rest.none old;
@@ -50,10 +51,10 @@ read_nothing value old = record {
 -- the same of a name that is equal
 pub previous_as : (store : List ℕ) (name want : Option (List ℕ)) (old : Seen)
     (result : Result (Option ImageDoc) RestoreFault) (new : Seen) → name ≡ want
-    → reads cause_of (is_fit_image store name) (previous_in store name) old result new
-    → reads cause_of (is_fit_image store want) (previous_in store want) old result new
+    → reads cause_of (OnlyImage store name) (is_fit_image store name) (previous_in store name) old result new
+    → reads cause_of (OnlyImage store want) (is_fit_image store want) (previous_in store want) old result new
 previous_as store name want old result new same h = subst
-    (λ n. reads cause_of (is_fit_image store n) (previous_in store n) old result new) same h
+    (λ n. reads cause_of (OnlyImage store n) (is_fit_image store n) (previous_in store n) old result new) same h
 
 pub analyzes_as : (store run : List ℕ) (previous want : Option (List ℕ)) (old : Seen)
     (result : Result Analyzed RestoreFault) (new : Seen) → previous ≡ want

@@ -6,6 +6,7 @@ use Rattle.image_docs.specs.RunImage.{table_in}
 use Rattle.image_docs.specs.declared.analyzed.Analyzed.{Analyzed}
 use Rattle.image_docs.specs.declared.image.ImageDoc.{ImageDoc}
 use Rattle.image_docs.specs.declared.run_image.RunDoc.{RunDoc}
+use Rattle.steps.specs.Causes.{Only}
 use Rattle.steps.specs.Outside.{Seen}
 use Rattle.steps.specs.Results.{and_then, with_fault}
 use Rattle.steps.specs.Steps.{◌>>=◌, gives, reads}
@@ -34,6 +35,11 @@ abbrev pub is_fit_image : List ℕ → Option (List ℕ) → Tree → Bool
 is_fit_image store None files = true
 is_fit_image store (Some name) files = is_fit_document (image_path store name) files
 
+-- the document of such an image is asked for alone, and nothing where none is named
+abbrev pub OnlyImage : List ℕ → Option (List ℕ) → List ℕ → Type 0
+OnlyImage store None path = ⊥
+OnlyImage store (Some name) path = Only (image_path store name) path
+
 abbrev pub name_of : {A : Type 0} → List ℕ → Option A → Result (Option (List ℕ)) RestoreFault
 name_of name None = Ok None
 name_of name (Some image) = Ok (Some name)
@@ -46,8 +52,8 @@ known_in store (Some name) files = and_then (image_found store name files) (name
 -- the run image, and then the previous image
 unfoldable pub analyzes : List ℕ → List ℕ → Option (List ℕ) → Seen → Result Analyzed RestoreFault → Seen → Type 0
 analyzes store run previous = do
-  image ← reads cause_of (is_fit_document (run_path store run)) (run_image_in store run)
-  known ← reads cause_of (is_fit_image store previous) (known_in store previous)
+  image ← reads cause_of (Only (run_path store run)) (is_fit_document (run_path store run)) (run_image_in store run)
+  known ← reads cause_of (OnlyImage store previous) (is_fit_image store previous) (known_in store previous)
   gives cause_of (Ok (record { run = run; os = image.os; arch = image.arch; previous = known }))
 
 abbrev pub some_named : List ℕ → Option ImageDoc → Result (Option ImageDoc) RestoreFault

@@ -10,7 +10,7 @@ use Rattle.image_docs.specs.declared.analyzed.Analyzed.{Analyzed}
 use Rattle.run_docs.specs.Group.{foreign_among, rows_in}
 use Rattle.run_docs.specs.declared.group.GroupRow.{GroupRow}
 use Rattle.shelf_set.specs.Caches.{WorldAndCaches, in_world}
-use Rattle.steps.specs.Causes.{Cause, Decided}
+use Rattle.steps.specs.Causes.{Cause, Decided, Only}
 use Rattle.steps.specs.Outside.{Seen}
 use Rattle.steps.specs.Results.{and_then, with_fault}
 use Rattle.steps.specs.Steps.{◌>>=◌, gives, map_err, reads, writes, yields}
@@ -60,7 +60,7 @@ group_at path files = and_then (with_fault of_read_fault (document_in rows_in pa
 -- what a document of the work folder says is read
 abbrev pub reads_at : {A : Type 0} → (List ℕ → Tree → Result A RestoreFault) → List ℕ → Seen → Result A RestoreFault
     → Seen → Type 0
-reads_at said path = reads cause_of (is_fit_document path) (said path)
+reads_at said path = reads cause_of (Only path) (is_fit_document path) (said path)
 
 abbrev pub served_unless : Option GroupRow → Result (Unit {0}) RestoreRefusal
 served_unless None = Ok tt

@@ -17,7 +17,7 @@ use Rattle.cnb_restore.specs.declared.fault.RestoreFault.{RestoreFault}
 use Rattle.cnb_restore.specs.declared.fault.RestoreFault.TheVariants.{Damaged}
 use Rattle.cnb_restore.specs.declared.restored.Restored.{Restored}
 use Rattle.cnb_restore.specs.declared.sources.Sources.{Sources}
-use Rattle.cnb_restore.specs.Analyzes.{is_fit_image, previous_in}
+use Rattle.cnb_restore.specs.Analyzes.{OnlyImage, is_fit_image, previous_in}
 use Rattle.cnb_restore.specs.Faults.{cause_of}
 use Rattle.cnb_restore.specs.Layers.{lays_contents, writes_layer, writes_store}
 use Rattle.layer_paths.specs.Paths.{layers_folder}
@@ -106,7 +106,7 @@ restores_group layers sources group restored =
 -- The previous image is read, the rows of the caches are gathered, and the buildpacks are restored.
 unfoldable pub restores : List ℕ → Option (List ℕ) → List GroupRow → List ℕ → Restoring
 restores store name group layers = do
-  previous ← in_world (reads cause_of (is_fit_image store name) (previous_in store name))
+  previous ← in_world (reads cause_of (OnlyImage store name) (is_fit_image store name) (previous_in store name))
   gathered ← in_caches (gathers cause_of)
   restored ← gives cause_of (Ok (gathered_first gathered.unread gathered.gone))
   restores_group layers (record { previous = previous; rows = gathered.rows }) group restored

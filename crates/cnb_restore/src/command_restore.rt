@@ -2,7 +2,7 @@
 ghost use Rattle.std.specs.Prelude.{◌≤◌, ◌<◌, ◌^◌, IfErr, length};
 ghost use Rattle.cnb_words.specs.Restore.{KeepsLimits};
 ghost use Rattle.shelf_set.specs.Caches.{caches_seen, world_and_caches};
-ghost use Rattle.steps.specs.Causes.{IsAnswer, IsGivenCause};
+ghost use Rattle.steps.specs.Causes.{IsAnswer, IsGivenCause, Only};
 ghost use Rattle.steps.specs.Outside.{seen};
 ghost use Rattle.steps.specs.Steps.{reads};
 ghost use Rattle.cnb_restore.specs.Commands.{analyzed_at, group_at, group_document, needed, refusal_cause};
@@ -43,8 +43,8 @@ fn read_analyzed<W: World>(
     work: &Path,
 ) -> Result<Analyzed, RestoreFault>
     requires { length work.now ≤ 4096 }
-    ensures step { reads cause_of (is_fit_document (analyzed_document work.now))
-        (analyzed_at (analyzed_document work.now)) (seen W.World world.old) result (seen W.World world.new) }
+    ensures step { reads cause_of (Only (analyzed_document work.now))
+        (is_fit_document (analyzed_document work.now)) (analyzed_at (analyzed_document work.now)) (seen W.World world.old) result (seen W.World world.new) }
 {
     let path = work_document(alloc, work, "analyzed.toml")?;
     let found = find_document::<W, Analyzed>(alloc, world, &path)?;
@@ -54,7 +54,8 @@ fn read_analyzed<W: World>(
 // The chosen group.
 fn read_group<W: World>(alloc: Global, world: &mut W, work: &Path) -> Result<GroupDoc, RestoreFault>
     requires { length work.now ≤ 4096 }
-    ensures step { reads cause_of (is_fit_document (group_document work.now)) (group_at (group_document work.now))
+    ensures step { reads cause_of (Only (group_document work.now))
+        (is_fit_document (group_document work.now)) (group_at (group_document work.now))
         (seen W.World world.old) result (seen W.World world.new) }
 {
     let path = work_document(alloc, work, "group.toml")?;

@@ -1,12 +1,12 @@
 // The images that a command names.
 ghost use Rattle.std.specs.Prelude.{◌≡◌, ◌≤◌, IfErr, IfOk, IsTrue, Some, length};
 ghost use Rattle.std.specs.Option.{option_copied};
-ghost use Rattle.steps.specs.Causes.{IsAnswer, IsGivenCause};
+ghost use Rattle.steps.specs.Causes.{IsAnswer, IsGivenCause, Only};
 ghost use Rattle.steps.specs.Outside.{seen};
 ghost use Rattle.steps.specs.Steps.{reads};
 ghost use Rattle.image_docs.specs.RunImage.{is_run_doc};
-ghost use Rattle.cnb_restore.specs.Analyzes.{is_fit_image, known_in, name_of, named, previous_in, run_image_in};
-ghost use Rattle.cnb_restore.specs.Analyzes.{some_named};
+ghost use Rattle.cnb_restore.specs.Analyzes.{OnlyImage, is_fit_image, known_in, name_of, named, previous_in};
+ghost use Rattle.cnb_restore.specs.Analyzes.{run_image_in, some_named};
 ghost use Rattle.image_files.specs.Documents.{is_fit_document};
 ghost use Rattle.cnb_restore.specs.Faults.{cause_of};
 ghost use Rattle.image_files.specs.Paths.{run_path};
@@ -67,7 +67,8 @@ pub(crate) fn read_run_image<W: World>(
     name: &ImageName,
 ) -> Result<RunDoc, RestoreFault>
     requires { length store.now ≤ 4096 }
-    ensures step { reads cause_of (is_fit_document (run_path store.now name.now)) (run_image_in store.now name.now)
+    ensures step { reads cause_of (Only (run_path store.now name.now))
+        (is_fit_document (run_path store.now name.now)) (run_image_in store.now name.now)
         (seen W.World world.old) result (seen W.World world.new) }
     ensures readable { IfOk result (λ image. IsTrue (is_run_doc image)) }
 {
@@ -84,7 +85,8 @@ fn read_known<W: World>(
     name: &ImageName,
 ) -> Result<Option<ImageName>, RestoreFault>
     requires { length store.now ≤ 4096 }
-    ensures step { reads cause_of (is_fit_image store.now (Some name.now)) (known_in store.now (Some name.now))
+    ensures step { reads cause_of (OnlyImage store.now (Some name.now))
+        (is_fit_image store.now (Some name.now)) (known_in store.now (Some name.now))
         (seen W.World world.old) result (seen W.World world.new) }
 {
     let path = image_path(alloc, store, name)?;
@@ -99,7 +101,8 @@ fn read_image<W: World>(
     name: &ImageName,
 ) -> Result<Option<ImageDoc>, RestoreFault>
     requires { length store.now ≤ 4096 }
-    ensures step { reads cause_of (is_fit_image store.now (Some name.now)) (previous_in store.now (Some name.now))
+    ensures step { reads cause_of (OnlyImage store.now (Some name.now))
+        (is_fit_image store.now (Some name.now)) (previous_in store.now (Some name.now))
         (seen W.World world.old) result (seen W.World world.new) }
 {
     let path = image_path(alloc, store, name)?;
@@ -116,8 +119,8 @@ pub(crate) fn known_previous<W: World>(
     name: Option<&ImageName>,
 ) -> Result<Option<ImageName>, RestoreFault>
     requires { length store.now ≤ 4096 }
-    ensures step { reads cause_of (is_fit_image store.now (option_copied name.entry))
-        (known_in store.now (option_copied name.entry)) (seen W.World world.old) result (seen W.World world.new) }
+    ensures step { reads cause_of (OnlyImage store.now (option_copied name.entry))
+        (is_fit_image store.now (option_copied name.entry)) (known_in store.now (option_copied name.entry)) (seen W.World world.old) result (seen W.World world.new) }
 {
     match name {
         Some(name) => read_known(alloc, world, store, name),
@@ -134,8 +137,8 @@ pub(crate) fn read_previous<W: World>(
     name: Option<&ImageName>,
 ) -> Result<Option<ImageDoc>, RestoreFault>
     requires { length store.now ≤ 4096 }
-    ensures step { reads cause_of (is_fit_image store.now (option_copied name.entry))
-        (previous_in store.now (option_copied name.entry)) (seen W.World world.old) result (seen W.World world.new) }
+    ensures step { reads cause_of (OnlyImage store.now (option_copied name.entry))
+        (is_fit_image store.now (option_copied name.entry)) (previous_in store.now (option_copied name.entry)) (seen W.World world.old) result (seen W.World world.new) }
 {
     match name {
         Some(name) => read_image(alloc, world, store, name),

@@ -3,7 +3,8 @@ use Rattle.std.proofs.Common.{◌≡◌, ◌∙◌, ap, sym, subst, ℕ, List, O
 use Rattle.cnb_world.specs.Calls.{LastFailed}
 use Rattle.cnb_world.specs.declared.world.FileFault.{FileFault}
 use Rattle.cnb_world.specs.declared.world.FileFault.TheVariants as file_fault
-use Rattle.steps.specs.Causes.{IsAnswer, IsReadCause}
+use Rattle.std.specs.Prelude.{IfErr, Ok}
+use Rattle.steps.specs.Causes.{IsAnswer, IsReadCause, NamesOne}
 use Rattle.doc_files.specs.Faults.{read_cause}
 use Rattle.doc_files.specs.Reading.{Blames, BlamesOne, BlamesOnly, FailsAt}
 use Rattle.doc_files.specs.declared.fault.ReadFault.{ReadFault}
@@ -16,6 +17,19 @@ blames_more Few More grow (File path) h = grow path h
 blames_more Few More grow (Document path fault) h = grow path h
 blames_more Few More grow (Limit kind) h = tt
 blames_more Few More grow Memory h = tt
+
+-- what a refusal names, a failed call names
+pub blames_named : (Among : List ℕ → Type 0) (fault : ReadFault) → BlamesOne Among fault
+    → NamesOne Among (read_cause fault)
+blames_named Among (File path) h = h
+blames_named Among (Document path fault) h = tt
+blames_named Among (Limit kind) h = tt
+blames_named Among Memory h = tt
+
+pub all_named : {T : Type 0} (Among : List ℕ → Type 0) (result : Result T ReadFault) → IfErr result (BlamesOne Among)
+    → IfErr result (λ fault. NamesOne Among (read_cause fault))
+all_named Among (Ok value) h = tt
+all_named Among (Err fault) h = blames_named Among fault h
 
 -- a call that failed names its path
 pub fails_among : (path : List ℕ) (Among : List ℕ → Type 0) → ((blamed : List ℕ) → blamed ≡ path → Among blamed)

@@ -5,7 +5,7 @@ ghost use Rattle.cnb_world.specs.Calls.{MayMisuse};
 ghost use Rattle.cnb_world.specs.Tree.{is_file_or_absent, item_at};
 ghost use Rattle.steps.specs.Causes.{IsAnswer};
 ghost use Rattle.steps.specs.Outside.{seen};
-ghost use Rattle.steps.specs.Reading.{ReadFrame};
+ghost use Rattle.steps.specs.Reading.{LeavesUnchanged};
 ghost use Rattle.doc_files.specs.Faults.{read_cause};
 ghost use Rattle.doc_files.specs.Reading.{BlamesOnly, document_at, file_at};
 
@@ -26,7 +26,7 @@ pub fn read_limited<W: World>(
     ensures reads { IfSome (W.tree world.old) (λ files. IsAnswer read_cause result (file_at limit kind files path.now)) }
     ensures within { IfOk result (λ found. IfSome found (λ bytes. length bytes ≤ limit)) }
     ensures blames { IfErr result (BlamesOnly path.now) }
-    ensures frame { ReadFrame read_cause result (seen W.World world.old) (seen W.World world.new) }
+    ensures leaves { LeavesUnchanged read_cause result (seen W.World world.old) (seen W.World world.new) }
     ensures misused { MayMisuse (option_map (λ files. is_file_or_absent (item_at files path.now)) (W.tree world.old))
         (W.misused world.old) (W.misused world.new) }
 {
@@ -46,7 +46,7 @@ pub fn read_document<W: World>(
 ) -> Result<Option<Bytes>, ReadFault>
     ensures reads { IfSome (W.tree world.old) (λ files. IsAnswer read_cause result (document_at files path.now)) }
     ensures blames { IfErr result (BlamesOnly path.now) }
-    ensures frame { ReadFrame read_cause result (seen W.World world.old) (seen W.World world.new) }
+    ensures leaves { LeavesUnchanged read_cause result (seen W.World world.old) (seen W.World world.new) }
     ensures misused { MayMisuse (option_map (λ files. is_file_or_absent (item_at files path.now)) (W.tree world.old))
         (W.misused world.old) (W.misused world.new) }
 {

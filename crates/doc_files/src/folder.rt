@@ -5,7 +5,7 @@ ghost use Rattle.cnb_world.specs.Calls.{AreNames, MayMisuse};
 ghost use Rattle.cnb_world.specs.Tree.{can_list, is_folder, item_at, kind_of};
 ghost use Rattle.steps.specs.Causes.{IsAnswer};
 ghost use Rattle.steps.specs.Outside.{seen};
-ghost use Rattle.steps.specs.Reading.{ReadFrame};
+ghost use Rattle.steps.specs.Reading.{LeavesUnchanged};
 ghost use Rattle.doc_files.specs.Faults.{read_cause};
 ghost use Rattle.doc_files.specs.Reading.{FailsAt, names_at};
 
@@ -19,7 +19,7 @@ pub fn is_folder<W: World>(alloc: Global, world: &mut W, path: &Path) -> Result<
     ensures reads { IfSome (W.tree world.old)
         (λ files. IsAnswer read_cause result (Ok (is_folder (item_at files path.now)))) }
     ensures blames { IfErr result (FailsAt path.now) }
-    ensures frame { ReadFrame read_cause result (seen W.World world.old) (seen W.World world.new) }
+    ensures leaves { LeavesUnchanged read_cause result (seen W.World world.old) (seen W.World world.new) }
     ensures misused { W.misused world.new ≡ W.misused world.old }
 {
     match world.kind(path) {
@@ -39,7 +39,7 @@ pub fn list_names<W: World>(
     ensures names { IfOk result AreNames }
     ensures reads { IfSome (W.tree world.old) (λ files. IsAnswer read_cause result (names_at files folder.now)) }
     ensures blames { IfErr result (FailsAt folder.now) }
-    ensures frame { ReadFrame read_cause result (seen W.World world.old) (seen W.World world.new) }
+    ensures leaves { LeavesUnchanged read_cause result (seen W.World world.old) (seen W.World world.new) }
     ensures misused { MayMisuse (option_map (λ files. can_list files folder.now) (W.tree world.old))
         (W.misused world.old) (W.misused world.new) }
 {

@@ -9,11 +9,11 @@ use Rattle.image_files.specs.Images.{reads_image, reads_run_image, writes_readab
 
 pub image_counts : (store name : List ℕ) → Obeys FileCounts cause_of (reads_image store name)
 unfolding reads_image
-image_counts store name = reads_counts cause_of _ _
+image_counts store name = reads_counts cause_of _ _ _
 
 pub run_image_counts : (store name : List ℕ) → Obeys FileCounts cause_of (reads_run_image store name)
 unfolding reads_run_image
-run_image_counts store name = reads_counts cause_of _ _
+run_image_counts store name = reads_counts cause_of _ _ _
 
 pub written_image_counts : (store name : List ℕ) (image : ImageDoc)
     → Obeys FileCounts cause_of (writes_readable_image store name image)

@@ -6,6 +6,7 @@ use Rattle.image_docs.specs.Image.{image_in, image_table_in, is_image_doc}
 use Rattle.image_docs.specs.RunImage.{is_run_doc, run_in, table_in}
 use Rattle.image_docs.specs.declared.image.ImageDoc.{ImageDoc}
 use Rattle.image_docs.specs.declared.run_image.RunDoc.{RunDoc}
+use Rattle.steps.specs.Causes.{Only}
 use Rattle.steps.specs.Outside.{Seen}
 use Rattle.steps.specs.Results.{and_then, with_fault}
 use Rattle.steps.specs.Steps.{reads, writes}
@@ -31,10 +32,12 @@ run_image_at store name files = and_then (with_fault of_read_fault
     (document_in table_in (run_path store name) files)) (named name)
 
 unfoldable pub reads_image : List ℕ → List ℕ → Seen → Result ImageDoc ImageFault → Seen → Type 0
-reads_image store name = reads cause_of (is_fit_document (image_path store name)) (image_at store name)
+reads_image store name = reads cause_of (Only (image_path store name)) (is_fit_document (image_path store name))
+    (image_at store name)
 
 unfoldable pub reads_run_image : List ℕ → List ℕ → Seen → Result RunDoc ImageFault → Seen → Type 0
-reads_run_image store name = reads cause_of (is_fit_document (run_path store name)) (run_image_at store name)
+reads_run_image store name = reads cause_of (Only (run_path store name)) (is_fit_document (run_path store name))
+    (run_image_at store name)
 
 -- bytes that read as an image, where it is one that can be read
 abbrev pub ReadsAsImage : ImageDoc → List ℕ → Type 0

@@ -4,7 +4,7 @@ ghost use Rattle.std.specs.Option.{option_map};
 ghost use Rattle.cnb_world.specs.Calls.{MayMisuse};
 ghost use Rattle.steps.specs.Causes.{CountsFiles, IsAnswer};
 ghost use Rattle.steps.specs.Outside.{seen};
-ghost use Rattle.steps.specs.Reading.{ReadFrame};
+ghost use Rattle.steps.specs.Reading.{LeavesUnchanged};
 ghost use Rattle.doc_files.specs.Faults.{read_cause};
 ghost use Rattle.doc_files.specs.Reading.{BlamesOnly};
 ghost use Rattle.image_files.specs.Documents.{IsRead, document_in, found_of, is_fit_document};
@@ -48,7 +48,7 @@ pub fn find_document<W: World, F: TableForm>(
         IsAnswer read_cause result (document_in F.value_in path.now files)) }
     ensures read { IfOk result (λ found. IfSome found (IsRead F.value_in)) }
     ensures blames { IfErr result (BlamesOnly path.now) }
-    ensures frame { ReadFrame read_cause result (seen W.World world.old) (seen W.World world.new) }
+    ensures leaves { LeavesUnchanged read_cause result (seen W.World world.old) (seen W.World world.new) }
     ensures misused { MayMisuse (option_map (is_fit_document path.now) (W.tree world.old))
         (W.misused world.old) (W.misused world.new) }
 {

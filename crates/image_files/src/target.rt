@@ -1,12 +1,13 @@
 // The target of the run image that was analyzed.
-ghost use Rattle.std.specs.Prelude.{◌≡◌, ◌≤◌, ◌&&◌, IfOk, IfSome, IsTrue, length};
+ghost use Rattle.std.specs.Prelude.{◌≡◌, ◌≤◌, ◌&&◌, IfErr, IfOk, IfSome, IsTrue, length};
 ghost use Rattle.std.specs.Option.{option_map};
 ghost use Rattle.cnb_toml.specs.Names.{is_target_name};
 ghost use Rattle.cnb_world.specs.Calls.{MayMisuse};
 ghost use Rattle.steps.specs.Causes.{IsAnswer};
 ghost use Rattle.steps.specs.Outside.{seen};
-ghost use Rattle.steps.specs.Reading.{ReadFrame};
+ghost use Rattle.steps.specs.Reading.{LeavesUnchanged};
 ghost use Rattle.doc_files.specs.Faults.{read_cause};
+ghost use Rattle.doc_files.specs.Reading.{BlamesOnly};
 ghost use Rattle.image_files.specs.Target.{analyzed_document, is_fit_target, target_at, target_of};
 
 use crate::documents::find_document;
@@ -46,7 +47,8 @@ pub fn read_target<W: World>(
 ) -> Result<Option<Target>, ReadFault>
     requires { length work.now ≤ 4096 }
     ensures reads { IfSome (W.tree world.old) (λ files. IsAnswer read_cause result (target_at work.now files)) }
-    ensures frame { ReadFrame read_cause result (seen W.World world.old) (seen W.World world.new) }
+    ensures blames { IfErr result (BlamesOnly (analyzed_document work.now)) }
+    ensures leaves { LeavesUnchanged read_cause result (seen W.World world.old) (seen W.World world.new) }
     ensures misused { MayMisuse (option_map (is_fit_target work.now) (W.tree world.old))
         (W.misused world.old) (W.misused world.new) }
     ensures named { IfOk result (λ target. IfSome target

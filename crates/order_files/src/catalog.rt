@@ -6,7 +6,7 @@ ghost use Rattle.cnb_world.specs.Calls.{AreNames, MayMisuse};
 ghost use Rattle.cnb_world.specs.Path.{is_part, joined};
 ghost use Rattle.steps.specs.Causes.{IsAnswer};
 ghost use Rattle.steps.specs.Outside.{seen};
-ghost use Rattle.steps.specs.Reading.{ReadFrame};
+ghost use Rattle.steps.specs.Reading.{LeavesUnchanged};
 ghost use Rattle.doc_files.specs.Faults.{read_cause};
 ghost use Rattle.doc_files.specs.Reading.{BlamesOne};
 ghost use Rattle.order_files.specs.Catalog.{IsOfCatalog, IsOfId, buildpack_in, buildpacks_in, catalog_in, followed_by};
@@ -35,7 +35,7 @@ fn with_buildpack<W: World>(
         IsAnswer read_cause result (followed_by (Ok catalog) (buildpack_in files buildpacks.now id_folder.now))) }
     ensures blames { IfErr result (BlamesOne (IsOfId (joined buildpacks.now id_folder.now))) }
     ensures others { IfOk result (KeepsOtherIds id_folder.now catalog) }
-    ensures frame { ReadFrame read_cause result (seen W.World world.old) (seen W.World world.new) }
+    ensures leaves { LeavesUnchanged read_cause result (seen W.World world.old) (seen W.World world.new) }
     ensures misused { MayMisuse (option_map (λ files.
         is_fit_buildpack files buildpacks.now id_folder.now) (W.tree world.old))
         (W.misused world.old) (W.misused world.new) }
@@ -68,7 +68,7 @@ fn read_buildpacks<W: World>(
     ensures reads { IfSome (W.tree world.old) (λ files.
         IsAnswer read_cause result (buildpacks_in files buildpacks.now id_folders.now)) }
     ensures blames { IfErr result (BlamesOne (IsOfCatalog buildpacks.now)) }
-    ensures frame { ReadFrame read_cause result (seen W.World world.old) (seen W.World world.new) }
+    ensures leaves { LeavesUnchanged read_cause result (seen W.World world.old) (seen W.World world.new) }
     ensures misused { MayMisuse (option_map (λ files.
         list_all (is_fit_buildpack files buildpacks.now) id_folders.now) (W.tree world.old))
         (W.misused world.old) (W.misused world.new) }
@@ -90,7 +90,7 @@ pub fn read_catalog<W: World>(
     requires { length buildpacks.now ≤ 4096 }
     ensures reads { IfSome (W.tree world.old) (λ files. IsAnswer read_cause result (catalog_in buildpacks.now files)) }
     ensures blames { IfErr result (BlamesOne (IsOfCatalog buildpacks.now)) }
-    ensures frame { ReadFrame read_cause result (seen W.World world.old) (seen W.World world.new) }
+    ensures leaves { LeavesUnchanged read_cause result (seen W.World world.old) (seen W.World world.new) }
     ensures misused { MayMisuse (option_map (is_fit_catalog buildpacks.now) (W.tree world.old))
         (W.misused world.old) (W.misused world.new) }
 {

@@ -4,7 +4,7 @@ ghost use Rattle.std.specs.Option.{option_map};
 ghost use Rattle.cnb_world.specs.Calls.{MayMisuse};
 ghost use Rattle.steps.specs.Causes.{CountsFiles, IsAnswer};
 ghost use Rattle.steps.specs.Outside.{seen};
-ghost use Rattle.steps.specs.Reading.{ReadFrame};
+ghost use Rattle.steps.specs.Reading.{LeavesUnchanged};
 ghost use Rattle.doc_files.specs.Faults.{read_cause};
 ghost use Rattle.doc_files.specs.Reading.{BlamesOnly};
 ghost use Rattle.order_files.specs.Descriptor.{described, descriptor_at, descriptor_path, giving, is_fit_descriptor};
@@ -80,7 +80,7 @@ pub(crate) fn read_descriptor<W: World>(
         IsAnswer read_cause result (descriptor_at files folder.now id_folder.now version.now)) }
     ensures blames { IfErr result (BlamesOnly (descriptor_path folder.now)) }
     ensures placed { IfOk result (IsPlaced id_folder.now version.now) }
-    ensures frame { ReadFrame read_cause result (seen W.World world.old) (seen W.World world.new) }
+    ensures leaves { LeavesUnchanged read_cause result (seen W.World world.old) (seen W.World world.new) }
     ensures misused { MayMisuse (option_map (λ files. is_fit_descriptor files folder.now) (W.tree world.old))
         (W.misused world.old) (W.misused world.new) }
 {

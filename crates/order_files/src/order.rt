@@ -4,7 +4,7 @@ ghost use Rattle.std.specs.Option.{option_map};
 ghost use Rattle.cnb_world.specs.Calls.{MayMisuse};
 ghost use Rattle.steps.specs.Causes.{CountsFiles, IsAnswer};
 ghost use Rattle.steps.specs.Outside.{seen};
-ghost use Rattle.steps.specs.Reading.{ReadFrame};
+ghost use Rattle.steps.specs.Reading.{LeavesUnchanged};
 ghost use Rattle.doc_files.specs.Faults.{read_cause};
 ghost use Rattle.doc_files.specs.Reading.{BlamesOnly};
 ghost use Rattle.order_files.specs.OrderFile.{is_fit_order_file, order_file_in, order_of};
@@ -38,7 +38,7 @@ pub fn read_order_file<W: World>(
 ) -> Result<Order, ReadFault>
     ensures reads { IfSome (W.tree world.old) (λ files. IsAnswer read_cause result (order_file_in path.now files)) }
     ensures blames { IfErr result (BlamesOnly path.now) }
-    ensures frame { ReadFrame read_cause result (seen W.World world.old) (seen W.World world.new) }
+    ensures leaves { LeavesUnchanged read_cause result (seen W.World world.old) (seen W.World world.new) }
     ensures misused { MayMisuse (option_map (is_fit_order_file path.now) (W.tree world.old))
         (W.misused world.old) (W.misused world.new) }
 {

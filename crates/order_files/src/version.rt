@@ -5,7 +5,7 @@ ghost use Rattle.cnb_world.specs.Calls.{AreNames, MayMisuse};
 ghost use Rattle.cnb_world.specs.Path.{is_part, joined};
 ghost use Rattle.steps.specs.Causes.{IsAnswer};
 ghost use Rattle.steps.specs.Outside.{seen};
-ghost use Rattle.steps.specs.Reading.{ReadFrame};
+ghost use Rattle.steps.specs.Reading.{LeavesUnchanged};
 ghost use Rattle.doc_files.specs.Faults.{read_cause};
 ghost use Rattle.doc_files.specs.Reading.{BlamesOne};
 ghost use Rattle.order_files.specs.Catalog.{IsOfId, IsOfVersion, are_fit_versions, followed_by, is_fit_version, listed};
@@ -58,7 +58,7 @@ fn read_version<W: World>(
         IsAnswer read_cause result (followed_by (Ok catalog) (version_in files folder.now id_folder.now version.now))) }
     ensures blames { IfErr result (BlamesOne (IsOfVersion (joined folder.now version.now))) }
     ensures others { IfOk result (KeepsOthers id_folder.now version.now catalog) }
-    ensures frame { ReadFrame read_cause result (seen W.World world.old) (seen W.World world.new) }
+    ensures leaves { LeavesUnchanged read_cause result (seen W.World world.old) (seen W.World world.new) }
     ensures misused { MayMisuse (option_map (λ files. is_fit_version files folder.now version.now) (W.tree world.old))
         (W.misused world.old) (W.misused world.new) }
 {
@@ -88,7 +88,7 @@ pub(crate) fn read_versions<W: World>(
         (versions_in files folder.now id_folder.now versions.now))) }
     ensures blames { IfErr result (BlamesOne (IsOfId folder.now)) }
     ensures others { IfOk result (KeepsOtherIds id_folder.now catalog) }
-    ensures frame { ReadFrame read_cause result (seen W.World world.old) (seen W.World world.new) }
+    ensures leaves { LeavesUnchanged read_cause result (seen W.World world.old) (seen W.World world.new) }
     ensures misused { MayMisuse (option_map (λ files.
         are_fit_versions files folder.now versions.now) (W.tree world.old))
         (W.misused world.old) (W.misused world.new) }

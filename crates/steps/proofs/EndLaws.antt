@@ -119,10 +119,10 @@ all_rest = record {
   decided = λ s. record { files = refl; children = refl };
 }
 
-pub reads_counts : {E A : Type 0} (cause_of : E → Cause) (fits : Tree → Bool) (want : Tree → Result A E)
-    → Obeys FileCounts cause_of (reads cause_of fits want)
+pub reads_counts : {E A : Type 0} (cause_of : E → Cause) (Among : List ℕ → Type 0) (fits : Tree → Bool)
+    (want : Tree → Result A E) → Obeys FileCounts cause_of (reads cause_of Among fits want)
 unfolding reads
-reads_counts cause_of fits want old new result h = h.counts
+reads_counts cause_of Among fits want old new result h = h.counts
 
 pub writes_counts : {E : Type 0} (cause_of : E → Cause) (path : List ℕ) (Says : List ℕ → Type 0)
     → Obeys FileCounts cause_of (writes cause_of path Says)

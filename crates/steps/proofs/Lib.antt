@@ -2,7 +2,7 @@ pub mod AnswerLaws
 pub mod AskingLemmas
 pub mod EachLemmas
 pub mod EndLaws
-pub mod FrameLaws
+pub mod KeepingLaws
 pub mod OutsideLaws
 pub mod ReadingLaws
 pub mod RemovalLemmas

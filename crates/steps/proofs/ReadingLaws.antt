@@ -1,14 +1,15 @@
 -- Steps that only read come to what the files say, and make no call on a path of the wrong kind where the files fit.
 use Rattle.std.proofs.Common.{◌≡◌, ◌∙◌, sym, ap, subst, ℕ, Bool, true, false, ◌&&◌, Option, Some, None, Result, Ok, Err}
 use Rattle.std.proofs.Common.{inl, inr, arith}
-use Rattle.std.specs.Prelude.{IfSome}
+use Rattle.std.specs.Prelude.{IfErr, IfSome, List}
 use Rattle.std.specs.Option.{option_map}
 use Rattle.cnb_world.specs.Calls.{MayMisuse}
 use Rattle.cnb_world.specs.Tree.{Tree}
-use Rattle.steps.specs.Causes.{Cause, FileFailed, ChildFailed, OutOfMemory, Decided, IsAnswer, WhereDecided, ended_by}
+use Rattle.steps.specs.Causes.{Cause, FileFailed, ChildFailed, OutOfMemory, Decided, IsAnswer, NamesOne, WhereDecided}
+use Rattle.steps.specs.Causes.{ended_by}
 use Rattle.steps.specs.Counts.{FileCounts}
 use Rattle.steps.specs.Outside.{Seen}
-use Rattle.steps.specs.Reading.{ReadFrame}
+use Rattle.steps.specs.Reading.{LeavesUnchanged}
 use Rattle.steps.specs.Results as results
 use Rattle.steps.specs.Steps.{◌>>=◌, Allows, Same, gives, map_err, reads}
 use Rattle.steps.proofs.EndLaws.{read_ends}
@@ -117,10 +118,10 @@ reads_then cause_of F G want later first next p q old new (Err fault)
     (q a mid new (Err fault) k)
 
 -- reading itself
-pub reads_files : {E A : Type 0} (cause_of : E → Cause) (fits : Tree → Bool) (want : Tree → Result A E)
-    → OnlyReads cause_of fits want (reads cause_of fits want)
+pub reads_files : {E A : Type 0} (cause_of : E → Cause) (Among : List ℕ → Type 0) (fits : Tree → Bool)
+    (want : Tree → Result A E) → OnlyReads cause_of fits want (reads cause_of Among fits want)
 unfolding reads
-reads_files cause_of fits want old new result h = record { same = h.same; answer = h.answer; allows = h.allows }
+reads_files cause_of Among fits want old new result h = record { same = h.same; answer = h.answer; allows = h.allows }
 
 given_where : {E A : Type 0} (cause_of : E → Cause) (want : Result A E) (o : Option Tree) (result : Result A E)
     → IsAnswer cause_of result want → IfSome o (λ files. IsAnswer cause_of result want)
@@ -188,26 +189,28 @@ reads_told cause_of cause_of' of fits want step causes p old new (Err refusal) (
     })
 
 -- what a call that only reads does to the counts
-pub frame_counts : {E A : Type 0} (cause_of : E → Cause) (result : Result A E) (old new : Seen)
-    → ReadFrame cause_of result old new → FileCounts (ended_by cause_of result) old new
-frame_counts cause_of (Ok value) old new frame = record { ends = tt; files = frame.counts; children = frame.children }
-frame_counts cause_of (Err fault) old new frame = record {
-  ends = read_ends new.failed_at (cause_of fault) frame.cause;
-  files = frame.counts;
+pub unchanged_counts : {E A : Type 0} (cause_of : E → Cause) (result : Result A E) (old new : Seen)
+    → LeavesUnchanged cause_of result old new → FileCounts (ended_by cause_of result) old new
+unchanged_counts cause_of (Ok value) old new left = record { ends = tt; files = left.counts; children = left.children }
+unchanged_counts cause_of (Err fault) old new left = record {
+  ends = read_ends new.failed_at (cause_of fault) left.cause;
+  files = left.counts;
   children =
-      frame.children;
+      left.children;
 }
 
 -- files that were read by a call that leaves all as it was
-pub read_framed : {E A : Type 0} (cause_of : E → Cause) (fits : Tree → Bool) (want : Tree → Result A E)
-    (result : Result A E) {old new : Seen}
-    → IfSome old.files (λ files. IsAnswer cause_of result (want files)) → ReadFrame cause_of result old new
-    → Allows fits old new → reads cause_of fits want old result new
+pub read_unchanged : {E A : Type 0} (cause_of : E → Cause) (Among : List ℕ → Type 0) (fits : Tree → Bool)
+    (want : Tree → Result A E) (result : Result A E) {old new : Seen}
+    → IfSome old.files (λ files. IsAnswer cause_of result (want files)) → LeavesUnchanged cause_of result old new
+    → IfErr result (λ fault. NamesOne Among (cause_of fault))
+    → Allows fits old new → reads cause_of Among fits want old result new
 unfolding reads
-read_framed cause_of fits want result {old} {new} answer frame allows = record {
-  same = record { files = frame.files; runs = frame.runs };
+read_unchanged cause_of Among fits want result {old} {new} answer left named allows = record {
+  same = record { files = left.files; runs = left.runs };
   answer = answer;
-  cause = frame.cause;
+  cause = left.cause;
+  named = named;
   allows = allows;
-  counts = frame_counts cause_of result old new frame;
+  counts = unchanged_counts cause_of result old new left;
 }

@@ -7,7 +7,7 @@ use Rattle.cnb_world.specs.Calls.{MayMisuse}
 use Rattle.cnb_world.specs.Tree.{Tree}
 use Rattle.cnb_world.specs.Whole.{LeavesPart, can_write, written}
 use Rattle.steps.specs.Causes.{Cause, OutOfMemory, ended_by, WhereDecided, IsAnswer, IsGivenCause, IsReadCause}
-use Rattle.steps.specs.Causes.{IsWriteCause}
+use Rattle.steps.specs.Causes.{FileFailed, ChildFailed, Decided, IsWriteCause, NamesOne}
 use Rattle.cnb_world.specs.declared.world.World as world
 use Rattle.steps.specs.Counts.{FileCounts}
 use Rattle.steps.specs.Outside.{Seen, SpawnerSeen, seen}
@@ -145,21 +145,35 @@ pub cause_told : {E F : Type 0} (cause_of : E → Cause) (cause_of' : F → Caus
     → IsReadCause last (cause_of fault) → IsReadCause last (cause_of' (of fault))
 cause_told cause_of cause_of' of last fault same h = subst (IsReadCause last) (sym same) h
 
+pub named_told : {E F : Type 0} (cause_of : E → Cause) (cause_of' : F → Cause) (of : E → F)
+    (Among : List ℕ → Type 0) (fault : E) → cause_of' (of fault) ≡ cause_of fault
+    → NamesOne Among (cause_of fault) → NamesOne Among (cause_of' (of fault))
+named_told cause_of cause_of' of Among fault same h = subst (NamesOne Among) (sym same) h
+
+-- paths that are among others
+pub named_more : (Among More : List ℕ → Type 0) → ((path : List ℕ) → Among path → More path) → (cause : Cause)
+    → NamesOne Among cause → NamesOne More cause
+named_more Among More more (FileFailed path) h = more path h
+named_more Among More more ChildFailed h = tt
+named_more Among More more OutOfMemory h = tt
+named_more Among More more Decided h = tt
+
 -- files that were read
-pub read_so : {W E A : Type 0} (ghosts : world.Ghosts W) (cause_of : E → Cause) (fits : Tree → Bool)
-    (want : Tree → Result A E) (result : Result A E) (old new : W)
+pub read_so : {W E A : Type 0} (ghosts : world.Ghosts W) (cause_of : E → Cause) (Among : List ℕ → Type 0)
+    (fits : Tree → Bool) (want : Tree → Result A E) (result : Result A E) (old new : W)
     → IfSome (ghosts.tree old) (λ files. IsAnswer cause_of result (want files))
     → IfErr result (λ fault. IsReadCause (ghosts.failed_at new) (cause_of fault))
+    → IfErr result (λ fault. NamesOne Among (cause_of fault))
     → ghosts.tree new ≡ ghosts.tree old → ghosts.runs new ≡ ghosts.runs old
     → MayMisuse (option_map fits (ghosts.tree old)) (ghosts.misused old) (ghosts.misused new)
     → FileCounts (ended_by cause_of result) (seen ghosts old) (seen ghosts new)
-    → reads cause_of fits want (seen ghosts old) result (seen ghosts new)
+    → reads cause_of Among fits want (seen ghosts old) result (seen ghosts new)
 unfolding reads
-read_so ghosts cause_of fits want result old new answer cause files runs allows counts = record {
+read_so ghosts cause_of Among fits want result old new answer cause named files runs allows counts = record {
   same = record { files = files; runs = runs };
   answer = answer;
   cause = cause;
+  named = named;
   allows = allows;
-  counts =
-      counts;
+  counts = counts;
 }

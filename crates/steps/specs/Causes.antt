@@ -67,6 +67,17 @@ IsReadCause last ChildFailed = ⊥
 IsReadCause last OutOfMemory = Unit {0}
 IsReadCause last Decided = Unit {0}
 
+-- a path that a failed call is told with is one of these
+abbrev pub NamesOne : (List ℕ → Type 0) → Cause → Type 0
+NamesOne Among (FileFailed path) = Among path
+NamesOne Among ChildFailed = Unit {0}
+NamesOne Among OutOfMemory = Unit {0}
+NamesOne Among Decided = Unit {0}
+
+-- it is this one
+abbrev pub Only : List ℕ → List ℕ → Type 0
+Only path named = named ≡ path
+
 -- a value that is known for want of memory, or because it is a refusal;
 abbrev pub IsGivenCause : Cause → Type 0
 IsGivenCause (FileFailed path) = ⊥

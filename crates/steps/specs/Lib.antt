@@ -3,7 +3,7 @@ pub mod Causes
 pub mod Counts
 pub mod Each
 pub mod EitherCounts
-pub mod Frames
+pub mod Keeping
 pub mod Outside
 pub mod Reading
 pub mod Results

@@ -5,7 +5,7 @@ use Rattle.steps.specs.Outside.{Seen}
 
 -- Files and children are as before. A refusal for a failed call comes where the count rose, with the path whose call
 -- failed last.
-pub record ReadFrame {E A : Type 0} (cause_of : E → Cause) (result : Result A E) (old new : Seen) : Type 0 where
+pub record LeavesUnchanged {E A : Type 0} (cause_of : E → Cause) (result : Result A E) (old new : Seen) : Type 0 where
   pub files : new.files ≡ old.files
   pub runs : new.runs ≡ old.runs
   pub children : new.child_faults ≡ old.child_faults

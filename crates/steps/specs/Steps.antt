@@ -7,7 +7,7 @@ use Rattle.cnb_world.specs.Tree.{Tree, folder_made, can_make_folder, is_root, wi
 use Rattle.cnb_world.specs.Whole.{written, can_write, LeavesPart}
 use Rattle.cnb_world.specs.declared.child.ChildJob.{ChildJob}
 use Rattle.cnb_world.specs.declared.child.End.{End}
-use Rattle.steps.specs.Causes.{Cause, IsAnswer, IsReadCause, IsGivenCause, IsWriteCause, IsRunCause, ended_by}
+use Rattle.steps.specs.Causes.{Cause, IsAnswer, IsReadCause, IsGivenCause, IsWriteCause, IsRunCause, NamesOne, ended_by}
 use Rattle.steps.specs.Counts.{AllCounts, FileCounts}
 use Rattle.steps.specs.Outside.{Outside, Seen, SpawnerSeen}
 
@@ -52,18 +52,20 @@ pub record Same (old new : Seen) : Type 0 where
 abbrev pub Allows : (Tree → Bool) → Seen → Seen → Type 0
 Allows fits old new = MayMisuse (option_map fits old.files) old.misused new.misused
 
--- Files are read: the answer is what they say, as they then are. It reads paths of the right kind where they fit.
-pub record Reads {E A : Type 0} (cause_of : E → Cause) (fits : Tree → Bool) (want : Tree → Result A E)
-    (old : Seen) (result : Result A E) (new : Seen) : Type 0 where
+-- Files are read: the answer is what they say, as they then are, and a failed call is told with one of the paths that
+-- are read. It reads paths of the right kind where they fit.
+pub record Reads {E A : Type 0} (cause_of : E → Cause) (Among : List ℕ → Type 0) (fits : Tree → Bool)
+    (want : Tree → Result A E) (old : Seen) (result : Result A E) (new : Seen) : Type 0 where
   pub same : Same old new
   pub answer : IfSome old.files (λ files. IsAnswer cause_of result (want files))
   pub cause : IfErr result (λ fault. IsReadCause new.failed_at (cause_of fault))
+  pub named : IfErr result (λ fault. NamesOne Among (cause_of fault))
   pub allows : Allows fits old new
   pub counts : FileCounts (ended_by cause_of result) old new
 
-unfoldable pub reads : {E A : Type 0} → (E → Cause) → (Tree → Bool) → (Tree → Result A E) → Seen → Result A E
-    → Seen → Type 0
-reads cause_of fits want old result new = Reads cause_of fits want old result new
+unfoldable pub reads : {E A : Type 0} → (E → Cause) → (List ℕ → Type 0) → (Tree → Bool) → (Tree → Result A E)
+    → Seen → Result A E → Seen → Type 0
+reads cause_of Among fits want old result new = Reads cause_of Among fits want old result new
 
 pub record Writes (path : List ℕ) (Says : List ℕ → Type 0) (old new : Seen) : Type 0 where
   pub bytes : List ℕ

@@ -31,15 +31,15 @@ use Rattle.store_prune.specs.declared.fault.VerifyFault.TheVariants.{Store}
 
 looked_counts : (path : List ℕ) → Obeys FileCounts cause_of (looks_for_file path)
 unfolding looks_for_file
-looked_counts path = reads_counts cause_of _ _
+looked_counts path = reads_counts cause_of _ _ _
 
 there_counts : (path : List ℕ) → Obeys FileCounts cause_of (looks_for path)
 unfolding looks_for
-there_counts path = reads_counts cause_of _ _
+there_counts path = reads_counts cause_of _ _ _
 
 list_where_counts : (folder : List ℕ) (there : Bool) → Obeys FileCounts cause_of (lists_where folder there)
 unfolding lists_where
-list_where_counts folder true = reads_counts cause_of _ _
+list_where_counts folder true = reads_counts cause_of _ _ _
 list_where_counts folder false = obeys_yields _ _ _ files_rest
 
 list_counts : (folder : List ℕ) → Obeys FileCounts cause_of (lists folder)
@@ -50,7 +50,7 @@ module _ {A : Type 0} (form : TableForm A) (digests : A → List (List ℕ)) whe
   where_counts : (path : List ℕ) (named : List (List ℕ)) (there : Bool)
       → Obeys FileCounts cause_of (adds_where form digests path named there)
   unfolding adds_where reads_names
-  where_counts path named true = obeys_bind _ _ _ _ files_link (reads_counts cause_of _ _)
+  where_counts path named true = obeys_bind _ _ _ _ files_link (reads_counts cause_of _ _ _)
       (λ more. obeys_gives _ _ _ files_rest)
   where_counts path named false = obeys_yields _ _ _ files_rest
 

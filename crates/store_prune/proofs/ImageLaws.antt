@@ -16,7 +16,7 @@ use Rattle.image_files.specs.Faults as image_files
 use Rattle.image_files.specs.Images.{image_at, named}
 use Rattle.image_files.specs.Paths.{document_name, image_path, images_folder}
 use Rattle.image_files.specs.declared.fault.ImageFault.{ImageFault}
-use Rattle.steps.specs.Frames.{standing}
+use Rattle.steps.specs.Keeping.{standing}
 use Rattle.steps.specs.Results.{and_then, with_fault}
 use Rattle.tree_store.specs.Store.{Gets, tree_path}
 use Rattle.tree_store.specs.Writing.{trees_of}

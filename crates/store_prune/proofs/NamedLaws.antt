@@ -8,7 +8,7 @@ use Rattle.std.proofs.lemmas.Bool.{or_from}
 use Rattle.cnb_world.specs.Path.{is_part}
 use Rattle.cnb_world.specs.Tree.{Tree, is_file, is_within, item_at}
 use Rattle.hex.specs.Hex.{encode_lower}
-use Rattle.steps.specs.Frames.{standing}
+use Rattle.steps.specs.Keeping.{standing}
 use Rattle.steps.specs.Results.{and_then}
 use Rattle.tree_canon.specs.Digest.{is_digest_text}
 use Rattle.tree_store.specs.Store.{tree_path}

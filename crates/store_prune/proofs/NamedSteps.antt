@@ -15,12 +15,12 @@ use Rattle.store_prune.proofs.ListLemmas.{name_added}
 -- memory ran out before a file was looked for
 pub not_looked : (path : List ℕ) (old : Seen) → looks_for_file path old (Err Memory) old
 unfolding looks_for_file
-not_looked path old = nothing_read _ _ _ Memory _ refl
+not_looked path old = nothing_read _ _ _ _ Memory _ refl
 
 -- and before a folder was listed
 pub not_listed : (folder : List ℕ) (old : Seen) → lists folder old (Err Memory) old
 unfolding lists looks_for
-not_listed folder old = ended _ _ _ _ _ (nothing_read _ _ _ Memory _ refl)
+not_listed folder old = ended _ _ _ _ _ (nothing_read _ _ _ _ Memory _ refl)
 
 module _ {A : Type 0} (form : TableForm A) (digests : A → List (List ℕ)) where
   -- and before the name of a document was gone to

@@ -9,7 +9,7 @@ use Rattle.cnb_world.specs.Tree.{Tree}
 use Rattle.steps.specs.Causes.{Cause, FileFailed, ChildFailed, OutOfMemory, Decided, IsAnswer, IsWriteCause}
 use Rattle.steps.specs.Causes.{WhereDecided}
 use Rattle.steps.specs.Each.{for_each}
-use Rattle.steps.specs.Frames.{standing}
+use Rattle.steps.specs.Keeping.{standing}
 use Rattle.steps.specs.Outside.{Seen}
 use Rattle.steps.specs.Steps.{◌>>=◌, gives, removes, yields}
 use Rattle.steps.proofs.ReadingLaws.{where_map}

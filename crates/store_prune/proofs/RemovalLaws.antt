@@ -11,11 +11,11 @@ use Rattle.cnb_world.specs.Tree.{Tree, is_root, is_within, item_at, without}
 use Rattle.cnb_world.proofs.EffectLemmas.{emptied_elsewhere}
 use Rattle.cnb_world.specs.declared.world.Item.TheVariants.{Folder}
 use Rattle.steps.specs.Each.{for_each}
-use Rattle.steps.specs.Frames.{standing}
+use Rattle.steps.specs.Keeping.{standing}
 use Rattle.steps.specs.Outside.{Seen}
 use Rattle.steps.specs.Steps.{◌>>=◌, gives, removes, yields}
 use Rattle.steps.proofs.EndLaws.{Links, Obeys, Relation, Rests, obeys_bind, obeys_yields}
-use Rattle.steps.proofs.FrameLaws.{step_at}
+use Rattle.steps.proofs.KeepingLaws.{step_at}
 use Rattle.tree_store.specs.Store.{tree_path}
 use Rattle.store_prune.specs.Faults.{cause_of}
 use Rattle.store_prune.specs.Prunes.{removes_all, removes_next, removes_trees}

@@ -38,10 +38,10 @@ abbrev pub OnlyTells : {A : Type 0} → (Tree → Result A PruneFault) → (Seen
 OnlyTells {A} want step = (old new : Seen) (result : Result A PruneFault) → step old result new
     → Tells want old result new
 
-tells_reads : {A : Type 0} (fits : Tree → Bool) (want : Tree → Result A PruneFault)
-    → OnlyTells want (reads cause_of fits want)
+tells_reads : {A : Type 0} (Among : List ℕ → Type 0) (fits : Tree → Bool) (want : Tree → Result A PruneFault)
+    → OnlyTells want (reads cause_of Among fits want)
 unfolding reads
-tells_reads fits want old new result h = record { files = h.same.files; answer = h.answer }
+tells_reads Among fits want old new result h = record { files = h.same.files; answer = h.answer }
 
 wherever : (o : Option Tree) (P : Type 0) → P → IfSome o (λ files. P)
 wherever None P h = tt
@@ -102,15 +102,15 @@ tells_each want step p (x ∷ xs) a = tells_then (λ t. want t x a) (λ b t. eac
 
 looked_tells : (path : List ℕ) → OnlyTells (λ t. Ok (is_file (item_at t path))) (looks_for_file path)
 unfolding looks_for_file
-looked_tells path = tells_reads (λ t. true) (λ t. Ok (is_file (item_at t path)))
+looked_tells path = tells_reads _ (λ t. true) (λ t. Ok (is_file (item_at t path)))
 
 there_tells : (path : List ℕ) → OnlyTells (λ t. Ok (is_some (item_at t path))) (looks_for path)
 unfolding looks_for
-there_tells path = tells_reads (λ t. true) (λ t. Ok (is_some (item_at t path)))
+there_tells path = tells_reads _ (λ t. true) (λ t. Ok (is_some (item_at t path)))
 
 where_tells : (folder : List ℕ) (there : Bool) → OnlyTells (λ t. listed_where folder t there) (lists_where folder there)
 unfolding lists_where
-where_tells folder true = tells_reads _ _
+where_tells folder true = tells_reads _ _ _
 where_tells folder false = tells_yields []
 
 list_tells : (folder : List ℕ) → OnlyTells (listed_in folder) (lists folder)
@@ -125,7 +125,7 @@ module _ {A : Type 0} (form : TableForm A) (digests : A → List (List ℕ)) whe
       → OnlyTells (λ t. found_in form digests path t named there) (adds_where form digests path named there)
   unfolding adds_where reads_names
   found_tells path named true = tells_then (names_of_document form digests path)
-      (λ more t. Ok (named ++ more)) _ _ (tells_reads _ _) (λ more. tells_gives (Ok (named ++ more)))
+      (λ more t. Ok (named ++ more)) _ _ (tells_reads _ _ _) (λ more. tells_gives (Ok (named ++ more)))
   found_tells path named false = tells_yields named
 
   document_tells : (path : List ℕ) (named : List (List ℕ))

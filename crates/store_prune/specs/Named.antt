@@ -13,6 +13,7 @@ use Rattle.image_docs.specs.declared.image.ImageDoc.{ImageDoc}
 use Rattle.image_docs.specs.declared.run_image.RunDoc.{RunDoc}
 use Rattle.image_files.specs.Documents.{document_in, is_fit_document}
 use Rattle.image_files.specs.Paths.{images_folder, runs_folder}
+use Rattle.steps.specs.Causes.{Only}
 use Rattle.steps.specs.Each.{for_each}
 use Rattle.steps.specs.Outside.{Seen}
 use Rattle.steps.specs.Results.{and_then, with_fault}
@@ -46,7 +47,7 @@ module _ {A : Type 0} (form : TableForm A) (digests : A → List (List ℕ)) whe
       (named_by digests path)
 
   unfoldable pub reads_names : List ℕ → Seen → Result (List (List ℕ)) PruneFault → Seen → Type 0
-  reads_names path = reads cause_of (is_fit_document path) (names_of_document path)
+  reads_names path = reads cause_of (Only path) (is_fit_document path) (names_of_document path)
 
   -- what it names comes behind what was named before, if it is a regular file
   unfoldable pub adds_where : List ℕ → List (List ℕ) → Bool → Seen → Result (List (List ℕ)) PruneFault → Seen → Type 0

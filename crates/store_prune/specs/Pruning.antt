@@ -14,7 +14,7 @@ use Rattle.image_docs.specs.RunImage.{table_in}
 use Rattle.image_files.specs.Images.{image_at}
 use Rattle.image_files.specs.Paths.{images_folder, runs_folder}
 use Rattle.steps.specs.Causes.{WhereDecided}
-use Rattle.steps.specs.Frames.{standing}
+use Rattle.steps.specs.Keeping.{standing}
 use Rattle.steps.specs.Results.{and_then, with_fault}
 use Rattle.tree_store.specs.Store.{tree_path}
 use Rattle.tree_store.specs.Writing.{trees_of}

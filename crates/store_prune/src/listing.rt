@@ -1,11 +1,12 @@
 // Folders of a store that may be absent.
-ghost use Rattle.std.specs.Prelude.{◌≡◌, IfOk, IfSome, Ok, is_some, true};
+ghost use Rattle.std.specs.Prelude.{◌≡◌, IfErr, IfOk, IfSome, Ok, is_some, true};
 ghost use Rattle.cnb_world.specs.Calls.{AreNames};
 ghost use Rattle.cnb_world.specs.Tree.{is_file, item_at};
 ghost use Rattle.steps.specs.Causes.{IsAnswer};
 ghost use Rattle.steps.specs.Outside.{seen};
-ghost use Rattle.steps.specs.Reading.{ReadFrame};
+ghost use Rattle.steps.specs.Reading.{LeavesUnchanged};
 ghost use Rattle.doc_files.specs.Faults.{read_cause};
+ghost use Rattle.doc_files.specs.Reading.{BlamesOnly};
 ghost use Rattle.store_prune.specs.Listing.{lists, lists_where, looks_for, looks_for_file};
 
 use crate::fault::PruneFault;
@@ -18,7 +19,8 @@ use std::alloc::Global;
 fn file_stands<W: World>(alloc: Global, world: &mut W, path: &Path) -> Result<bool, ReadFault>
     ensures reads { IfSome (W.tree world.old)
         (λ files. IsAnswer read_cause result (Ok (is_file (item_at files path.now)))) }
-    ensures frame { ReadFrame read_cause result (seen W.World world.old) (seen W.World world.new) }
+    ensures blames { IfErr result (BlamesOnly path.now) }
+    ensures leaves { LeavesUnchanged read_cause result (seen W.World world.old) (seen W.World world.new) }
     ensures misused { W.misused world.new ≡ W.misused world.old }
 {
     match world.kind(path) {
@@ -33,7 +35,8 @@ fn file_stands<W: World>(alloc: Global, world: &mut W, path: &Path) -> Result<bo
 fn stands<W: World>(alloc: Global, world: &mut W, path: &Path) -> Result<bool, ReadFault>
     ensures reads { IfSome (W.tree world.old)
         (λ files. IsAnswer read_cause result (Ok (is_some (item_at files path.now)))) }
-    ensures frame { ReadFrame read_cause result (seen W.World world.old) (seen W.World world.new) }
+    ensures blames { IfErr result (BlamesOnly path.now) }
+    ensures leaves { LeavesUnchanged read_cause result (seen W.World world.old) (seen W.World world.new) }
     ensures misused { W.misused world.new ≡ W.misused world.old }
 {
     match world.kind(path) {

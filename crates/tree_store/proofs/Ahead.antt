@@ -13,7 +13,7 @@ use Rattle.cnb_world.specs.declared.world.FileFault.{FileFault}
 use Rattle.cnb_world.specs.declared.world.World as world
 use Rattle.steps.specs.Causes.{CountsFiles}
 use Rattle.steps.specs.Outside.{Seen, seen}
-use Rattle.steps.specs.Reading.{ReadFrame}
+use Rattle.steps.specs.Reading.{LeavesUnchanged}
 use Rattle.tree_canon.specs.declared.fault.Reason.{Reason}
 use Rattle.tree_store.specs.Ahead.{Ahead, BlamesEither, Did, Does, IsAhead, Lays, Leaves, Reading}
 use Rattle.tree_store.specs.Answers.{BlamesAt, cause_of, is_free}
@@ -226,23 +226,23 @@ leaves_local path s s1 a r stays counts blames = record {
 -- a piece of the file was read
 pub leaves_read : {W A : Type 0} (ghosts : world.Ghosts W) (path : List ℕ) (s s1 : KeptBytes)
     (r : Result A StoreFault) (old new : W) → s1.path ≡ s.path
-    → ReadFrame cause_of r (seen ghosts old) (seen ghosts new) → IfErr r (BlamesAt s.path)
+    → LeavesUnchanged cause_of r (seen ghosts old) (seen ghosts new) → IfErr r (BlamesAt s.path)
     → MayMisuse (option_map (λ t. is_file (item_at t s.path)) (ghosts.tree old)) (ghosts.misused old)
     (ghosts.misused new)
     → Leaves path s (seen ghosts old) r s1 (seen ghosts new)
-leaves_read ghosts path s s1 r old new stays frame blames misused = record {
+leaves_read ghosts path s s1 r old new stays left blames misused = record {
   stays = stays;
   around = record {
     files = around.kept_itself path (ghosts.tree old)
-        (ghosts.tree new) frame.files;
-    runs = frame.runs;
+        (ghosts.tree new) left.files;
+    runs = left.runs;
     misused = never
         (option_map (λ t. is_file (item_at t s.path)) (ghosts.tree old)) misused;
   };
   untold = untold_may (ghosts.tree old) (λ t. is_file (item_at t s.path)) (ghosts.misused old)
       (ghosts.misused new) misused;
-  children = frame.children;
-  counts = frame.counts;
+  children = left.children;
+  counts = left.counts;
   blames = blames_file path s.path r blames;
 }
   where

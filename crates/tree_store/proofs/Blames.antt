@@ -11,11 +11,11 @@ use Rattle.cnb_world.specs.Tree.{is_root, is_under, is_within}
 use Rattle.cnb_world.specs.declared.world.FileFault.{FileFault}
 use Rattle.cnb_world.specs.declared.world.FileFault.TheVariants as file_fault
 use Rattle.cnb_world.proofs.Trees.{bytes_eq-same}
-use Rattle.steps.specs.Causes.{CountsFiles, IsReadCause}
+use Rattle.steps.specs.Causes.{CountsFiles, IsReadCause, NamesOne, Only}
 use Rattle.tree_canon.specs.Names.{is_name}
 use Rattle.tree_store.specs.declared.fault.StoreFault.{StoreFault}
 use Rattle.tree_store.specs.declared.fault.StoreFault.TheVariants.{OddFile, Limit, File, NoTree, Damaged, Clash, Memory}
-use Rattle.tree_store.specs.Answers.{Blames, BlamesAt, BlamesWithin, cause_of}
+use Rattle.tree_store.specs.Answers.{AtOrBelow, Blames, BlamesAt, BlamesWithin, cause_of}
 use Rattle.tree_store.proofs.Places.{child_not_root, longer_front, name_form, or_right, part_form, starts_itself}
 
 pub within_itself : (path : List ℕ) → is_within path path ≡ true
@@ -75,6 +75,29 @@ part_within folder name path fault is part h = child_within folder name path fau
 pub name_within : (folder name path : List ℕ) (fault : StoreFault) → path ≡ joined folder name
     → is_name name ≡ true → BlamesWithin path fault → BlamesWithin folder fault
 name_within folder name path fault is name_is h = child_within folder name path fault is (name_form name name_is).0 h
+
+-- what a refusal carries, a failed call names
+pub at_named : {A : Type 0} (path : List ℕ) (result : Result A StoreFault) → IfErr result (BlamesAt path)
+    → IfErr result (λ fault. NamesOne (Only path) (cause_of fault))
+at_named path (Ok value) h = tt
+at_named path (Err (File blamed)) h = h
+at_named path (Err (OddFile odd)) h = tt
+at_named path (Err (Limit kind)) h = tt
+at_named path (Err (NoTree digest)) h = tt
+at_named path (Err (Damaged asked found bad)) h = tt
+at_named path (Err (Clash digest)) h = tt
+at_named path (Err Memory) h = tt
+
+pub within_named : {A : Type 0} (path : List ℕ) (result : Result A StoreFault) → IfErr result (BlamesWithin path)
+    → IfErr result (λ fault. NamesOne (AtOrBelow path) (cause_of fault))
+within_named path (Ok value) h = tt
+within_named path (Err (File blamed)) h = h
+within_named path (Err (OddFile odd)) h = tt
+within_named path (Err (Limit kind)) h = tt
+within_named path (Err (NoTree digest)) h = tt
+within_named path (Err (Damaged asked found bad)) h = tt
+within_named path (Err (Clash digest)) h = tt
+within_named path (Err Memory) h = tt
 
 -- the path of a call that failed is that of the last one
 pub blamed_last : (T : Type 0) (path : List ℕ) (fault : FileFault) (refusal : StoreFault)

@@ -6,16 +6,16 @@ use Rattle.sha2.specs.Sha256.{sha256}
 use Rattle.cnb_world.specs.Calls.{MayMisuse}
 use Rattle.cnb_world.specs.Tree.{Tree, item_at, is_file, is_file_or_absent}
 use Rattle.cnb_world.specs.declared.world.World as world
-use Rattle.steps.specs.Causes.{CountsFiles, IsAnswer, IsReadCause, ended_by}
+use Rattle.steps.specs.Causes.{CountsFiles, IsAnswer, IsReadCause, NamesOne, Only, ended_by}
 use Rattle.steps.specs.Counts.{FileCounts}
 use Rattle.steps.specs.Outside.{Seen, seen}
-use Rattle.steps.specs.Reading.{ReadFrame}
+use Rattle.steps.specs.Reading.{LeavesUnchanged}
 use Rattle.steps.specs.Steps.{reads}
 use Rattle.steps.proofs.EndLaws.{files_rest}
 use Rattle.steps.proofs.StepLemmas.{allowed_by, read_so}
 use Rattle.tree_canon.specs.Spelling.{spelling_of}
 use Rattle.tree_canon.specs.declared.node.Node.{Node}
-use Rattle.tree_store.specs.Answers.{BlamesAt, BlamesWithin, cause_of, is_free}
+use Rattle.tree_store.specs.Answers.{AtOrBelow, BlamesAt, BlamesWithin, cause_of, is_free}
 use Rattle.tree_store.specs.Around.{LeavesAround}
 use Rattle.tree_store.specs.Overlay.{tree_laid}
 use Rattle.tree_store.specs.Partly.{LaidPartly, items_placed}
@@ -25,38 +25,42 @@ use Rattle.tree_store.specs.Steps.{reads_tree}
 use Rattle.tree_store.specs.Store.{Gets, LeavesStore, Puts, tree_path, tree_put}
 use Rattle.tree_store.specs.declared.fault.StoreFault.{StoreFault}
 use Rattle.tree_store.proofs.Around.{itself}
+use Rattle.tree_store.proofs.Blames.{at_named, within_named}
 use Rattle.tree_store.proofs.CountLaws.{counted}
 use Rattle.tree_store.proofs.Partly.{partly_itself}
 use Rattle.tree_store.specs.declared.fault.StoreFault.TheVariants.{OddFile, Limit, File, NoTree, Damaged, Clash, Memory}
 
 -- files that were read by calls of the right kind
-read_right : {W T : Type 0} (ghosts : world.Ghosts W) (want : Tree → Result T StoreFault)
+read_right : {W T : Type 0} (ghosts : world.Ghosts W) (Among : List ℕ → Type 0) (want : Tree → Result T StoreFault)
     (result : Result T StoreFault) (old new : W)
     → IfSome (ghosts.tree old) (λ files. IsAnswer cause_of result (want files))
-    → ReadFrame cause_of result (seen ghosts old) (seen ghosts new) → ghosts.misused new ≡ ghosts.misused old
-    → reads cause_of (λ files. true) want (seen ghosts old) result (seen ghosts new)
-read_right ghosts want result old new answer frame misused =
-    read_so ghosts cause_of (λ files. true) want result old new answer frame.cause frame.files frame.runs
+    → LeavesUnchanged cause_of result (seen ghosts old) (seen ghosts new)
+    → IfErr result (λ fault. NamesOne Among (cause_of fault)) → ghosts.misused new ≡ ghosts.misused old
+    → reads cause_of Among (λ files. true) want (seen ghosts old) result (seen ghosts new)
+read_right ghosts Among want result old new answer left named misused =
+    read_so ghosts cause_of Among (λ files. true) want result old new answer left.cause named left.files left.runs
     (allowed_by (λ files. true) (ghosts.tree old) _ _ misused)
-    (counted result (seen ghosts old) (seen ghosts new) frame.counts frame.children)
+    (counted result (seen ghosts old) (seen ghosts new) left.counts left.children)
 
 pub tree_read : {W : Type 0} (ghosts : world.Ghosts W) (path : List ℕ) (result : Result Node StoreFault) (old new : W)
     → IfSome (ghosts.tree old) (λ files. IsAnswer cause_of result (tree_in path files))
-    → ReadFrame cause_of result (seen ghosts old) (seen ghosts new) → ghosts.misused new ≡ ghosts.misused old
-    → reads_tree path (seen ghosts old) result (seen ghosts new)
+    → LeavesUnchanged cause_of result (seen ghosts old) (seen ghosts new) → IfErr result (BlamesWithin path)
+    → ghosts.misused new ≡ ghosts.misused old → reads_tree path (seen ghosts old) result (seen ghosts new)
 unfolding reads_tree
-tree_read ghosts path result old new answer frame misused = read_right ghosts
-    (tree_in path) result old new answer frame misused
+tree_read ghosts path result old new answer left blames misused = read_right ghosts (AtOrBelow path)
+    (tree_in path) result old new answer left (within_named path result blames) misused
 
 pub looked : {W : Type 0} (ghosts : world.Ghosts W) (store digest : List ℕ) (result : Result Bool StoreFault)
     (old new : W)
     → IfSome (ghosts.tree old) (λ files. IsAnswer cause_of result
     (Ok (is_file (item_at files (tree_path store digest)))))
-    → ReadFrame cause_of result (seen ghosts old) (seen ghosts new) → ghosts.misused new ≡ ghosts.misused old
+    → LeavesUnchanged cause_of result (seen ghosts old) (seen ghosts new)
+    → IfErr result (BlamesAt (tree_path store digest)) → ghosts.misused new ≡ ghosts.misused old
     → looks_for_tree store digest (seen ghosts old) result (seen ghosts new)
 unfolding looks_for_tree
-looked ghosts store digest result old new answer frame misused = read_right ghosts
-    (λ files. Ok (is_file (item_at files (tree_path store digest)))) result old new answer frame misused
+looked ghosts store digest result old new answer left blames misused = read_right ghosts
+    (Only (tree_path store digest)) (λ files. Ok (is_file (item_at files (tree_path store digest)))) result old new
+    answer left (at_named (tree_path store digest) result blames) misused
 
 -- the file of a tree that was read
 pub got : {W : Type 0} (ghosts : world.Ghosts W) (store digest : List ℕ) (result : Result Node StoreFault) (old new : W)
@@ -82,14 +86,14 @@ got ghosts store digest result old new answer cause blames files runs allows cou
 pub got_so : {W : Type 0} (ghosts : world.Ghosts W) (store digest : List ℕ) (result : Result Node StoreFault)
     (old new : W)
     → IfSome (ghosts.tree old) (λ files. Gets digest (item_at files (tree_path store digest)) result)
-    → IfErr result (BlamesAt (tree_path store digest)) → ReadFrame cause_of result (seen ghosts old)
+    → IfErr result (BlamesAt (tree_path store digest)) → LeavesUnchanged cause_of result (seen ghosts old)
     (seen ghosts new)
     → MayMisuse (option_map (λ files. is_file_or_absent (item_at files (tree_path store digest)))
     (ghosts.tree old)) (ghosts.misused old) (ghosts.misused new)
     → gets_tree store digest (seen ghosts old) result (seen ghosts new)
-got_so ghosts store digest result old new answer blames frame allows = got ghosts store digest result old new
-    answer frame.cause blames frame.files frame.runs allows
-    (counted result (seen ghosts old) (seen ghosts new) frame.counts frame.children)
+got_so ghosts store digest result old new answer blames left allows = got ghosts store digest result old new
+    answer left.cause blames left.files left.runs allows
+    (counted result (seen ghosts old) (seen ghosts new) left.counts left.children)
 
 pub put_so : {W : Type 0} (ghosts : world.Ghosts W) (store : List ℕ) (tree : Node)
     (result : Result (List ℕ) StoreFault) (old new : W)

@@ -12,7 +12,7 @@ use Rattle.cnb_world.specs.declared.world.Item.{Item}
 use Rattle.cnb_world.specs.declared.world.Item.TheVariants as item
 use Rattle.cnb_world.specs.declared.world.World as world
 use Rattle.steps.specs.Outside.{seen}
-use Rattle.steps.specs.Reading.{ReadFrame}
+use Rattle.steps.specs.Reading.{LeavesUnchanged}
 use Rattle.steps.specs.Steps.{yields}
 use Rattle.steps.proofs.StepLemmas.{ended, went, yielded}
 use Rattle.tree_canon.specs.declared.fault.DecodeFault.{DecodeFault}
@@ -148,19 +148,19 @@ got_some (Some files) path digest h = (h.0, h.1)
 pub checked_so : {W : Type 0} (ghosts : world.Ghosts W) (store digest : List ℕ)
     (result : Result (Unit {0}) StoreFault) (old new : W)
     → IfSome (ghosts.tree old) (λ files. Checks digest (item_at files (tree_path store digest)) result)
-    → IfErr result (BlamesAt (tree_path store digest)) → ReadFrame cause_of result (seen ghosts old)
+    → IfErr result (BlamesAt (tree_path store digest)) → LeavesUnchanged cause_of result (seen ghosts old)
     (seen ghosts new)
     → MayMisuse (option_map (λ files. is_file_or_absent (item_at files (tree_path store digest)))
     (ghosts.tree old)) (ghosts.misused old) (ghosts.misused new)
     → checks_tree store digest (seen ghosts old) result (seen ghosts new)
 unfolding checks_tree
-checked_so ghosts store digest (Ok done) old new answer blames frame allows =
+checked_so ghosts store digest (Ok done) old new answer blames left allows =
     let root = got_some (ghosts.tree old) (tree_path store digest) digest answer in
     went (gets_tree store digest) (λ tree. yields tt) (seen ghosts old) (seen ghosts new) (seen ghosts new) root.0
-    (Ok done) (got ghosts store digest (Ok root.0) old new root.1 tt tt frame.files frame.runs allows
-    (counted (Ok root.0) (seen ghosts old) (seen ghosts new) frame.counts frame.children))
+    (Ok done) (got ghosts store digest (Ok root.0) old new root.1 tt tt left.files left.runs allows
+    (counted (Ok root.0) (seen ghosts old) (seen ghosts new) left.counts left.children))
     (yielded StoreFault tt (seen ghosts new))
-checked_so ghosts store digest (Err fault) old new answer blames frame allows =
+checked_so ghosts store digest (Err fault) old new answer blames left allows =
     ended (gets_tree store digest) (λ tree. yields tt) (seen ghosts old) (seen ghosts new) fault
-    (got ghosts store digest (Err fault) old new answer frame.cause blames frame.files frame.runs allows
-    (counted {A = Node} (Err fault) (seen ghosts old) (seen ghosts new) frame.counts frame.children))
+    (got ghosts store digest (Err fault) old new answer left.cause blames left.files left.runs allows
+    (counted {A = Node} (Err fault) (seen ghosts old) (seen ghosts new) left.counts left.children))

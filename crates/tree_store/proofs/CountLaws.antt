@@ -31,11 +31,11 @@ counted (Err fault) old new files children = record
 
 pub read_tree_counts : (path : List ℕ) → Obeys FileCounts cause_of (reads_tree path)
 unfolding reads_tree
-read_tree_counts path = reads_counts cause_of _ _
+read_tree_counts path = reads_counts cause_of _ _ _
 
 pub look_for_tree_counts : (store digest : List ℕ) → Obeys FileCounts cause_of (looks_for_tree store digest)
 unfolding looks_for_tree
-look_for_tree_counts store digest = reads_counts cause_of _ _
+look_for_tree_counts store digest = reads_counts cause_of _ _ _
 
 pub get_tree_counts : (store digest : List ℕ) → Obeys FileCounts cause_of (gets_tree store digest)
 unfolding gets_tree

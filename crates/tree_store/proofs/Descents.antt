@@ -19,7 +19,7 @@ use Rattle.cnb_world.specs.declared.limits.LimitKind.TheVariants.{Depth, Tree as
 use Rattle.steps.specs.Causes.{Cause, FileFailed, ChildFailed, OutOfMemory, Decided, CountsFiles, IsAnswer}
 use Rattle.steps.specs.Causes.{WhereDecided}
 use Rattle.steps.specs.Outside.{Seen}
-use Rattle.steps.specs.Reading.{ReadFrame}
+use Rattle.steps.specs.Reading.{LeavesUnchanged}
 use Rattle.tree_canon.specs.CutTree.{last_name}
 use Rattle.tree_canon.specs.Fits.{entries_fit}
 use Rattle.tree_canon.specs.Names.{is_name, is_target}
@@ -48,7 +48,7 @@ use Rattle.tree_store.proofs.Fitting.{pushed_behind, pushed_bytes, pushed_fits, 
 use Rattle.tree_store.proofs.Nodes.{deep_file_told, deep_folder_told, folder_is, folder_reads, folder_refused, link_is}
 use Rattle.tree_store.proofs.Nodes.{link_node, node_above}
 use Rattle.tree_store.proofs.Puts.{unless_free}
-use Rattle.tree_store.proofs.Written.{frame_read, leaves_local}
+use Rattle.tree_store.proofs.Written.{others_read, leaves_local}
 use Rattle.tree_store.proofs.Roots.{below, root_read, root_refused}
 
 pub where_so : (cause : Cause) (P : Type 0) → P → WhereDecided cause P
@@ -65,11 +65,11 @@ may_rise (Some true) x y h = omega (arith, h)
 may_rise (Some false) x y h = h
 
 pub leaves_read : {A : Type 0} {path : List ℕ} (o : Option Bool) (s : Writer) (r : Result A StoreFault)
-    (a b : Seen) → ReadFrame cause_of r a b → IfErr r (BlamesAt path) → MayMisuse o a.misused b.misused
+    (a b : Seen) → LeavesUnchanged cause_of r a b → IfErr r (BlamesAt path) → MayMisuse o a.misused b.misused
     → LeavesNew path s a r s b
-leaves_read {path = path} o s r a b frame blames may = record {
+leaves_read {path = path} o s r a b left blames may = record {
   stays = refl;
-  frame = frame_read s.path frame (may_rise o a.misused b.misused may);
+  others = others_read s.path left (may_rise o a.misused b.misused may);
   blames = blames_at path
       s.path r blames;
 }

@@ -22,7 +22,8 @@ use Rattle.tree_store.specs.Reading.{tree_in}
 use Rattle.tree_store.specs.Steps.{BlamesFolder, LeavesFolder, PutsRead, can_name, can_put_folder, folder_put}
 use Rattle.tree_store.specs.Steps.{puts_folder, reads_tree}
 use Rattle.tree_store.specs.Store.{Keeps, done_of, tree_path}
-use Rattle.tree_store.specs.Writing.{IsCleared, IsClearedOf, KeptFile, LeavesNew, NewFrame, PutFrame, PutsBytes}
+use Rattle.tree_store.specs.Writing.{IsCleared, IsClearedOf, KeptFile, LeavesNew, LeavesButFile, LeavesButPut}
+use Rattle.tree_store.specs.Writing.{PutsBytes}
 use Rattle.tree_store.specs.Writing.{Refuses, bytes_put, can_begin, new_path, trees_of}
 use Rattle.tree_store.specs.declared.fault.StoreFault.{StoreFault}
 use Rattle.tree_store.specs.declared.fault.StoreFault.TheVariants.{OddFile, Limit, File, NoTree, Damaged, Clash, Memory}
@@ -31,8 +32,8 @@ use Rattle.tree_store.proofs.CountLaws.{counted}
 use Rattle.tree_store.proofs.Around.{kept_itself}
 use Rattle.tree_store.proofs.NewPlace.{place_itself}
 use Rattle.tree_store.proofs.Puts.{free_keeps, unless_free}
-use Rattle.tree_store.proofs.Written.{frame_stop, frame_then}
-use Rattle.tree_store.proofs.Settled.{decided_is, new_within, where_so, put_frame_then, same_right}
+use Rattle.tree_store.proofs.Written.{others_stop, others_then}
+use Rattle.tree_store.proofs.Settled.{decided_is, new_within, where_so, put_others_then, same_right}
 
 -- ---- refusals
 
@@ -111,19 +112,19 @@ none_begun store path before x y same = same_right before (can_put_folder store 
 
 -- the file could not be begun
 pub not_begun : {A : Type 0} (store path : List ℕ) {a b : Seen} {fault : StoreFault}
-    → NewFrame {A = A} (new_path store) a (Err fault) b → IsTrue (is_free fault)
+    → LeavesButFile {A = A} (new_path store) a (Err fault) b → IsTrue (is_free fault)
     → BlamesWithin (trees_of store) fault → MayMisuse (option_map (can_begin store) a.files) a.misused b.misused
     → puts_folder store path a (Err fault) b
 unfolding puts_folder
-not_begun {A} store path {a} {b} {fault} frame free blames may = record {
+not_begun {A} store path {a} {b} {fault} left free blames may = record {
   answer = free_puts a.files store path fault free;
-  leaves = (frame.around.files, unless_free fault (IsCleared store b.files ⊎ (b.files ≡ a.files)) free);
-  place = frame.place;
+  leaves = (left.around.files, unless_free fault (IsCleared store b.files ⊎ (b.files ≡ a.files)) free);
+  place = left.place;
   blames = blames_trees store path fault blames;
-  cause = frame.cause;
-  runs = frame.around.runs;
+  cause = left.cause;
+  runs = left.around.runs;
   allows = rest_allowed store path a.files a.misused b.misused b.misused may refl;
-  counts = counted {A = A} (Err fault) a b frame.counts frame.children;
+  counts = counted {A = A} (Err fault) a b left.counts left.children;
 }
 
 -- what was written is removed
@@ -138,12 +139,12 @@ blames_answered trees fault answered before (inl h) = h
 blames_answered trees fault answered before (inr same) = subst (BlamesWithin trees) (sym same) before
 
 pub not_added : {A : Type 0} (store path : List ℕ) {a b c : Seen} {fault answered : StoreFault}
-    → NewFrame {A = A} (new_path store) a (Err fault) b → IsTrue (is_free fault)
+    → LeavesButFile {A = A} (new_path store) a (Err fault) b → IsTrue (is_free fault)
     → BlamesWithin (trees_of store) fault → MayMisuse (option_map (can_begin store) a.files) a.misused b.misused
     → IsClearedOf fault store b answered c → BlamesWithin (trees_of store) answered ⊎ (answered ≡ fault)
     → puts_folder store path a (Err answered) c
-not_added store path {a} {b} {c} {fault} {answered} frame free blames may clear blamed =
-    not_begun {A = Unit {0}} store path (clear.frame a (frame_stop frame))
+not_added store path {a} {b} {c} {fault} {answered} left free blames may clear blamed =
+    not_begun {A = Unit {0}} store path (clear.others a (others_stop left))
     (free_answered fault answered free clear.same)
     (blames_answered (trees_of store) fault answered blames blamed)
     (subst (λ n. MayMisuse (option_map (can_begin store) a.files) a.misused n) (sym clear.right) may)
@@ -164,7 +165,7 @@ no_memory store path a = record {
 
 -- what was read refuses it
 pub walk_refused : {store path : List ℕ} {writer after : Writer} {a b c d : Seen} {fault answered : StoreFault}
-    → writer.path ≡ new_path store → NewFrame {A = Unit {0}} (new_path store) a (Ok tt) b
+    → writer.path ≡ new_path store → LeavesButFile {A = Unit {0}} (new_path store) a (Ok tt) b
     → MayMisuse (option_map (can_begin store) a.files) a.misused b.misused
     → LeavesNew {A = ℕ} path writer b (Err fault) after c → Refuses a.files (tree_in path) fault
     → c.misused ≡ b.misused → IsClearedOf fault store c answered d
@@ -187,11 +188,11 @@ walk_refused {store} {path} {writer} {after} {a} {b} {c} {d} {fault} {answered} 
       counts = counted {A = Unit {0}} (Err answered) a d all.counts all.children;
     }
   where
-    walked : NewFrame {A = Unit {0}} (new_path store) b (Err fault) c
-    walked = frame_stop (subst (λ f. NewFrame {A = ℕ} f b (Err fault) c) at leaves.frame)
+    walked : LeavesButFile {A = Unit {0}} (new_path store) b (Err fault) c
+    walked = others_stop (subst (λ f. LeavesButFile {A = ℕ} f b (Err fault) c) at leaves.others)
 
-    all : NewFrame {A = Unit {0}} (new_path store) a (Err answered) d
-    all = clear.frame a (frame_then begun walked)
+    all : LeavesButFile {A = Unit {0}} (new_path store) a (Err answered) d
+    all = clear.others a (others_then begun walked)
 
     answer : IsTrue (is_free answered) ⊎ (answered ≡ fault)
         → IfSome a.files (λ files. PutsRead store (tree_in path files) files (Err answered))
@@ -227,21 +228,21 @@ named_answer store path bytes tree (Some files) result is read keeps = subst (λ
 
 pub tree_named : (path : List ℕ) {store bytes : List ℕ} {a b c : Seen} {result : Result (List ℕ) StoreFault}
     (tree : Node) → bytes ≡ spelling_of tree → IfSome a.files (λ files. tree_in path files ≡ Ok tree)
-    → MayMisuse (option_map (can_begin store) a.files) a.misused b.misused → PutFrame store a result c
+    → MayMisuse (option_map (can_begin store) a.files) a.misused b.misused → LeavesButPut store a result c
     → PutsBytes store bytes a.files b result c
     → IfErr result (BlamesWithin (trees_of store)) → puts_folder store path a result c
 unfolding puts_folder
-tree_named path {store} {bytes} {a} {b} {c} {result} tree is read may frame puts blames = record {
+tree_named path {store} {bytes} {a} {b} {c} {result} tree is read may left puts blames = record {
   answer = named_answer store path bytes tree a.files result is read puts.named.keeps;
-  leaves = leaves result frame.kept puts.digest puts.named.files puts.named.cleared;
-  place = frame.place;
+  leaves = leaves result left.kept puts.digest puts.named.files puts.named.cleared;
+  place = left.place;
   blames = blamed result blames;
-  cause = frame.cause;
-  runs = frame.runs;
+  cause = left.cause;
+  runs = left.runs;
   allows = both (can_begin store) (λ files. can_name store (tree_in path files) files) a.files a.files a.misused
       b.misused c.misused refl may (named_right store path bytes tree a.files b.misused c.misused is read
       puts.named.right);
-  counts = counted result a c frame.counts frame.children;
+  counts = counted result a c left.counts left.children;
 }
   where
     leaves : (r : Result (List ℕ) StoreFault) → OnErr r (KeptAround (new_path store) a.files c.files)
@@ -292,12 +293,12 @@ read_refused store path a b fault read blames = record {
 
 -- ---- what the whole walk leaves
 
-pub put_frames : {A : Type 0} {store path : List ℕ} {w : Writer} {writer after : Writer} {v : A} {a b c d : Seen}
+pub put_all_others : {A : Type 0} {store path : List ℕ} {w : Writer} {writer after : Writer} {v : A} {a b c d : Seen}
     {r : Result (List ℕ) StoreFault} → writer.path ≡ new_path store
-    → NewFrame {A = Writer} (new_path store) a (Ok w) b → LeavesNew {A = A} path writer b (Ok v) after c
-    → PutFrame store c r d → PutFrame store a r d
-put_frames {A} {store} {w = w} {writer} {v = v} {a = a} {b} {c} {d} at begun leaves put = put_frame_then
-    (frame_then begun (subst (λ f. NewFrame {A = A} f b (Ok v) c) at leaves.frame)) put
+    → LeavesButFile {A = Writer} (new_path store) a (Ok w) b → LeavesNew {A = A} path writer b (Ok v) after c
+    → LeavesButPut store c r d → LeavesButPut store a r d
+put_all_others {A} {store} {w = w} {writer} {v = v} {a = a} {b} {c} {d} at begun leaves put = put_others_then
+    (others_then begun (subst (λ f. LeavesButFile {A = A} f b (Ok v) c) at leaves.others)) put
 
 -- ---- behind a step that changed nothing
 

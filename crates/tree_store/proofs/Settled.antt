@@ -33,7 +33,8 @@ use Rattle.tree_store.specs.declared.naming.Compared.{Compared}
 use Rattle.tree_store.specs.declared.naming.Compared.TheVariants.{Other, Last, Whole}
 use Rattle.tree_store.specs.Store.{Keeps, tree_path}
 use Rattle.tree_store.specs.Writing.{AreApart, ClashesUnless, HasWritten, IsCleared, IsClearedOf, KeptFile, NamesBytes}
-use Rattle.tree_store.specs.Writing.{NewFrame, PutFrame, PutsBytes, begun_with, bytes_put, named_or_left, new_path}
+use Rattle.tree_store.specs.Writing.{LeavesButFile, LeavesButPut, PutsBytes, begun_with, bytes_put, named_or_left}
+use Rattle.tree_store.specs.Writing.{new_path}
 use Rattle.tree_store.specs.Writing.{trees_of}
 use Rattle.tree_store.specs.declared.writing.Writer.{Writer}
 use Rattle.tree_store.specs.declared.fault.StoreFault.{StoreFault}
@@ -283,9 +284,9 @@ where_so Decided P h = h
 
 -- ---- what putting leaves
 
-pub put_frame : {A : Type 0} {store : List ℕ} {a b : Seen} {r : Result A StoreFault}
-    → NewFrame (new_path store) a r b → PutFrame store a r b
-put_frame {A} {store} {a} {b} {r} h = record {
+pub put_others : {A : Type 0} {store : List ℕ} {a b : Seen} {r : Result A StoreFault}
+    → LeavesButFile (new_path store) a r b → LeavesButPut store a r b
+put_others {A} {store} {a} {b} {r} h = record {
   kept = by r h.around.files;
   place = stays r h.place;
   runs =
@@ -306,9 +307,9 @@ put_frame {A} {store} {a} {b} {r} h = record {
     stays (Ok v) k = tt
     stays (Err fault) k = k
 
-pub put_frame_then : {A B : Type 0} {store : List ℕ} {a b c : Seen} {v : A} {r : Result B StoreFault}
-    → NewFrame (new_path store) a (Ok v) b → PutFrame store b r c → PutFrame store a r c
-put_frame_then {B = B} {store} {a} {b} {c} {v} {r} first next = record {
+pub put_others_then : {A B : Type 0} {store : List ℕ} {a b c : Seen} {v : A} {r : Result B StoreFault}
+    → LeavesButFile (new_path store) a (Ok v) b → LeavesButPut store b r c → LeavesButPut store a r c
+put_others_then {B = B} {store} {a} {b} {c} {v} {r} first next = record {
   kept = by r next.kept;
   place = stays r next.place;
   runs = next.runs ∙ first.around.runs;
@@ -331,9 +332,9 @@ put_frame_then {B = B} {store} {a} {b} {c} {v} {r} first next = record {
     stays (Err fault) k = place_on (new_path store) a.files b.files c.files first.place k
 
 -- another value
-pub put_frame_value : {A B : Type 0} {store : List ℕ} {a b : Seen} {v : A} (w : B) → PutFrame store a (Ok v) b
-    → PutFrame store a (Ok w) b
-put_frame_value w h = record {
+pub put_others_value : {A B : Type 0} {store : List ℕ} {a b : Seen} {v : A} (w : B) → LeavesButPut store a (Ok v) b
+    → LeavesButPut store a (Ok w) b
+put_others_value w h = record {
   kept = tt;
   place = tt;
   runs = h.runs;
@@ -343,9 +344,9 @@ put_frame_value w h = record {
   cause = tt;
 }
 
-pub put_frame_stop : {A B : Type 0} {store : List ℕ} {a b : Seen} {fault : StoreFault}
-    → PutFrame {A = A} store a (Err fault) b → PutFrame {A = B} store a (Err fault) b
-put_frame_stop h = record {
+pub put_others_stop : {A B : Type 0} {store : List ℕ} {a b : Seen} {fault : StoreFault}
+    → LeavesButPut {A = A} store a (Err fault) b → LeavesButPut {A = B} store a (Err fault) b
+put_others_stop h = record {
   kept = h.kept;
   place = h.place;
   runs = h.runs;
@@ -356,7 +357,7 @@ put_frame_stop h = record {
   cause = h.cause;
 }
 
-pub rename_frame : {W : Type 0} (ghosts : world.Ghosts W) (store path : List ℕ) (allows : Option Bool)
+pub rename_others : {W : Type 0} (ghosts : world.Ghosts W) (store path : List ℕ) (allows : Option Bool)
     (answer : Result (Unit {0}) FileFault) (result : Result (Unit {0}) StoreFault) (old new : W)
     → OnErr answer (ghosts.tree new ≡ ghosts.tree old) → OnErr result (IsTrue (is_err answer))
     → ghosts.runs new ≡ ghosts.runs old → ghosts.child_faults new ≡ ghosts.child_faults old
@@ -366,8 +367,8 @@ pub rename_frame : {W : Type 0} (ghosts : world.Ghosts W) (store path : List ℕ
     → ((before now : Option (List ℕ)) → LastFailed path answer before now
     → IfErr result (λ fault. IsReadCause now (cause_of fault)))
     → CountsMisuse allows answer (ghosts.misused old) (ghosts.misused new)
-    → PutFrame store (seen ghosts old) result (seen ghosts new)
-rename_frame ghosts store path allows answer result old new same err runs children counted failed counts cause
+    → LeavesButPut store (seen ghosts old) result (seen ghosts new)
+rename_others ghosts store path allows answer result old new same err runs children counted failed counts cause
     misused = record {
       kept = by answer result same err;
       place = stays answer result same err;
@@ -566,26 +567,26 @@ last_ok path answer (Err fault) before now ok last = tt
 
 -- what was written is removed
 removed_around : (store : List ℕ) {file : List ℕ} {a b : Seen} {r : Result (Unit {0}) StoreFault} (first : Seen)
-    → file ≡ new_path store → LeavesAround (new_path store) first a → NewFrame file a r b
+    → file ≡ new_path store → LeavesAround (new_path store) first a → LeavesButFile file a r b
     → LeavesAround (new_path store) first b
-removed_around store {file} {a} {b} first new before frame = onward (new_path store) first a b before
-    (subst (λ p. LeavesAround p a b) new frame.around)
+removed_around store {file} {a} {b} first new before left = onward (new_path store) first a b before
+    (subst (λ p. LeavesAround p a b) new left.around)
 
 removed_place : (store : List ℕ) {file : List ℕ} {a b : Seen} {r : Result (Unit {0}) StoreFault} (first : Seen)
-    → file ≡ new_path store → KeptFile (new_path store) first.files a.files → NewFrame file a r b
+    → file ≡ new_path store → KeptFile (new_path store) first.files a.files → LeavesButFile file a r b
     → KeptFile (new_path store) first.files b.files
-removed_place store {file} {a} {b} first new before frame = place_on
-    (new_path store) first.files a.files b.files before (subst (λ p. KeptFile p a.files b.files) new frame.place)
+removed_place store {file} {a} {b} first new before left = place_on
+    (new_path store) first.files a.files b.files before (subst (λ p. KeptFile p a.files b.files) new left.place)
 
 pub cleared_gone : {store file : List ℕ} {a b : Seen} (fault : StoreFault) → file ≡ new_path store
-    → NewFrame {A = Unit {0}} file a (Ok tt) b → b.failed_at ≡ a.failed_at
+    → LeavesButFile {A = Unit {0}} file a (Ok tt) b → b.failed_at ≡ a.failed_at
     → b.files ≡ option_map (without file) a.files → b.misused ≡ a.misused → IsClearedOf fault store a fault b
-cleared_gone {store} {file} {a} {b} fault new frame last removed same = record {
-  frame = λ first f. record {
-    around = removed_around store first new f.around frame;
-    place = removed_place store first new f.place frame;
-    children = frame.children ∙ f.children;
-    counts = let stays : b.file_faults ≡ a.file_faults = frame.counts
+cleared_gone {store} {file} {a} {b} fault new left last removed same = record {
+  others = λ first f. record {
+    around = removed_around store first new f.around left;
+    place = removed_place store first new f.place left;
+    children = left.children ∙ f.children;
+    counts = let stays : b.file_faults ≡ a.file_faults = left.counts
         in subst (λ n. CountsFiles {A = Unit {0}} cause_of (Err fault) first.file_faults n) (sym stays) f.counts;
     cause = subst (λ at. IsReadCause at (cause_of fault)) (sym last) f.cause;
   };
@@ -621,15 +622,15 @@ counts_twice fault (File path) x y z free one two = record {
 }
 
 pub cleared_failed : {store file : List ℕ} {a b : Seen} (fault failed : StoreFault) → IsTrue (is_free failed)
-    → file ≡ new_path store → NewFrame {A = Unit {0}} file a (Err failed) b → b.misused ≡ a.misused
+    → file ≡ new_path store → LeavesButFile {A = Unit {0}} file a (Err failed) b → b.misused ≡ a.misused
     → IsClearedOf fault store a failed b
-cleared_failed {store} {file} {a} {b} fault failed free new frame same = record {
-  frame = λ first f. record {
-    around = removed_around store first new f.around frame;
-    place = removed_place store first new f.place frame;
-    children = frame.children ∙ f.children;
-    counts = counts_twice fault failed first.file_faults a.file_faults b.file_faults free f.counts frame.counts;
-    cause = frame.cause;
+cleared_failed {store} {file} {a} {b} fault failed free new left same = record {
+  others = λ first f. record {
+    around = removed_around store first new f.around left;
+    place = removed_place store first new f.place left;
+    children = left.children ∙ f.children;
+    counts = counts_twice fault failed first.file_faults a.file_faults b.file_faults free f.counts left.counts;
+    cause = left.cause;
   };
   right = same;
   cleared = unless_free failed (IsCleared store b.files) free;
@@ -638,14 +639,14 @@ cleared_failed {store} {file} {a} {b} fault failed free new frame same = record 
 
 -- memory ran out before, whatever the removal answers
 pub cleared_memory : {store file : List ℕ} {a b : Seen} (failed : StoreFault) → file ≡ new_path store
-    → NewFrame {A = Unit {0}} file a (Err failed) b → b.misused ≡ a.misused → IsClearedOf Memory store a Memory b
-cleared_memory {store} {file} {a} {b} failed new frame same = record {
-  frame = λ first f. record {
-    around = removed_around store first new f.around frame;
-    place = removed_place store first new f.place frame;
-    children = frame.children ∙ f.children;
+    → LeavesButFile {A = Unit {0}} file a (Err failed) b → b.misused ≡ a.misused → IsClearedOf Memory store a Memory b
+cleared_memory {store} {file} {a} {b} failed new left same = record {
+  others = λ first f. record {
+    around = removed_around store first new f.around left;
+    place = removed_place store first new f.place left;
+    children = left.children ∙ f.children;
     counts = let before : first.file_faults ≤ a.file_faults = f.counts
-        in let rises : a.file_faults ≤ b.file_faults = rose failed a.file_faults b.file_faults frame.counts
+        in let rises : a.file_faults ≤ b.file_faults = rose failed a.file_faults b.file_faults left.counts
         in omega (arith, before, rises);
     cause = tt;
   };
@@ -657,27 +658,27 @@ cleared_memory {store} {file} {a} {b} failed new frame same = record {
 -- the removal's refusal, but where memory ran out before
 pub cleared_later : {store file : List ℕ} {a b : Seen} (fault failed answered : StoreFault)
     → IsLater fault failed answered → IsTrue (is_free failed) → file ≡ new_path store
-    → NewFrame {A = Unit {0}} file a (Err failed) b → b.misused ≡ a.misused → IsClearedOf fault store a answered b
-cleared_later {store} {a = a} {b} Memory failed answered is free new frame same = subst
-    (λ (f : StoreFault). IsClearedOf Memory store a f b) (sym is) (cleared_memory failed new frame same)
-cleared_later {store} {a = a} {b} (File path) failed answered is free new frame same = subst
+    → LeavesButFile {A = Unit {0}} file a (Err failed) b → b.misused ≡ a.misused → IsClearedOf fault store a answered b
+cleared_later {store} {a = a} {b} Memory failed answered is free new left same = subst
+    (λ (f : StoreFault). IsClearedOf Memory store a f b) (sym is) (cleared_memory failed new left same)
+cleared_later {store} {a = a} {b} (File path) failed answered is free new left same = subst
     (λ (f : StoreFault). IsClearedOf (File path) store a f b) (sym is)
-    (cleared_failed (File path) failed free new frame same)
-cleared_later {store} {a = a} {b} (OddFile path) failed answered is free new frame same = subst
+    (cleared_failed (File path) failed free new left same)
+cleared_later {store} {a = a} {b} (OddFile path) failed answered is free new left same = subst
     (λ (f : StoreFault). IsClearedOf (OddFile path) store a f b) (sym is)
-    (cleared_failed (OddFile path) failed free new frame same)
-cleared_later {store} {a = a} {b} (Limit kind) failed answered is free new frame same = subst
+    (cleared_failed (OddFile path) failed free new left same)
+cleared_later {store} {a = a} {b} (Limit kind) failed answered is free new left same = subst
     (λ (f : StoreFault). IsClearedOf (Limit kind) store a f b) (sym is)
-    (cleared_failed (Limit kind) failed free new frame same)
-cleared_later {store} {a = a} {b} (NoTree digest) failed answered is free new frame same = subst
+    (cleared_failed (Limit kind) failed free new left same)
+cleared_later {store} {a = a} {b} (NoTree digest) failed answered is free new left same = subst
     (λ (f : StoreFault). IsClearedOf (NoTree digest) store a f b) (sym is)
-    (cleared_failed (NoTree digest) failed free new frame same)
-cleared_later {store} {a = a} {b} (Damaged asked found bad) failed answered is free new frame same = subst
+    (cleared_failed (NoTree digest) failed free new left same)
+cleared_later {store} {a = a} {b} (Damaged asked found bad) failed answered is free new left same = subst
     (λ (f : StoreFault). IsClearedOf (Damaged asked found bad) store a f b) (sym is)
-    (cleared_failed (Damaged asked found bad) failed free new frame same)
-cleared_later {store} {a = a} {b} (Clash digest) failed answered is free new frame same = subst
+    (cleared_failed (Damaged asked found bad) failed free new left same)
+cleared_later {store} {a = a} {b} (Clash digest) failed answered is free new left same = subst
     (λ (f : StoreFault). IsClearedOf (Clash digest) store a f b) (sym is)
-    (cleared_failed (Clash digest) failed free new frame same)
+    (cleared_failed (Clash digest) failed free new left same)
 
 pub blames_later : (trees : List ℕ) (fault failed answered : StoreFault) → IsLater fault failed answered
     → BlamesWithin trees failed → BlamesWithin trees answered ⊎ (answered ≡ fault)
@@ -829,9 +830,9 @@ apart_name store = siblings_apart (trees_of store) (codes "new") (46 ∷ 46 ∷ 
     (λ e. let same : length (codes "new") ≡ 4 = ap length e in absurd (omega arith))
 
 -- the bytes that were written, and refused, are gone
-pub frame_of_put : {A : Type 0} {store : List ℕ} {a b : Seen} {fault : StoreFault}
-    → PutFrame {A = A} store a (Err fault) b → NewFrame {A = Unit {0}} (new_path store) a (Err fault) b
-frame_of_put h = record {
+pub others_of_put : {A : Type 0} {store : List ℕ} {a b : Seen} {fault : StoreFault}
+    → LeavesButPut {A = A} store a (Err fault) b → LeavesButFile {A = Unit {0}} (new_path store) a (Err fault) b
+others_of_put h = record {
   around = record { files = h.kept; runs = h.runs; misused = h.misused };
   place = h.place;
   children = h.children;

@@ -19,7 +19,7 @@ use Rattle.cnb_world.specs.declared.world.World as world
 use Rattle.steps.specs.Causes.{Cause, FileFailed, ChildFailed, OutOfMemory, Decided, FilesBy, ended_by}
 use Rattle.steps.specs.Counts.{FileCounts}
 use Rattle.steps.specs.Outside.{Seen, seen}
-use Rattle.steps.specs.Reading.{ReadFrame}
+use Rattle.steps.specs.Reading.{LeavesUnchanged}
 use Rattle.steps.proofs.EndLaws.{files_rest}
 use Rattle.steps.proofs.StepLemmas.{ended, went}
 use Rattle.tree_canon.specs.Fits.{fits}
@@ -305,21 +305,21 @@ leaves_ended path source after old new (Err fault) decided leaves = record {
 pub not_judged : {W : Type 0} (ghosts : world.Ghosts W) (store digest root place : List ℕ) (fault : StoreFault)
     (old new : W)
     → IfSome (ghosts.tree old) (λ files. Checks digest (item_at files (tree_path store digest)) (Err fault))
-    → BlamesAt (tree_path store digest) fault → ReadFrame {A = Unit {0}} cause_of (Err fault)
+    → BlamesAt (tree_path store digest) fault → LeavesUnchanged {A = Unit {0}} cause_of (Err fault)
     (seen ghosts old) (seen ghosts new)
     → MayMisuse (option_map (λ files. is_file_or_absent (item_at files (tree_path store digest)))
     (ghosts.tree old)) (ghosts.misused old) (ghosts.misused new)
     → lays_stored store digest root place (seen ghosts old) (Err fault) (seen ghosts new)
 unfolding lays_stored
-not_judged ghosts store digest root place fault old new answer blames frame allows =
+not_judged ghosts store digest root place fault old new answer blames left allows =
     ended (gets_tree store digest) (lays_kept store digest root place) (seen ghosts old) (seen ghosts new) fault
-    (got ghosts store digest (Err fault) old new answer frame.cause blames frame.files frame.runs allows
-    (counted {A = Node} (Err fault) (seen ghosts old) (seen ghosts new) frame.counts frame.children))
+    (got ghosts store digest (Err fault) old new answer left.cause blames left.files left.runs allows
+    (counted {A = Node} (Err fault) (seen ghosts old) (seen ghosts new) left.counts left.children))
 
 pub judged_and_laid : {W : Type 0} (ghosts : world.Ghosts W) (store digest root place : List ℕ) (done : Unit {0})
     (source after : KeptBytes) (old mid new : W) (result : Result (Unit {0}) StoreFault)
     → IfSome (ghosts.tree old) (λ files. Checks digest (item_at files (tree_path store digest)) (Ok done))
-    → ReadFrame cause_of (Ok done) (seen ghosts old) (seen ghosts mid)
+    → LeavesUnchanged cause_of (Ok done) (seen ghosts old) (seen ghosts mid)
     → MayMisuse (option_map (λ files. is_file_or_absent (item_at files (tree_path store digest)))
     (ghosts.tree old)) (ghosts.misused old) (ghosts.misused mid)
     → source.path ≡ tree_path store digest → IsBegun source digest
@@ -330,16 +330,16 @@ pub judged_and_laid : {W : Type 0} (ghosts : world.Ghosts W) (store digest root 
     → LaidPartly root (items_placed root place node) (ghosts.tree mid) (ghosts.tree new))
     → lays_stored store digest root place (seen ghosts old) result (seen ghosts new)
 unfolding lays_stored
-judged_and_laid ghosts store digest root place done source after old mid new result answer frame allows is begun
+judged_and_laid ghosts store digest root place done source after old mid new result answer left allows is begun
     leaves lays parts =
     let tree = got_some (ghosts.tree old) (tree_path store digest) digest answer in
     went (gets_tree store digest) (lays_kept store digest root place) (seen ghosts old) (seen ghosts mid)
     (seen ghosts new) tree.0 result
-    (got ghosts store digest (Ok tree.0) old mid tree.1 tt tt frame.files frame.runs allows
-    (counted (Ok tree.0) (seen ghosts old) (seen ghosts mid) frame.counts frame.children))
+    (got ghosts store digest (Ok tree.0) old mid tree.1 tt tt left.files left.runs allows
+    (counted (Ok tree.0) (seen ghosts old) (seen ghosts mid) left.counts left.children))
     (kept_step store digest root place tree.0 source after (seen ghosts mid) (seen ghosts new) result is begun
     (subst (λ o. IfSome o (λ files. Gets digest (item_at files (tree_path store digest)) (Ok tree.0)))
-    (sym frame.files) tree.1) leaves lays parts)
+    (sym left.files) tree.1) leaves lays parts)
 
 -- a tree that was got whole, and written
 wider_cause : (root file : List ℕ) (o : Option Tree) (cause : Cause) → IsCauseWithin root cause

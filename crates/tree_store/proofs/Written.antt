@@ -20,14 +20,15 @@ use Rattle.cnb_world.proofs.Trees.{get-insert_same, misuse_extends}
 use Rattle.std.proofs.lemmas.Bool.{and_from, and_parts}
 use Rattle.steps.specs.Causes.{CountsFiles, Decided, FilesBy, IsReadCause}
 use Rattle.steps.specs.Outside.{Seen, seen}
-use Rattle.steps.specs.Reading.{ReadFrame}
+use Rattle.steps.specs.Reading.{LeavesUnchanged}
 use Rattle.tree_store.specs.Ahead.{BlamesEither}
 use Rattle.tree_store.specs.Answers.{BlamesAt, BlamesWithin, cause_of, is_odd_file}
 use Rattle.tree_store.specs.Around.{KeptAround, LeavesAround}
 use Rattle.tree_store.specs.Reading.{room}
 use Rattle.tree_canon.specs.Spelling.{limit}
 use Rattle.cnb_world.specs.declared.limits.LimitKind.TheVariants.{Tree as TreeLimit}
-use Rattle.tree_store.specs.Writing.{Added, HasWritten, KeptFile, LeavesNew, NewFrame, begun_with, can_begin, new_path}
+use Rattle.tree_store.specs.Writing.{Added, HasWritten, KeptFile, LeavesNew, LeavesButFile, begun_with, can_begin}
+use Rattle.tree_store.specs.Writing.{new_path}
 use Rattle.tree_store.specs.Writing.{trees_of}
 use Rattle.tree_store.specs.declared.fault.StoreFault.{StoreFault}
 use Rattle.tree_store.specs.declared.fault.StoreFault.TheVariants.{OddFile, Limit, File, NoTree, Damaged, Clash, Memory}
@@ -48,9 +49,9 @@ counts_on : {B : Type 0} (r : Result B StoreFault) (a b c : ℕ) → b ≡ a →
     → CountsFiles cause_of r a c
 counts_on r a b c same h = subst (λ n. CountsFiles cause_of r n c) same h
 
-pub frame_then : {A B : Type 0} {file : List ℕ} {a b c : Seen} {v : A} {r : Result B StoreFault}
-    → NewFrame file a (Ok v) b → NewFrame file b r c → NewFrame file a r c
-frame_then {file = file} {a} {b} {c} {r = r} first next = record {
+pub others_then : {A B : Type 0} {file : List ℕ} {a b c : Seen} {v : A} {r : Result B StoreFault}
+    → LeavesButFile file a (Ok v) b → LeavesButFile file b r c → LeavesButFile file a r c
+others_then {file = file} {a} {b} {c} {r = r} first next = record {
   around = around.onward file a b c first.around next.around;
   place = place_on file a.files b.files c.files first.place next.place;
   children = next.children ∙ first.children;
@@ -59,19 +60,19 @@ frame_then {file = file} {a} {b} {c} {r = r} first next = record {
 }
 
 -- the first refusal ends them
-pub frame_stop : {A B : Type 0} {file : List ℕ} {a b : Seen} {fault : StoreFault}
-    → NewFrame {A = A} file a (Err fault) b → NewFrame {A = B} file a (Err fault) b
-frame_stop h = record { around = h.around; place = h.place; children = h.children; counts = h.counts; cause = h.cause }
+pub others_stop : {A B : Type 0} {file : List ℕ} {a b : Seen} {fault : StoreFault}
+    → LeavesButFile {A = A} file a (Err fault) b → LeavesButFile {A = B} file a (Err fault) b
+others_stop h = record { around = h.around; place = h.place; children = h.children; counts = h.counts; cause = h.cause }
 
 -- another value
-pub frame_value : {A B : Type 0} {file : List ℕ} {a b : Seen} {v : A} (w : B) → NewFrame file a (Ok v) b
-    → NewFrame file a (Ok w) b
-frame_value w h = record { around = h.around; place = h.place; children = h.children; counts = h.counts; cause = tt }
+pub others_value : {A B : Type 0} {file : List ℕ} {a b : Seen} {v : A} (w : B) → LeavesButFile file a (Ok v) b
+    → LeavesButFile file a (Ok w) b
+others_value w h = record { around = h.around; place = h.place; children = h.children; counts = h.counts; cause = tt }
 
 -- no call on files
-pub frame_local : {A : Type 0} (file : List ℕ) (a : Seen) (r : Result A StoreFault)
-    → ((n : ℕ) → CountsFiles cause_of r n n) → NewFrame file a r a
-frame_local {A} file a r counts = record {
+pub others_local : {A : Type 0} (file : List ℕ) (a : Seen) (r : Result A StoreFault)
+    → ((n : ℕ) → CountsFiles cause_of r n n) → LeavesButFile file a r a
+others_local {A} file a r counts = record {
   around = around.itself file a;
   place = place_itself file a.files
       a.files refl;
@@ -81,9 +82,9 @@ frame_local {A} file a r counts = record {
 }
 
 -- a call that reads
-pub frame_read : {A : Type 0} (file : List ℕ) {a b : Seen} {r : Result A StoreFault} → ReadFrame cause_of r a b
-    → a.misused ≤ b.misused → NewFrame file a r b
-frame_read file {a} {b} h m = record {
+pub others_read : {A : Type 0} (file : List ℕ) {a b : Seen} {r : Result A StoreFault} → LeavesUnchanged cause_of r a b
+    → a.misused ≤ b.misused → LeavesButFile file a r b
+others_read file {a} {b} h m = record {
   around = record
       { files = around.kept_itself file a.files b.files h.files; runs = h.runs; misused = m };
   place = place_itself
@@ -94,7 +95,7 @@ frame_read file {a} {b} h m = record {
 }
 
 -- a call at the path
-pub frame_called : {W : Type 0} (ghosts : world.Ghosts W) (file path : List ℕ)
+pub others_called : {W : Type 0} (ghosts : world.Ghosts W) (file path : List ℕ)
     (answer : Result (Unit {0}) FileFault) (result : Result (Unit {0}) StoreFault) (old new : W)
     → LeavesAround file (seen ghosts old) (seen ghosts new) → KeptFile file (ghosts.tree old) (ghosts.tree new)
     → ghosts.child_faults new ≡ ghosts.child_faults old → CountsFailed answer (ghosts.file_faults old)
@@ -102,8 +103,8 @@ pub frame_called : {W : Type 0} (ghosts : world.Ghosts W) (file path : List ℕ)
     → ((before now : ℕ) → CountsFailed answer before now → CountsFiles cause_of result before now)
     → ((before now : Option (List ℕ)) → LastFailed path answer before now
     → IfErr result (λ fault. IsReadCause now (cause_of fault)))
-    → NewFrame file (seen ghosts old) result (seen ghosts new)
-frame_called ghosts file path answer result old new kept place children counted failed counts cause = record
+    → LeavesButFile file (seen ghosts old) result (seen ghosts new)
+others_called ghosts file path answer result old new kept place children counted failed counts cause = record
     { around = kept; place = place; children = children; counts = counts _ _ counted; cause = cause _ _ failed }
 
 -- no call fails
@@ -132,7 +133,7 @@ pub leaves_called : {W : Type 0} (ghosts : world.Ghosts W) (path : List ℕ) (s 
 leaves_called ghosts path s s1 answer result old new stays kept place children counted failed counts cause
     blames = record {
       stays = stays;
-      frame = frame_called ghosts s.path s.path answer result old new kept place children counted failed counts cause;
+      others = others_called ghosts s.path s.path answer result old new kept place children counted failed counts cause;
       blames = blames_file path s.path result blames;
     }
 
@@ -141,23 +142,23 @@ pub leaves_then : {A B : Type 0} {path : List ℕ} {s0 s1 s2 : Writer} {a b c : 
     → LeavesNew path s0 a r s2 c
 leaves_then {path = path} {s0} {s1} {s2} {a} {b} {c} {v} {r} first next = record {
   stays = next.stays ∙ first.stays;
-  frame = frame_then first.frame (subst (λ f. NewFrame f b r c) first.stays next.frame);
+  others = others_then first.others (subst (λ f. LeavesButFile f b r c) first.stays next.others);
   blames = subst (λ f. IfErr r (BlamesEither path f)) first.stays next.blames;
 }
 
 pub leaves_stop : {A B : Type 0} {path : List ℕ} {s0 s1 : Writer} {a b : Seen} {fault : StoreFault}
     → LeavesNew {A = A} path s0 a (Err fault) s1 b → LeavesNew {A = B} path s0 a (Err fault) s1 b
-leaves_stop h = record { stays = h.stays; frame = frame_stop h.frame; blames = h.blames }
+leaves_stop h = record { stays = h.stays; others = others_stop h.others; blames = h.blames }
 
 pub leaves_value : {A B : Type 0} {path : List ℕ} {s0 s1 : Writer} {a b : Seen} {v : A} (w : B)
     → LeavesNew path s0 a (Ok v) s1 b → LeavesNew path s0 a (Ok w) s1 b
-leaves_value w h = record { stays = h.stays; frame = frame_value w h.frame; blames = tt }
+leaves_value w h = record { stays = h.stays; others = others_value w h.others; blames = tt }
 
 -- no call on files
 pub leaves_local : {A : Type 0} (path : List ℕ) (s s1 : Writer) (a : Seen) (r : Result A StoreFault)
     → s1.path ≡ s.path → ((n : ℕ) → CountsFiles cause_of r n n) → LeavesNew path s a r s1 a
 leaves_local path s s1 a r stays counts = record
-    { stays = stays; frame = frame_local s.path a r counts; blames = no_blame path s.path r counts }
+    { stays = stays; others = others_local s.path a r counts; blames = no_blame path s.path r counts }
 
 pub odd_counts : (A : Type 0) (path : List ℕ) (fault : StoreFault) → is_odd_file path fault → (n : ℕ)
     → CountsFiles {A = A} cause_of (Err fault) n n
@@ -173,8 +174,8 @@ pub leaves_memory : {A : Type 0} (path : List ℕ) (s s1 : Writer) (a : Seen) �
     → LeavesNew {A = A} path s a (Err Memory) s1 a
 leaves_memory {A} path s s1 a stays = leaves_local {A = A} path s s1 a (Err Memory) stays (λ n. omega arith)
 
-pub frame_memory : {A : Type 0} (file : List ℕ) (a : Seen) → NewFrame {A = A} file a (Err Memory) a
-frame_memory {A} file a = frame_local {A = A} file a (Err Memory) (λ n. omega arith)
+pub others_memory : {A : Type 0} (file : List ℕ) (a : Seen) → LeavesButFile {A = A} file a (Err Memory) a
+others_memory {A} file a = others_local {A = A} file a (Err Memory) (λ n. omega arith)
 
 pub leaves_odd : {A : Type 0} (path : List ℕ) (s : Writer) (a : Seen) (odd : List ℕ) (fault : StoreFault)
     → is_odd_file odd fault → LeavesNew {A = A} path s a (Err fault) s a
@@ -456,12 +457,12 @@ pub leaves_wider : {A : Type 0} {folder path : List ℕ} (name : List ℕ) {s0 s
     → LeavesNew folder s0 a r s1 b
 leaves_wider {folder = folder} {path} name {s0} {r = r} is part h = record {
   stays = h.stays;
-  frame = h.frame;
+  others = h.others;
   blames = blames_wider folder name path s0.path r is
       (part_form name part).0 h.blames;
 }
 
 -- the same of a path that the writer's is
-pub leaves_frame : {A : Type 0} {path : List ℕ} (file : List ℕ) {s s1 : Writer} {a b : Seen}
-    {r : Result A StoreFault} → s.path ≡ file → LeavesNew path s a r s1 b → NewFrame file a r b
-leaves_frame file {a = a} {b} {r} at h = subst (λ f. NewFrame f a r b) at h.frame
+pub leaves_others : {A : Type 0} {path : List ℕ} (file : List ℕ) {s s1 : Writer} {a b : Seen}
+    {r : Result A StoreFault} → s.path ≡ file → LeavesNew path s a r s1 b → LeavesButFile file a r b
+leaves_others file {a = a} {b} {r} at h = subst (λ f. LeavesButFile f a r b) at h.others

@@ -48,9 +48,13 @@ BlamesAt path (Damaged asked found bad) = Unit {0}
 BlamesAt path (Clash digest) = Unit {0}
 BlamesAt path Memory = Unit {0}
 
+-- a path is this one, or one below it
+abbrev pub AtOrBelow : List ℕ → List ℕ → Type 0
+AtOrBelow path named = IsTrue (is_within path named)
+
 -- `File` carries this path, or one below it
 abbrev pub BlamesWithin : List ℕ → StoreFault → Type 0
-BlamesWithin path (File blamed) = IsTrue (is_within path blamed)
+BlamesWithin path (File blamed) = AtOrBelow path blamed
 BlamesWithin path (OddFile odd) = Unit {0}
 BlamesWithin path (Limit kind) = Unit {0}
 BlamesWithin path (NoTree digest) = Unit {0}

@@ -6,13 +6,13 @@ use Rattle.sha2.specs.Sha256.{sha256}
 use Rattle.cnb_world.specs.Tree.{Tree, can_make_folder, item_at, is_file, is_file_or_absent, is_within}
 use Rattle.cnb_world.specs.Whole.{can_write}
 use Rattle.steps.specs.Causes.{Cause, FileFailed, ChildFailed, OutOfMemory, Decided, IsAnswer, IsReadCause}
-use Rattle.steps.specs.Causes.{WhereDecided, ended_by}
+use Rattle.steps.specs.Causes.{Only, WhereDecided, ended_by}
 use Rattle.steps.specs.Counts.{FileCounts}
 use Rattle.steps.specs.Outside.{Seen}
 use Rattle.steps.specs.Steps.{◌>>=◌, Allows, Same, reads, yields}
 use Rattle.tree_canon.specs.Spelling.{spelling_of}
 use Rattle.tree_canon.specs.declared.node.Node.{Node}
-use Rattle.tree_store.specs.Answers.{BlamesAt, cause_of}
+use Rattle.tree_store.specs.Answers.{AtOrBelow, BlamesAt, cause_of}
 use Rattle.tree_store.specs.Around.{KeptAround, LeavesAround}
 use Rattle.tree_store.specs.Overlay.{can_stand, parts_of, tree_laid}
 use Rattle.tree_store.specs.Partly.{LaidPartly, items_placed}
@@ -24,12 +24,13 @@ use Rattle.tree_store.specs.declared.fault.StoreFault.TheVariants.{OddFile, Limi
 
 -- the tree of a folder is read
 unfoldable pub reads_tree : List ℕ → Seen → Result Node StoreFault → Seen → Type 0
-reads_tree path old result new = reads cause_of (λ files. true) (tree_in path) old result new
+reads_tree path old result new = reads cause_of (AtOrBelow path) (λ files. true) (tree_in path) old result new
 
 -- whether the store has the file of a tree
 unfoldable pub looks_for_tree : List ℕ → List ℕ → Seen → Result Bool StoreFault → Seen → Type 0
 looks_for_tree store digest old result new =
-    reads cause_of (λ files. true) (λ files. Ok (is_file (item_at files (tree_path store digest)))) old result new
+    reads cause_of (Only (tree_path store digest)) (λ files. true)
+    (λ files. Ok (is_file (item_at files (tree_path store digest)))) old result new
 
 -- The file of a tree is read, by calls of the right kind where it is a file or absent. A refusal for a failed call
 -- names that file.

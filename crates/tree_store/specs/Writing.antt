@@ -71,7 +71,8 @@ pub record HasWritten (store : List ℕ) (before : Option Tree) (writer : Writer
 -- What a call leaves that writes at no path but this one, whatever stands there: all but what is at that path, or a
 -- folder above it that was made; and at the path what was there, or a file or nothing. A refusal for a failed call
 -- comes where the count rose, with the path whose call failed last.
-pub record NewFrame {A : Type 0} (file : List ℕ) (old : Seen) (result : Result A StoreFault) (new : Seen) : Type 0 where
+pub record LeavesButFile {A : Type 0} (file : List ℕ) (old : Seen) (result : Result A StoreFault)
+    (new : Seen) : Type 0 where
   pub around : LeavesAround file old new
   pub place : KeptFile file old.files new.files
   pub children : new.child_faults ≡ old.child_faults
@@ -83,7 +84,7 @@ pub record LeavesNew {A : Type 0} (path : List ℕ) (writer : Writer) (old : See
     (after : Writer) (new : Seen)
     : Type 0 where
   pub stays : after.path ≡ writer.path
-  pub frame : NewFrame writer.path old result new
+  pub others : LeavesButFile writer.path old result new
   pub blames : IfErr result (BlamesEither path writer.path)
 
 -- what a call answers that adds bytes of which this holds
@@ -162,7 +163,7 @@ IsCleared store files = IfSome files (λ t. item_at t (new_path store) ≡ None)
 
 -- What putting leaves, whatever stands there: no child ran, and where it is refused, all but what is at the path where
 -- the file is written stands as before, but folders above it.
-pub record PutFrame {A : Type 0} (store : List ℕ) (old : Seen) (result : Result A StoreFault)
+pub record LeavesButPut {A : Type 0} (store : List ℕ) (old : Seen) (result : Result A StoreFault)
     (new : Seen) : Type 0 where
   pub kept : OnErr result (KeptAround (new_path store) old.files new.files)
   pub place : OnErr result (KeptFile (new_path store) old.files new.files)
@@ -203,8 +204,8 @@ pub record PutsBytes (store bytes : List ℕ) (before : Option Tree) (old : Seen
 -- A refusal is answered again, once nothing stands where a file was written, or another that may come anyway.
 pub record IsClearedOf (fault : StoreFault) (store : List ℕ) (old : Seen) (result : StoreFault)
     (new : Seen) : Type 0 where
-  pub frame : (first : Seen) → NewFrame {A = Unit {0}} (new_path store) first (Err fault) old
-      → NewFrame {A = Unit {0}} (new_path store) first (Err result) new
+  pub others : (first : Seen) → LeavesButFile {A = Unit {0}} (new_path store) first (Err fault) old
+      → LeavesButFile {A = Unit {0}} (new_path store) first (Err result) new
   pub right : new.misused ≡ old.misused
   pub cleared : WhereDecided (cause_of result) (IsCleared store new.files)
   pub same : IsTrue (is_free result) ⊎ (result ≡ fault)

@@ -6,7 +6,7 @@ ghost use Rattle.cnb_world.specs.Calls.{MayMisuse};
 ghost use Rattle.cnb_world.specs.Tree.{item_at, is_file, is_file_or_absent, bytes_of};
 ghost use Rattle.steps.specs.Causes.{CountsFiles};
 ghost use Rattle.steps.specs.Outside.{seen};
-ghost use Rattle.steps.specs.Reading.{ReadFrame};
+ghost use Rattle.steps.specs.Reading.{LeavesUnchanged};
 ghost use Rattle.tree_store.specs.Answers.{BlamesAt, cause_of};
 ghost use Rattle.tree_store.specs.Checking.{Checks, ChecksOf, HasChecked};
 ghost use Rattle.tree_store.specs.Digests.{HasTree};
@@ -92,7 +92,7 @@ fn check_kept<W: World>(
     ensures checks { IfSome (W.tree world.old) (λ files. Checks digest.now (item_at files path.now) result) }
     ensures digest { OnOk result (HasTree digest.now) }
     ensures blames { IfErr result (BlamesAt path.now) }
-    ensures frame { ReadFrame cause_of result (seen W.World world.old) (seen W.World world.new) }
+    ensures leaves { LeavesUnchanged cause_of result (seen W.World world.old) (seen W.World world.new) }
     ensures misused { MayMisuse (option_map (λ t. is_file (item_at t path.now)) (W.tree world.old))
         (W.misused world.old)
         (W.misused world.new) }
@@ -120,7 +120,7 @@ pub(crate) fn check_file<W: World>(
         (item_at files (tree_path store.now digest.now)) result) }
     ensures digest { OnOk result (HasTree digest.now) }
     ensures blames { IfErr result (BlamesAt (tree_path store.now digest.now)) }
-    ensures frame { ReadFrame cause_of result (seen W.World world.old) (seen W.World world.new) }
+    ensures leaves { LeavesUnchanged cause_of result (seen W.World world.old) (seen W.World world.new) }
     ensures misused { MayMisuse (option_map (λ t. is_file_or_absent (item_at t (tree_path store.now digest.now)))
         (W.tree world.old)) (W.misused world.old) (W.misused world.new) }
 {

@@ -6,13 +6,13 @@ ghost use Rattle.cnb_world.specs.Calls.{MayMisuse};
 ghost use Rattle.cnb_world.specs.Tree.{Tree, bytes_of, is_file, is_root, is_within, item_at, without};
 ghost use Rattle.sha2.specs.Sha256.{sha256};
 ghost use Rattle.steps.specs.Outside.{seen};
-ghost use Rattle.steps.specs.Reading.{ReadFrame};
+ghost use Rattle.steps.specs.Reading.{LeavesUnchanged};
 ghost use Rattle.tree_store.specs.Answers.{BlamesAt, BlamesWithin, IsLater, cause_of, is_free};
 ghost use Rattle.tree_store.specs.Around.{KeptAround};
 ghost use Rattle.tree_store.specs.Comparing.{IsCompared};
 ghost use Rattle.tree_store.specs.Store.{tree_path};
-ghost use Rattle.tree_store.specs.Writing.{AreApart, ClashesUnless, HasWritten, IsClearedOf, NamesBytes, NewFrame};
-ghost use Rattle.tree_store.specs.Writing.{PutFrame, PutsBytes, begun_with, new_path, trees_of};
+ghost use Rattle.tree_store.specs.Writing.{AreApart, ClashesUnless, HasWritten, IsClearedOf, NamesBytes, LeavesButFile};
+ghost use Rattle.tree_store.specs.Writing.{LeavesButPut, PutsBytes, begun_with, new_path, trees_of};
 
 use crate::fault::{StoreFault, or_blame};
 use crate::store::{PIECE, is_absent_at, is_last, read_piece, tree_file};
@@ -28,7 +28,7 @@ pub(crate) fn remove_new<W: World>(
     file: &Path,
 ) -> Result<(), StoreFault>
     ensures ok { OnOk result (W.tree world.new ≡ option_map (without file.now) (W.tree world.old)) }
-    ensures frame { NewFrame file.now (seen W.World world.old) result (seen W.World world.new) }
+    ensures leaves { LeavesButFile file.now (seen W.World world.old) result (seen W.World world.new) }
     ensures last { OnOk result (W.failed_at world.new ≡ W.failed_at world.old) }
     ensures free { IfErr result (λ fault. IsTrue (is_free fault)) }
     ensures blames { IfErr result (BlamesAt file.now) }
@@ -71,7 +71,7 @@ fn compare_piece<W: World>(
     ensures free { IfErr result (λ fault. IsTrue (is_free fault)) }
     ensures blames { (folder : Seq ℕ) → is_within folder path.now ≡ true → is_within folder file.now ≡ true
         → IfErr result (BlamesWithin folder) }
-    ensures frame { ReadFrame cause_of result (seen W.World world.old) (seen W.World world.new) }
+    ensures leaves { LeavesUnchanged cause_of result (seen W.World world.old) (seen W.World world.new) }
     ensures misused { MayMisuse (option_map (λ t. is_file (item_at t path.now) && is_file (item_at t file.now))
         (W.tree world.old)) (W.misused world.old) (W.misused world.new) }
 {
@@ -95,7 +95,7 @@ fn same_files<W: World>(
     ensures free { IfErr result (λ fault. IsTrue (is_free fault)) }
     ensures blames { (folder : Seq ℕ) → is_within folder path.now ≡ true → is_within folder file.now ≡ true
         → IfErr result (BlamesWithin folder) }
-    ensures frame { ReadFrame cause_of result (seen W.World world.old) (seen W.World world.new) }
+    ensures leaves { LeavesUnchanged cause_of result (seen W.World world.old) (seen W.World world.new) }
     ensures misused { MayMisuse (option_map (λ t. is_file (item_at t path.now) && is_file (item_at t file.now))
         (W.tree world.old)) (W.misused world.old) (W.misused world.new) }
 {
@@ -129,7 +129,7 @@ fn settle<W: World>(
     digest: &Digest,
     len: u64,
 ) -> Result<(), StoreFault>
-    ensures frame { NewFrame file.now (seen W.World world.old) result (seen W.World world.new) }
+    ensures leaves { LeavesButFile file.now (seen W.World world.old) result (seen W.World world.new) }
     ensures blames { (folder : Seq ℕ) → is_within folder path.now ≡ true → is_within folder file.now ≡ true
         → IfErr result (BlamesWithin folder) }
     ensures settles { (before : Option Tree) (store bytes : Seq ℕ) → digest.now ≡ sha256 bytes → length bytes ≤ len
@@ -156,7 +156,7 @@ pub(crate) fn name_file<W: World>(
 ) -> Result<(), StoreFault>
     requires store { length store.now ≤ 8192 }
     requires file { file.now ≡ new_path store.now }
-    ensures frame { PutFrame store.now (seen W.World world.old) result (seen W.World world.new) }
+    ensures leaves { LeavesButPut store.now (seen W.World world.old) result (seen W.World world.new) }
     ensures blames { IfErr result (BlamesWithin (trees_of store.now)) }
     ensures names { (before : Option Tree) (bytes : Seq ℕ) → digest.now ≡ sha256 bytes → length bytes ≤ len
         → W.tree world.old ≡ option_map (begun_with store.now bytes) before
@@ -181,7 +181,7 @@ fn put_written<W: World>(
 ) -> Result<Digest, StoreFault>
     requires store { length store.now ≤ 8192 }
     requires path { writer.path ≡ new_path store.now }
-    ensures frame { PutFrame store.now (seen W.World world.old) result (seen W.World world.new) }
+    ensures leaves { LeavesButPut store.now (seen W.World world.old) result (seen W.World world.new) }
     ensures blames { IfErr result (BlamesWithin (trees_of store.now)) }
     ensures puts { (before : Option Tree) (bytes : Seq ℕ) → HasWritten store.now before writer bytes (W.tree world.old)
         → length bytes ≤ len → PutsBytes store.now bytes before (seen W.World world.old) result
@@ -239,7 +239,7 @@ pub(crate) fn put_or_clear<W: World>(
     requires store { length store.now ≤ 8192 }
     requires file { file.now ≡ new_path store.now }
     requires path { writer.path ≡ new_path store.now }
-    ensures frame { PutFrame store.now (seen W.World world.old) result (seen W.World world.new) }
+    ensures leaves { LeavesButPut store.now (seen W.World world.old) result (seen W.World world.new) }
     ensures blames { IfErr result (BlamesWithin (trees_of store.now)) }
     ensures puts { (before : Option Tree) (bytes : Seq ℕ) → HasWritten store.now before writer bytes (W.tree world.old)
         → length bytes ≤ len → PutsBytes store.now bytes before (seen W.World world.old) result

@@ -13,7 +13,7 @@ ghost use Rattle.tree_canon.specs.declared.node.Node.TheVariants.{Link};
 ghost use Rattle.tree_store.specs.Writing.{sized_as};
 ghost use Rattle.steps.specs.Causes.{CountsFiles, IsAnswer};
 ghost use Rattle.steps.specs.Outside.{seen};
-ghost use Rattle.steps.specs.Reading.{ReadFrame};
+ghost use Rattle.steps.specs.Reading.{LeavesUnchanged};
 ghost use Rattle.tree_store.specs.Answers.{BlamesAt, BlamesWithin, is_free, cause_of};
 ghost use Rattle.tree_store.specs.Matching.{Matches};
 ghost use Rattle.tree_store.specs.Steps.{reads_tree};
@@ -51,7 +51,7 @@ pub(crate) fn kind_at<W: World>(
     ensures told { IfSome (W.tree world.old) (λ files. IfOk result (λ k. k ≡ kind_of (item_at files path.now))) }
     ensures free { IfErr result (λ fault. IsTrue (is_free fault)) }
     ensures blames { IfErr result (BlamesAt path.now) }
-    ensures frame { ReadFrame cause_of result (seen W.World world.old) (seen W.World world.new) }
+    ensures leaves { LeavesUnchanged cause_of result (seen W.World world.old) (seen W.World world.new) }
     ensures misused { W.misused world.new ≡ W.misused world.old }
 {
     match world.kind(path) {
@@ -73,7 +73,7 @@ pub(crate) fn listed<W: World>(
     ensures lists { IfSome (W.tree world.old) (λ files. IfOk result (Lists files path.now)) }
     ensures free { IfErr result (λ fault. IsTrue (is_free fault)) }
     ensures blames { IfErr result (BlamesAt path.now) }
-    ensures frame { ReadFrame cause_of result (seen W.World world.old) (seen W.World world.new) }
+    ensures leaves { LeavesUnchanged cause_of result (seen W.World world.old) (seen W.World world.new) }
     ensures misused { W.misused world.new ≡ W.misused world.old }
 {
     match world.list(path) {
@@ -99,7 +99,7 @@ fn read_file<W: World>(
     ensures fit { IfOk result (λ read. (depth : ℕ) → depth ≤ 64 → FitsFrom depth size read) }
     ensures few { IfOk result (λ read. read.1 ≤ limit) }
     ensures blames { IfErr result (BlamesAt path.now) }
-    ensures frame { ReadFrame cause_of result (seen W.World world.old) (seen W.World world.new) }
+    ensures leaves { LeavesUnchanged cause_of result (seen W.World world.old) (seen W.World world.new) }
     ensures misused { W.misused world.new ≡ W.misused world.old }
 {
     let size = room(size, 10, len)?;
@@ -160,7 +160,7 @@ pub(crate) fn target_at<W: World>(
         (λ target. target ≡ target_of (item_at files path.now))) }
     ensures free { IfErr result (λ fault. IsTrue (is_free fault)) }
     ensures blames { IfErr result (BlamesAt path.now) }
-    ensures frame { ReadFrame cause_of result (seen W.World world.old) (seen W.World world.new) }
+    ensures leaves { LeavesUnchanged cause_of result (seen W.World world.old) (seen W.World world.new) }
     ensures misused { W.misused world.new ≡ W.misused world.old }
 {
     match world.read_link(path) {
@@ -205,7 +205,7 @@ fn read_link<W: World>(
     ensures fit { IfOk result (FitsFrom (65 - levels) size) }
     ensures few { IfOk result (λ read. read.1 ≤ limit) }
     ensures blames { IfErr result (BlamesAt path.now) }
-    ensures frame { ReadFrame cause_of result (seen W.World world.old) (seen W.World world.new) }
+    ensures leaves { LeavesUnchanged cause_of result (seen W.World world.old) (seen W.World world.new) }
     ensures misused { W.misused world.new ≡ W.misused world.old }
 {
     match world.read_link(path) {
@@ -250,7 +250,7 @@ fn read_entry<W: World>(
     ensures fit { IfOk result (FitsFrom (65 - levels) (size + (2 + length name.now))) }
     ensures few { IfOk result (λ read. read.1 ≤ limit) }
     ensures blames { IfErr result (BlamesWithin folder.now) }
-    ensures frame { ReadFrame cause_of result (seen W.World world.old) (seen W.World world.new) }
+    ensures leaves { LeavesUnchanged cause_of result (seen W.World world.old) (seen W.World world.new) }
     ensures misused { W.misused world.new ≡ W.misused world.old }
 {
     let head = head_length(name);
@@ -279,7 +279,7 @@ fn read_entries<W: World>(
     ensures bytes { IfOk result (λ read. read.1 ≡ size + length (entries_bytes read.0)) }
     ensures few { IfOk result (λ read. read.1 ≤ limit) }
     ensures blames { IfErr result (BlamesWithin folder.now) }
-    ensures frame { ReadFrame cause_of result (seen W.World world.old) (seen W.World world.new) }
+    ensures leaves { LeavesUnchanged cause_of result (seen W.World world.old) (seen W.World world.new) }
     ensures misused { W.misused world.new ≡ W.misused world.old }
 {
     let mut entries = Vec::new(alloc);
@@ -312,7 +312,7 @@ fn read_folder<W: World>(
     ensures fit { IfOk result (FitsFrom (64 - levels) size) }
     ensures few { IfOk result (λ read. read.1 ≤ limit) }
     ensures blames { IfErr result (BlamesWithin path.now) }
-    ensures frame { ReadFrame cause_of result (seen W.World world.old) (seen W.World world.new) }
+    ensures leaves { LeavesUnchanged cause_of result (seen W.World world.old) (seen W.World world.new) }
     ensures misused { W.misused world.new ≡ W.misused world.old }
 {
     let size = room(size, 5, 0)?;
@@ -338,7 +338,7 @@ fn read_node<W: World>(
     ensures fit { IfOk result (FitsFrom (65 - levels) size) }
     ensures few { IfOk result (λ read. read.1 ≤ limit) }
     ensures blames { IfErr result (BlamesWithin path.now) }
-    ensures frame { ReadFrame cause_of result (seen W.World world.old) (seen W.World world.new) }
+    ensures leaves { LeavesUnchanged cause_of result (seen W.World world.old) (seen W.World world.new) }
     ensures misused { W.misused world.new ≡ W.misused world.old }
 {
     match kind_at(alloc, world, path)? {
@@ -366,7 +366,7 @@ fn tree_at<W: World>(alloc: Global, world: &mut W, path: &Path) -> Result<Tree, 
     requires { length path.now ≤ 8192 }
     ensures reads { IfSome (W.tree world.old) (λ files. IsAnswer cause_of result (tree_in path.now files)) }
     ensures blames { IfErr result (BlamesWithin path.now) }
-    ensures frame { ReadFrame cause_of result (seen W.World world.old) (seen W.World world.new) }
+    ensures leaves { LeavesUnchanged cause_of result (seen W.World world.old) (seen W.World world.new) }
     ensures misused { W.misused world.new ≡ W.misused world.old }
 {
     match kind_at(alloc, world, path)? {

@@ -10,7 +10,7 @@ ghost use Rattle.cnb_world.specs.Whole.{can_write, written, LeavesPart};
 ghost use Rattle.tree_canon.specs.Spelling.{spelling_of};
 ghost use Rattle.steps.specs.Causes.{CountsFiles, IsAnswer};
 ghost use Rattle.steps.specs.Outside.{seen};
-ghost use Rattle.steps.specs.Reading.{ReadFrame};
+ghost use Rattle.steps.specs.Reading.{LeavesUnchanged};
 ghost use Rattle.tree_store.specs.Answers.{BlamesAt, is_free, is_file_kind, is_absent_kind, cause_of};
 ghost use Rattle.tree_store.specs.Steps.{gets_tree, looks_for_tree, puts_tree};
 ghost use Rattle.tree_store.specs.Writing.{AreApart, new_path, trees_of};
@@ -79,7 +79,7 @@ fn stands<W: World>(
     ensures reads { IfSome (W.tree world.old) (λ files. IsAnswer cause_of result
         (Ok (is_file (item_at files (tree_path store.now digest.now))))) }
     ensures blames { IfErr result (BlamesAt (tree_path store.now digest.now)) }
-    ensures frame { ReadFrame cause_of result (seen W.World world.old) (seen W.World world.new) }
+    ensures leaves { LeavesUnchanged cause_of result (seen W.World world.old) (seen W.World world.new) }
     ensures misused { W.misused world.new ≡ W.misused world.old }
 {
     let path = tree_file(alloc, store, digest)?;
@@ -115,7 +115,7 @@ pub(crate) fn read_piece<W: World>(
     ensures file { IfSome (W.tree world.old) (λ files. OnOk result (IsTrue (is_file (item_at files path.now)))) }
     ensures free { IfErr result (λ fault. IsTrue (is_free fault)) }
     ensures blames { IfErr result (BlamesAt path.now) }
-    ensures frame { ReadFrame cause_of result (seen W.World world.old) (seen W.World world.new) }
+    ensures leaves { LeavesUnchanged cause_of result (seen W.World world.old) (seen W.World world.new) }
     ensures misused { MayMisuse (option_map (λ t. is_file (item_at t path.now)) (W.tree world.old))
         (W.misused world.old)
         (W.misused world.new) }
@@ -158,7 +158,7 @@ fn has_bytes<W: World>(
     ensures file { IfSome (W.tree world.old) (λ files. OnOk result (IsTrue (is_file (item_at files path.now)))) }
     ensures free { IfErr result (λ fault. IsTrue (is_free fault)) }
     ensures blames { IfErr result (BlamesAt path.now) }
-    ensures frame { ReadFrame cause_of result (seen W.World world.old) (seen W.World world.new) }
+    ensures leaves { LeavesUnchanged cause_of result (seen W.World world.old) (seen W.World world.new) }
     ensures misused { MayMisuse (option_map (λ t. is_file (item_at t path.now)) (W.tree world.old))
         (W.misused world.old)
         (W.misused world.new) }
@@ -184,7 +184,7 @@ pub(crate) fn is_absent_at<W: World>(
         (λ absent. absent ≡ not (is_some (item_at files path.now)))) }
     ensures free { IfErr result (λ fault. IsTrue (is_free fault)) }
     ensures blames { IfErr result (BlamesAt path.now) }
-    ensures frame { ReadFrame cause_of result (seen W.World world.old) (seen W.World world.new) }
+    ensures leaves { LeavesUnchanged cause_of result (seen W.World world.old) (seen W.World world.new) }
     ensures misused { W.misused world.new ≡ W.misused world.old }
 {
     let kind = kind_at(alloc, world, path)?;
@@ -201,7 +201,7 @@ fn compare<W: World>(
 ) -> Result<(), StoreFault>
     ensures keeps { IfSome (W.tree world.old) (λ files. Keeps digest.now bytes.now (item_at files path.now) result) }
     ensures blames { IfErr result (BlamesAt path.now) }
-    ensures frame { ReadFrame cause_of result (seen W.World world.old) (seen W.World world.new) }
+    ensures leaves { LeavesUnchanged cause_of result (seen W.World world.old) (seen W.World world.new) }
     ensures misused { MayMisuse (option_map (λ t. is_file (item_at t path.now)) (W.tree world.old))
         (W.misused world.old)
         (W.misused world.new) }
@@ -333,7 +333,7 @@ fn read_kept<W: World>(
     ensures gets { IfSome (W.tree world.old) (λ files. Gets digest.now (item_at files path.now) result) }
     ensures digest { IfOk result (λ tree. sha256 (spelling_of tree) ≡ digest.now) }
     ensures blames { IfErr result (BlamesAt path.now) }
-    ensures frame { ReadFrame cause_of result (seen W.World world.old) (seen W.World world.new) }
+    ensures leaves { LeavesUnchanged cause_of result (seen W.World world.old) (seen W.World world.new) }
     ensures misused { MayMisuse (option_map (λ t. is_file (item_at t path.now)) (W.tree world.old))
         (W.misused world.old)
         (W.misused world.new) }
@@ -362,7 +362,7 @@ fn get_file<W: World>(
         (item_at files (tree_path store.now digest.now)) result) }
     ensures digest { IfOk result (λ tree. sha256 (spelling_of tree) ≡ digest.now) }
     ensures blames { IfErr result (BlamesAt (tree_path store.now digest.now)) }
-    ensures frame { ReadFrame cause_of result (seen W.World world.old) (seen W.World world.new) }
+    ensures leaves { LeavesUnchanged cause_of result (seen W.World world.old) (seen W.World world.new) }
     ensures misused { MayMisuse (option_map (λ t. is_file_or_absent (item_at t (tree_path store.now digest.now)))
         (W.tree world.old)) (W.misused world.old) (W.misused world.new) }
 {

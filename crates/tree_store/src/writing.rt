@@ -7,7 +7,7 @@ ghost use Rattle.sha2.specs.Hashers.{Holds256};
 ghost use Rattle.sha2.specs.Sha256.{sha256};
 ghost use Rattle.steps.specs.Outside.{seen};
 ghost use Rattle.tree_store.specs.Answers.{BlamesWithin, is_free};
-ghost use Rattle.tree_store.specs.Writing.{Adds, HasWritten, LeavesNew, NewFrame, begun_with, can_begin, new_path};
+ghost use Rattle.tree_store.specs.Writing.{Adds, HasWritten, LeavesNew, LeavesButFile, begun_with, can_begin, new_path};
 ghost use Rattle.tree_store.specs.Writing.{trees_of};
 
 use crate::fault::{StoreFault, or_blame};
@@ -57,7 +57,7 @@ fn begin_file<W: World>(
     requires store { length store.now ≤ 8192 }
     requires path { path.now ≡ new_path store.now }
     ensures ok { OnOk result (W.tree world.new ≡ option_map (begun_with store.now []) (W.tree world.old)) }
-    ensures frame { NewFrame (new_path store.now) (seen W.World world.old) result (seen W.World world.new) }
+    ensures leaves { LeavesButFile (new_path store.now) (seen W.World world.old) result (seen W.World world.new) }
     ensures free { IfErr result (λ fault. IsTrue (is_free fault)) }
     ensures blames { IfErr result (BlamesWithin (trees_of store.now)) }
     ensures misused { MayMisuse (option_map (can_begin store.now) (W.tree world.old)) (W.misused world.old)
@@ -78,7 +78,7 @@ impl Writer {
         requires { length store.now ≤ 8192 }
         ensures path { IfOk result (λ writer. writer.path ≡ new_path store.now) }
         ensures begun { IfOk result (λ writer. HasWritten store.now (W.tree world.old) writer [] (W.tree world.new)) }
-        ensures frame { NewFrame (new_path store.now) (seen W.World world.old) result (seen W.World world.new) }
+        ensures leaves { LeavesButFile (new_path store.now) (seen W.World world.old) result (seen W.World world.new) }
         ensures free { IfErr result (λ fault. IsTrue (is_free fault)) }
         ensures blames { IfErr result (BlamesWithin (trees_of store.now)) }
         ensures misused { MayMisuse (option_map (can_begin store.now) (W.tree world.old)) (W.misused world.old)

@@ -6,12 +6,12 @@ use Rattle.cnb_build.proofs.given.read_target.Goals as goal
 pub returns-in_err-target-clause-step : goal.returns-in_err-target-clause-step
 returns-in_err-target-clause-step g c =
     let exit = err_from_is_err_and c.from_residual.result c.from_residual.ensures.1 in
-    rw (exit.1, exit.2) (read_refused g.W.World _ _ c.in_err-target.field-0.0 _ _ c.in_err-target.ensures.reads
-    c.in_err-target.ensures.frame c.in_err-target.ensures.misused)
+    rw (exit.1, exit.2) (read_refused g.W.World _ _ _ c.in_err-target.field-0.0 _ _ c.in_err-target.ensures.reads
+    c.in_err-target.ensures.leaves c.in_err-target.ensures.blames c.in_err-target.ensures.misused)
 
 pub returns-clause-step : goal.returns-clause-step
 returns-clause-step g c =
-    read_done g.W.World _ _ c.in_ok-target.target _ _ c.in_ok-target.ensures.reads c.in_ok-target.ensures.frame
+    read_done g.W.World _ _ _ c.in_ok-target.target _ _ c.in_ok-target.ensures.reads c.in_ok-target.ensures.leaves
     c.in_ok-target.ensures.misused
 
 pub returns-clause-named : goal.returns-clause-named

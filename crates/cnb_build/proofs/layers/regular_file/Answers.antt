@@ -8,14 +8,14 @@ pub returns-in_err-found : goal.returns-in_err-found
 returns-in_err-found g c =
     let exit = err_from_is_err_and c.from_residual.result c.from_residual.ensures.1 in
     rw (exit.1, exit.2) (record {
-      step = read_refused g.W.World
-          (λ files. true) _ c.in_err-found.field-0.0 _ _ c.in_err-found.ensures.reads c.in_err-found.ensures.frame
-          (allowed_by (λ files. true) _ _ _ c.in_err-found.ensures.misused);
+      step = read_refused g.W.World _ (λ files. true) _ c.in_err-found.field-0.0 _ _ c.in_err-found.ensures.reads
+          c.in_err-found.ensures.leaves
+          c.in_err-found.ensures.blames (allowed_by (λ files. true) _ _ _ c.in_err-found.ensures.misused);
     })
 
 pub returns : goal.returns
 returns g c =
     record {
-      step = read_done g.W.World (λ files. true) _ c.in_ok-found.found _ _ c.in_ok-found.ensures.reads
-          c.in_ok-found.ensures.frame (allowed_by (λ files. true) _ _ _ c.in_ok-found.ensures.misused);
+      step = read_done g.W.World _ (λ files. true) _ c.in_ok-found.found _ _ c.in_ok-found.ensures.reads
+          c.in_ok-found.ensures.leaves (allowed_by (λ files. true) _ _ _ c.in_ok-found.ensures.misused);
     }

@@ -6,12 +6,13 @@ pub returns-in_err-files : goal.returns-in_err-files
 returns-in_err-files g c =
     let exit = err_from_is_err_and c.from_residual.result c.from_residual.ensures.1 in
     rw (exit.1, exit.2) (record {
-      step = read_refused g.W.World _ _ c.in_err-files.field-0.0 _ _
-          c.in_err-files.ensures.reads c.in_err-files.ensures.frame c.in_err-files.ensures.misused;
+      step = read_refused g.W.World _ _ _ c.in_err-files.field-0.0 _ _
+          c.in_err-files.ensures.reads c.in_err-files.ensures.leaves c.in_err-files.ensures.blames
+          c.in_err-files.ensures.misused;
     })
 
 pub returns : goal.returns
 returns g c = record {
-  step = (read_done g.W.World _ _ c.in_ok-files.files _ _ c.in_ok-files.ensures.reads
-      c.in_ok-files.ensures.frame c.in_ok-files.ensures.misused);
+  step = (read_done g.W.World _ _ _ c.in_ok-files.files _ _ c.in_ok-files.ensures.reads
+      c.in_ok-files.ensures.leaves c.in_ok-files.ensures.misused);
 }

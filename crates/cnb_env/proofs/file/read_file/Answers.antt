@@ -48,14 +48,14 @@ returns-in_err-file_of-clause-blames g c =
     rw (exit.1, exit.2) (blames_same _ _ (c.in_ok-path.ensures.0
     ∙ ap (joined c.args.folder.now) c.as_str-2.ensures) _ c.in_err-file_of.ensures.blames)
 
-pub returns-in_err-file_of-clause-frame : goal.returns-in_err-file_of-clause-frame
-returns-in_err-file_of-clause-frame g c =
+pub returns-in_err-file_of-clause-leaves : goal.returns-in_err-file_of-clause-leaves
+returns-in_err-file_of-clause-leaves g c =
     let exit = err_from_is_err_and c.from_residual-in_err-file_of.result c.from_residual-in_err-file_of.ensures.1 in
-    let frame = c.in_ok-found.ensures.frame in
+    let left = c.in_ok-found.ensures.leaves in
     rw (exit.1, exit.2) (record {
-      files = frame.files;
-      runs = frame.runs;
-      children = frame.children;
-      counts = counts_after (Option EnvFile) (Err _) _ _ frame.counts c.in_err-file_of.ensures.files;
+      files = left.files;
+      runs = left.runs;
+      children = left.children;
+      counts = counts_after (Option EnvFile) (Err _) _ _ left.counts c.in_err-file_of.ensures.files;
       cause = names_none _ _ c.in_err-file_of.ensures.files;
     })

@@ -37,10 +37,10 @@ loop-name-preserved g c =
     (drop (c.loop-name.name-index + 1) c.args.names.now) c.args.names.now in
     record {
       names = later_names _ _ _ next c.loop-name.invariant.names;
-      tree = c.in_ok-found.ensures.frame.files ∙ c.loop-name.invariant.tree;
-      files = c.in_ok-found.ensures.frame.counts ∙ c.loop-name.invariant.files;
-      children = c.in_ok-found.ensures.frame.children ∙ c.loop-name.invariant.children;
-      runs = c.in_ok-found.ensures.frame.runs ∙ c.loop-name.invariant.runs;
+      tree = c.in_ok-found.ensures.leaves.files ∙ c.loop-name.invariant.tree;
+      files = c.in_ok-found.ensures.leaves.counts ∙ c.loop-name.invariant.files;
+      children = c.in_ok-found.ensures.leaves.children ∙ c.loop-name.invariant.children;
+      runs = c.in_ok-found.ensures.leaves.runs ∙ c.loop-name.invariant.runs;
       misused = c.in_ok-found.ensures.misused ∙ c.loop-name.invariant.misused;
       leaves = subst P (sym c.in_ok-push_found.ensures)
           (moves c.args.naming c.args.folder.now c.name-item.result

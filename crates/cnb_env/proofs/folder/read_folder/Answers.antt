@@ -32,7 +32,7 @@ returns-in_err-files-clause-reads g c =
     let exit = err_from_is_err_and c.from_residual-in_err-files.result c.from_residual-in_err-files.ensures.1 in
     rw (exit.1, exit.2) (answers_where read_cause _ _ (λ (files : Tree). names_at files folder)
     (λ (names : List (List ℕ)) (files : Tree). files_of c.args.naming files folder names)
-    c.as_slice.result.now (Err _) c.in_ok-names.ensures.frame.files names c.in_err-files.ensures.reads)
+    c.as_slice.result.now (Err _) c.in_ok-names.ensures.leaves.files names c.in_err-files.ensures.reads)
 
 pub returns-clause-reads : goal.returns-clause-reads
 returns-clause-reads g c =
@@ -42,5 +42,5 @@ returns-clause-reads g c =
     let names = subst N (sym c.as_slice.ensures) c.in_ok-names.ensures.reads in
     answers_where read_cause _ _ (λ (files : Tree). names_at files folder)
     (λ (names : List (List ℕ)) (files : Tree). files_of c.args.naming files folder names)
-    c.as_slice.result.now (Ok c.in_ok-files.files) c.in_ok-names.ensures.frame.files names
+    c.as_slice.result.now (Ok c.in_ok-files.files) c.in_ok-names.ensures.leaves.files names
     c.in_ok-files.ensures.reads

@@ -35,7 +35,7 @@ returns-in_err-apply_phase_folders-clause-reads g c =
     let exit = err_from_is_err_and c.from_residual-in_err-apply_phase_folders.result
     c.from_residual-in_err-apply_phase_folders.ensures.1 in
     rw (exit.1, exit.2) (then_refused folder_applied (joined layer (codes "env")) c.args.env.now
-    (phase_folders c.args.phase.now layer) _ _ _ _ c.in_ok-apply_folder.ensures.frame.files
+    (phase_folders c.args.phase.now layer) _ _ _ _ c.in_ok-apply_folder.ensures.leaves.files
     c.in_ok-apply_folder.ensures.reads c.in_err-apply_phase_folders.ensures.reads)
 
 pub returns-in_err-apply_phase_folders-clause-misused : goal.returns-in_err-apply_phase_folders-clause-misused
@@ -43,14 +43,14 @@ returns-in_err-apply_phase_folders-clause-misused g c =
     let layer = c.args.layer.now in
     both (λ (files : Tree). is_fit_folder (joined layer (codes "env")) files)
     (λ (files : Tree). are_fit_folders files (phase_folders c.args.phase.now layer)) _ _ _ _ _
-    c.in_ok-apply_folder.ensures.frame.files c.in_ok-apply_folder.ensures.misused
+    c.in_ok-apply_folder.ensures.leaves.files c.in_ok-apply_folder.ensures.misused
     c.in_err-apply_phase_folders.ensures.misused
 
 pub returns-clause-reads : goal.returns-clause-reads
 returns-clause-reads g c =
     let layer = c.args.layer.now in
     then_later folder_applied (joined layer (codes "env")) c.args.env.now
-    (phase_folders c.args.phase.now layer) _ _ _ (Ok _) c.in_ok-apply_folder.ensures.frame.files
+    (phase_folders c.args.phase.now layer) _ _ _ (Ok _) c.in_ok-apply_folder.ensures.leaves.files
     c.in_ok-apply_folder.ensures.reads c.in_ok-apply_phase_folders.ensures.reads
 
 pub returns-clause-misused : goal.returns-clause-misused
@@ -58,5 +58,5 @@ returns-clause-misused g c =
     let layer = c.args.layer.now in
     both (λ (files : Tree). is_fit_folder (joined layer (codes "env")) files)
     (λ (files : Tree). are_fit_folders files (phase_folders c.args.phase.now layer)) _ _ _ _ _
-    c.in_ok-apply_folder.ensures.frame.files c.in_ok-apply_folder.ensures.misused
+    c.in_ok-apply_folder.ensures.leaves.files c.in_ok-apply_folder.ensures.misused
     c.in_ok-apply_phase_folders.ensures.misused

@@ -35,10 +35,10 @@ loop-layer-preserved g c =
     let next = next_item c.args.layers.now c.loop-layer.layer-index c.layer-item.result c.loop-layer-test.true
     c.layer-item.is in
     record {
-      tree = c.in_ok-apply_layer.ensures.frame.files ∙ c.loop-layer.invariant.tree;
-      files = c.in_ok-apply_layer.ensures.frame.counts ∙ c.loop-layer.invariant.files;
-      children = c.in_ok-apply_layer.ensures.frame.children ∙ c.loop-layer.invariant.children;
-      runs = c.in_ok-apply_layer.ensures.frame.runs ∙ c.loop-layer.invariant.runs;
+      tree = c.in_ok-apply_layer.ensures.leaves.files ∙ c.loop-layer.invariant.tree;
+      files = c.in_ok-apply_layer.ensures.leaves.counts ∙ c.loop-layer.invariant.files;
+      children = c.in_ok-apply_layer.ensures.leaves.children ∙ c.loop-layer.invariant.children;
+      runs = c.in_ok-apply_layer.ensures.leaves.runs ∙ c.loop-layer.invariant.runs;
       misused = λ now h. c.loop-layer.invariant.misused now
           (rest_fits (is_fit_layer phase) c.layer-item.result later _ next _ _ c.loop-layer.invariant.tree _ _ now
           c.in_ok-apply_layer.ensures.misused h);

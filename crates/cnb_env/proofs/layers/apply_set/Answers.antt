@@ -32,7 +32,7 @@ returns-in_err-apply_layers-clause-reads g c =
     c.as_slice-layers.ensures
     (told_then_refused _ _ (λ (files : Tree). with_paths (when_of phase) files layers c.args.env.now)
     (λ (files : Tree) (env : List Variable). each (layer_applied phase files) layers env) _ _
-    c.in_ok-put_paths.ensures.frame.files
+    c.in_ok-put_paths.ensures.leaves.files
     (same_when (g.W.World.tree c.args.world.now) _ _ layers c.args.env.now _ c.when_of.ensures
     c.in_ok-put_paths.ensures.found) c.in_err-apply_layers.ensures.reads))
 
@@ -44,6 +44,6 @@ returns-clause-reads g c =
     c.args.layers.now c.as_slice-layers.ensures
     (told_then _ _ (λ (files : Tree). with_paths (when_of phase) files layers c.args.env.now)
     (λ (files : Tree) (env : List Variable). each (layer_applied phase files) layers env) _
-    (Ok _) c.in_ok-put_paths.ensures.frame.files
+    (Ok _) c.in_ok-put_paths.ensures.leaves.files
     (same_when (g.W.World.tree c.args.world.now) _ _ layers c.args.env.now _ c.when_of.ensures
     c.in_ok-put_paths.ensures.found) c.in_ok-apply_layers.ensures.reads)

@@ -35,10 +35,10 @@ loop-layers-preserved g c =
     let next = next_item c.args.sets.now c.loop-layers.layers-index c.layers-item.result c.loop-layers-test.true
     c.layers-item.is in
     record {
-      tree = c.in_ok-apply_set.ensures.frame.files ∙ c.loop-layers.invariant.tree;
-      files = c.in_ok-apply_set.ensures.frame.counts ∙ c.loop-layers.invariant.files;
-      children = c.in_ok-apply_set.ensures.frame.children ∙ c.loop-layers.invariant.children;
-      runs = c.in_ok-apply_set.ensures.frame.runs ∙ c.loop-layers.invariant.runs;
+      tree = c.in_ok-apply_set.ensures.leaves.files ∙ c.loop-layers.invariant.tree;
+      files = c.in_ok-apply_set.ensures.leaves.counts ∙ c.loop-layers.invariant.files;
+      children = c.in_ok-apply_set.ensures.leaves.children ∙ c.loop-layers.invariant.children;
+      runs = c.in_ok-apply_set.ensures.leaves.runs ∙ c.loop-layers.invariant.runs;
       misused = λ now h. c.loop-layers.invariant.misused now
           (rest_fits (is_fit_set phase) c.layers-item.result later _ next _ _ c.loop-layers.invariant.tree _ _ now
           c.in_ok-apply_set.ensures.misused h);

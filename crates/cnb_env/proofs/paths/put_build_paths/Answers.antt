@@ -17,11 +17,11 @@ returns-clause-found g c =
     let libraries : Tree → List Variable → Type 0 = λ files env. include files
     (with_libraries (folders_at files layers (codes "lib")) env) in
     found_then (λ files. with_folders (codes "PATH") (codes "bin") layers files c.args.env.now) libraries _ _ _
-    c.in_ok-put_folders.ensures.frame.files c.in_ok-put_folders.ensures.found
+    c.in_ok-put_folders.ensures.leaves.files c.in_ok-put_folders.ensures.found
     (found_then (λ files. with_libraries (folders_at files layers (codes "lib")) c.put_folders.new.env) include _
-    _ _ c.in_ok-lib.ensures.frame.files
+    _ _ c.in_ok-lib.ensures.leaves.files
     (libraries_found layers _ lib c.put_folders.new.env c.put_front-2.new.env c.in_ok-lib.ensures.found
     (c.in_ok-put_front-2.ensures ∙ ap (with_front (codes "LIBRARY_PATH") lib) c.in_ok-put_front.ensures))
     (found_then (λ files. with_folders (codes "CPATH") (codes "include") layers files c.put_front-2.new.env)
-    pkgconfig _ _ _ c.in_ok-put_folders-2.ensures.frame.files c.in_ok-put_folders-2.ensures.found
+    pkgconfig _ _ _ c.in_ok-put_folders-2.ensures.leaves.files c.in_ok-put_folders-2.ensures.found
     c.put_folders-3.ensures.found))

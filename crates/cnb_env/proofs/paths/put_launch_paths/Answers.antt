@@ -9,4 +9,4 @@ returns-clause-found g c =
     found_then (λ files. with_folders (codes "PATH") (codes "bin") layers files c.args.env.now)
     (λ files env. OnOk c.put_folders-2.result (c.put_folders-2.new.env
     ≡ with_folders (codes "LD_LIBRARY_PATH") (codes "lib") layers files env)) _ _ _
-    c.in_ok-put_folders.ensures.frame.files c.in_ok-put_folders.ensures.found c.put_folders-2.ensures.found
+    c.in_ok-put_folders.ensures.leaves.files c.in_ok-put_folders.ensures.found c.put_folders-2.ensures.found

@@ -7,7 +7,7 @@ use Rattle.cnb_world.specs.Tree.{Tree}
 use Rattle.cnb_env.proofs.EachLemmas.{next_item}
 use Rattle.cnb_env.specs.Files.{is_fit_folder}
 use Rattle.cnb_launch.specs.Folders.{AreWithin, are_fit}
-use Rattle.cnb_launch.proofs.FolderLemmas.{Leaves, all_found, moves, nothing_found, stops, within_more}
+use Rattle.cnb_launch.proofs.FolderLemmas.{Leaves, all_found, among_folders, moves, nothing_found, stops, within_more}
 use Rattle.cnb_launch.proofs.folders.all_in.Goals as goal
 
 pub loop-folder-init : goal.loop-folder-init
@@ -29,10 +29,10 @@ loop-folder-preserved g c =
     let P : List (List (List ℕ)) → Type 0 = λ all. Leaves c.args.wanted
     (g.W.World.tree c.args.world.now) all later c.args.folders.now in
     record {
-      tree = c.in_ok-paths.ensures.frame.files ∙ c.loop-folder.invariant.tree;
-      files = c.in_ok-paths.ensures.frame.counts ∙ c.loop-folder.invariant.files;
-      children = c.in_ok-paths.ensures.frame.children ∙ c.loop-folder.invariant.children;
-      runs = c.in_ok-paths.ensures.frame.runs ∙ c.loop-folder.invariant.runs;
+      tree = c.in_ok-paths.ensures.leaves.files ∙ c.loop-folder.invariant.tree;
+      files = c.in_ok-paths.ensures.leaves.counts ∙ c.loop-folder.invariant.files;
+      children = c.in_ok-paths.ensures.leaves.children ∙ c.loop-folder.invariant.children;
+      runs = c.in_ok-paths.ensures.leaves.runs ∙ c.loop-folder.invariant.runs;
       misused = λ now h. c.loop-folder.invariant.misused now
           (rest_fits (λ (files : Tree) (folder : List ℕ). is_fit_folder folder files) c.folder-item.result later _
           next _ _ c.loop-folder.invariant.tree _ _ now c.in_ok-paths.ensures.misused h);
@@ -53,6 +53,12 @@ returns-in_err-paths-clause-reads g c =
     rw (exit.1, exit.2) (stops c.args.wanted c.folder-item.result later _ c.args.folders.now next
     c.loop-folder.all _ _ _ c.loop-folder.invariant.tree c.in_err-paths.ensures.reads
     c.loop-folder.invariant.left)
+
+pub returns-in_err-paths-clause-blames : goal.returns-in_err-paths-clause-blames
+returns-in_err-paths-clause-blames g c =
+    let exit = err_from_is_err_and c.from_residual.result c.from_residual.ensures.1 in
+    rw (exit.1, exit.2) (among_folders c.args.folders.now c.loop-folder.folder-index c.folder-item.result
+    c.loop-folder-test.true c.folder-item.is _ c.in_err-paths.ensures.blames)
 
 pub returns-in_err-paths-clause-misused : goal.returns-in_err-paths-clause-misused
 returns-in_err-paths-clause-misused g c =

@@ -10,8 +10,8 @@ returns-in_err-doc g c =
     let exit = err_from_is_err_and c.from_residual.result c.from_residual.ensures.1 in
     rw (exit.1, exit.2) (record {
       step = ended _ _ _ _ _
-          (mapped_fault _ _ _ _ _ (read_step g.W.World _ _ _ _ _ c.in_err-doc.ensures.reads
-          c.in_err-doc.ensures.frame c.in_err-doc.ensures.misused));
+          (mapped_fault _ _ _ _ _ (read_step g.W.World _ _ _ _ _ _ c.in_err-doc.ensures.reads
+          c.in_err-doc.ensures.leaves c.in_err-doc.ensures.blames c.in_err-doc.ensures.misused));
     })
 
 pub returns : goal.returns
@@ -19,6 +19,6 @@ unfolding prepares
 returns g c =
     record {
       step = went _ _ _ _ _ _ _ (mapped _ _ _ _ _
-          (read_step g.W.World _ _ _ _ _ c.in_ok-doc.ensures.reads c.in_ok-doc.ensures.frame
+          (read_step g.W.World _ _ _ _ _ _ c.in_ok-doc.ensures.reads c.in_ok-doc.ensures.leaves tt
           c.in_ok-doc.ensures.misused)) c.prepare_of.ensures.step;
     }

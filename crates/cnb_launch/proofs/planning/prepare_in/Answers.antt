@@ -15,7 +15,8 @@ returns-in_err-start g c =
       step = ended _ _ _ _ _
           (mapped_fault _ _ _ _ _ (env_refused g.W.World c.args.chosen.kind
           (option_copied c.as_ref.result) c.args.sets.now c.args.env.now _ _ _ c.as_ref.ensures.value
-          c.in_err-start.ensures.reads c.in_err-start.ensures.frame c.in_err-start.ensures.misused));
+          c.in_err-start.ensures.reads c.in_err-start.ensures.leaves c.in_err-start.ensures.blames
+          c.in_err-start.ensures.misused));
     })
 
 pub returns-in_err-execs : goal.returns-in_err-execs
@@ -27,9 +28,9 @@ returns-in_err-execs g c =
           (mapped _ _ _ _ _ (env_step g.W.World c.args.chosen.kind
           (option_copied c.as_ref.result) c.args.sets.now c.args.env.now
           (Ok c.in_ok-start.start) _ _ c.as_ref.ensures.value c.in_ok-start.ensures.reads
-          c.in_ok-start.ensures.frame c.in_ok-start.ensures.misused))
-          (ended _ _ _ _ _ (mapped_fault _ _ _ _ _ (read_step g.W.World _ _ _ _ _ c.in_err-execs.ensures.reads
-          c.in_err-execs.ensures.frame c.in_err-execs.ensures.misused)));
+          c.in_ok-start.ensures.leaves tt c.in_ok-start.ensures.misused))
+          (ended _ _ _ _ _ (mapped_fault _ _ _ _ _ (read_step g.W.World _ _ _ _ _ _ c.in_err-execs.ensures.reads
+          c.in_err-execs.ensures.leaves c.in_err-execs.ensures.blames c.in_err-execs.ensures.misused)));
     })
 
 pub returns-in_err-prepared_of : goal.returns-in_err-prepared_of
@@ -42,9 +43,9 @@ returns-in_err-prepared_of g c =
           (mapped _ _ _ _ _ (env_step g.W.World c.args.chosen.kind
           (option_copied c.as_ref.result) c.args.sets.now c.args.env.now
           (Ok c.in_ok-start.start) _ _ c.as_ref.ensures.value c.in_ok-start.ensures.reads
-          c.in_ok-start.ensures.frame c.in_ok-start.ensures.misused))
-          (went _ _ _ _ _ _ _ (mapped _ _ _ _ _ (read_step g.W.World _ _ _ _ _ c.in_ok-execs.ensures.reads
-          c.in_ok-execs.ensures.frame c.in_ok-execs.ensures.misused)) (no_memory _ _ _ Memory refl));
+          c.in_ok-start.ensures.leaves tt c.in_ok-start.ensures.misused))
+          (went _ _ _ _ _ _ _ (mapped _ _ _ _ _ (read_step g.W.World _ _ _ _ _ _ c.in_ok-execs.ensures.reads
+          c.in_ok-execs.ensures.leaves tt c.in_ok-execs.ensures.misused)) (no_memory _ _ _ Memory refl));
     })
 
 pub returns : goal.returns
@@ -54,8 +55,8 @@ returns g c =
       step = went _ _ _ _ _ _ _ (mapped _ _ _ _ _
           (env_step g.W.World c.args.chosen.kind (option_copied c.as_ref.result) c.args.sets.now c.args.env.now
           (Ok c.in_ok-start.start) _ _ c.as_ref.ensures.value c.in_ok-start.ensures.reads
-          c.in_ok-start.ensures.frame c.in_ok-start.ensures.misused))
-          (went _ _ _ _ _ _ _ (mapped _ _ _ _ _ (read_step g.W.World _ _ _ _ _ c.in_ok-execs.ensures.reads
-          c.in_ok-execs.ensures.frame c.in_ok-execs.ensures.misused))
+          c.in_ok-start.ensures.leaves tt c.in_ok-start.ensures.misused))
+          (went _ _ _ _ _ _ _ (mapped _ _ _ _ _ (read_step g.W.World _ _ _ _ _ _ c.in_ok-execs.ensures.reads
+          c.in_ok-execs.ensures.leaves tt c.in_ok-execs.ensures.misused))
           (given _ _ _ _ (sym (ap Ok c.in_ok-prepared_of.ensures))));
     }

@@ -19,8 +19,8 @@ returns-in_err-sets g c =
     let exit = err_from_is_err_and c.from_residual-in_err-sets.result c.from_residual-in_err-sets.ensures.1 in
     rw (exit.1, exit.2) (record {
       step = went _ _ _ _ _ _ _ (given _ _ _ _ c.in_ok-chosen.ensures.answer)
-          (ended _ _ _ _ _ (mapped_fault _ _ _ _ _ (read_step g.W.World _ _ _ _ _ c.in_err-sets.ensures.reads
-          c.in_err-sets.ensures.frame c.in_err-sets.ensures.misused)));
+          (ended _ _ _ _ _ (mapped_fault _ _ _ _ _ (read_step g.W.World _ _ _ _ _ _ c.in_err-sets.ensures.reads
+          c.in_err-sets.ensures.leaves c.in_err-sets.ensures.blames c.in_err-sets.ensures.misused)));
     })
 
 pub returns : goal.returns
@@ -28,6 +28,6 @@ unfolding prepares_of
 returns g c =
     record {
       step = went _ _ _ _ _ _ _ (given _ _ _ _ c.in_ok-chosen.ensures.answer)
-          (went _ _ _ _ _ _ _ (mapped _ _ _ _ _ (read_step g.W.World _ _ _ _ _ c.in_ok-sets.ensures.reads
-          c.in_ok-sets.ensures.frame c.in_ok-sets.ensures.misused)) c.prepare_in.ensures.step);
+          (went _ _ _ _ _ _ _ (mapped _ _ _ _ _ (read_step g.W.World _ _ _ _ _ _ c.in_ok-sets.ensures.reads
+          c.in_ok-sets.ensures.leaves tt c.in_ok-sets.ensures.misused)) c.prepare_in.ensures.step);
     }

@@ -25,8 +25,8 @@ returns-in_err-absent g c =
     let exit = err_from_is_err_and c.from_residual.result c.from_residual.ensures.1 in
     rw (exit.1, exit.2) (record {
       steps = ended _ _ _ _ _
-          (mapped_fault _ _ _ _ _ (read_step g.W.World (λ files. true) _ _ _ _ c.in_err-absent.ensures.reads
-          c.in_err-absent.ensures.frame (allowed_by (λ files. true)
+          (mapped_fault _ _ _ _ _ (read_step g.W.World _ (λ files. true) _ _ _ _ c.in_err-absent.ensures.reads
+          c.in_err-absent.ensures.leaves c.in_err-absent.ensures.blames (allowed_by (λ files. true)
           (g.W.World.tree c.args.world.now) _ _ c.in_err-absent.ensures.misused)));
     })
 
@@ -36,8 +36,8 @@ returns-in_err-if_absent g c =
     let exit = err_from_is_err_and c.from_residual-in_err-if_absent.result c.from_residual-in_err-if_absent.ensures.1 in
     rw (exit.1, exit.2) (record {
       steps = went _ _ _ _ _ _ _
-          (mapped _ _ _ _ _ (read_step g.W.World (λ files. true) _ _ _ _ c.in_ok-absent.ensures.reads
-          c.in_ok-absent.ensures.frame (allowed_by (λ files. true)
+          (mapped _ _ _ _ _ (read_step g.W.World _ (λ files. true) _ _ _ _ c.in_ok-absent.ensures.reads
+          c.in_ok-absent.ensures.leaves tt (allowed_by (λ files. true)
           (g.W.World.tree c.args.world.now) _ _ c.in_ok-absent.ensures.misused)))
           (ended _ _ _ _ _ (given_fault _ _ _ _ c.in_err-if_absent.ensures.answer
           c.in_err-if_absent.ensures.given));
@@ -49,8 +49,8 @@ returns-in_err-lay_rows g c =
     let exit = err_from_is_err_and c.from_residual-in_err-lay_rows.result c.from_residual-in_err-lay_rows.ensures.1 in
     rw (exit.1, exit.2) (record {
       steps = went _ _ _ _ _ _ _
-          (mapped _ _ _ _ _ (read_step g.W.World (λ files. true) _ _ _ _ c.in_ok-absent.ensures.reads
-          c.in_ok-absent.ensures.frame (allowed_by (λ files. true)
+          (mapped _ _ _ _ _ (read_step g.W.World _ (λ files. true) _ _ _ _ c.in_ok-absent.ensures.reads
+          c.in_ok-absent.ensures.leaves tt (allowed_by (λ files. true)
           (g.W.World.tree c.args.world.now) _ _ c.in_ok-absent.ensures.misused)))
           (went _ _ _ _ _ _ _ (given _ _ _ _ c.in_ok-if_absent.ensures.answer)
           (ended _ _ _ _ _ (rows_as _ _ _ _ _ _ (Err _) c.as_slice.ensures c.in_err-lay_rows.ensures.step)));
@@ -61,7 +61,7 @@ unfolding lays_image
 returns g c =
     record {
       steps = went _ _ _ _ _ _ _ (mapped _ _ _ _ _
-          (read_step g.W.World (λ files. true) _ _ _ _ c.in_ok-absent.ensures.reads c.in_ok-absent.ensures.frame
+          (read_step g.W.World _ (λ files. true) _ _ _ _ c.in_ok-absent.ensures.reads c.in_ok-absent.ensures.leaves tt
           (allowed_by (λ files. true) (g.W.World.tree c.args.world.now) _ _ c.in_ok-absent.ensures.misused)))
           (went _ _ _ _ _ _ _ (given _ _ _ _ c.in_ok-if_absent.ensures.answer)
           (went _ _ _ _ _ _ _ (rows_as _ _ _ _ _ _ (Ok _) c.as_slice.ensures c.in_ok-lay_rows.ensures.step)

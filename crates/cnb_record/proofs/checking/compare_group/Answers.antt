@@ -9,7 +9,7 @@ pub returns-in_err-path : goal.returns-in_err-path
 unfolding compares_group matches reads_group
 returns-in_err-path g c =
     let exit = err_from_is_err_and c.from_residual.result c.from_residual.ensures.1 in
-    rw (exit.1, exit.2) (record { step = ended _ _ _ _ _ (ended _ _ _ _ _ (not_read _ _ _)) })
+    rw (exit.1, exit.2) (record { step = ended _ _ _ _ _ (ended _ _ _ _ _ (not_read _ _ _ _)) })
 
 pub returns-in_err-found : goal.returns-in_err-found
 unfolding compares_group matches reads_group

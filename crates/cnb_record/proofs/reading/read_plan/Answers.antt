@@ -33,14 +33,14 @@ returns-clause-reads g c = read_then (λ (files : Tree). document_at files c.arg
     (needed plan_in c.args.path.now) _ c.in_ok-found.found (Ok c.in_ok-plan.plan) c.in_ok-found.ensures.reads
     c.in_ok-plan.ensures.reads
 
-pub returns-in_err-plan-clause-frame : goal.returns-in_err-plan-clause-frame
-returns-in_err-plan-clause-frame g c =
+pub returns-in_err-plan-clause-leaves : goal.returns-in_err-plan-clause-leaves
+returns-in_err-plan-clause-leaves g c =
     let exit = err_from_is_err_and c.from_residual-in_err-plan.result c.from_residual-in_err-plan.ensures.1 in
-    let frame = c.in_ok-found.ensures.frame in
+    let left = c.in_ok-found.ensures.leaves in
     rw (exit.1, exit.2) (record {
-      files = frame.files;
-      runs = frame.runs;
-      children = frame.children;
-      counts = counts_after (List PlanEntry) (Err _) _ _ frame.counts c.in_err-plan.ensures.files;
+      files = left.files;
+      runs = left.runs;
+      children = left.children;
+      counts = counts_after (List PlanEntry) (Err _) _ _ left.counts c.in_err-plan.ensures.files;
       cause = names_none _ _ c.in_err-plan.ensures.files;
     })

@@ -22,15 +22,15 @@ returns-in_err-value-clause-reads g c =
     (found_of g.F.TableForm.value_in c.args.path.now) _ c.in_ok-found.found
     (Err c.in_err-value.field-0.0) c.in_ok-found.ensures.reads c.in_err-value.ensures.reads)
 
-pub returns-in_err-value-clause-frame : goal.returns-in_err-value-clause-frame
-returns-in_err-value-clause-frame g c =
+pub returns-in_err-value-clause-leaves : goal.returns-in_err-value-clause-leaves
+returns-in_err-value-clause-leaves g c =
     let exit = err_from_is_err_and c.from_residual-in_err-value.result c.from_residual-in_err-value.ensures.1 in
     rw (exit.1, exit.2) (record {
-      files = c.in_ok-found.ensures.frame.files;
-      runs = c.in_ok-found.ensures.frame.runs;
-      children = c.in_ok-found.ensures.frame.children;
+      files = c.in_ok-found.ensures.leaves.files;
+      runs = c.in_ok-found.ensures.leaves.runs;
+      children = c.in_ok-found.ensures.leaves.children;
       counts = counts_after g.row.F-Value.Denot (Err c.in_err-value.field-0.0) _ _
-          c.in_ok-found.ensures.frame.counts c.in_err-value.ensures.files;
+          c.in_ok-found.ensures.leaves.counts c.in_err-value.ensures.files;
       cause = names_none c.in_err-value.field-0.0 _ c.in_err-value.ensures.files;
     })
 

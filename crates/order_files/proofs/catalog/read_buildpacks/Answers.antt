@@ -70,10 +70,10 @@ loop-id_folder-preserved g c =
       names = names.2;
       vacant = later_vacant_ids id_folder c.loop-id_folder.catalog _ c.in_ok-catalog.ensures.others later names.1
           vacant.1;
-      tree = c.in_ok-catalog.ensures.frame.files ∙ c.loop-id_folder.invariant.tree;
-      files = c.in_ok-catalog.ensures.frame.counts ∙ c.loop-id_folder.invariant.files;
-      children = c.in_ok-catalog.ensures.frame.children ∙ c.loop-id_folder.invariant.children;
-      runs = c.in_ok-catalog.ensures.frame.runs ∙ c.loop-id_folder.invariant.runs;
+      tree = c.in_ok-catalog.ensures.leaves.files ∙ c.loop-id_folder.invariant.tree;
+      files = c.in_ok-catalog.ensures.leaves.counts ∙ c.loop-id_folder.invariant.files;
+      children = c.in_ok-catalog.ensures.leaves.children ∙ c.loop-id_folder.invariant.children;
+      runs = c.in_ok-catalog.ensures.leaves.runs ∙ c.loop-id_folder.invariant.runs;
       misused = λ now h. c.loop-id_folder.invariant.misused now
           (rest_fits (λ (files : Tree). is_fit_buildpack files buildpacks) id_folder later _ next _ _
           c.loop-id_folder.invariant.tree _ _ now c.in_ok-catalog.ensures.misused h);

@@ -32,7 +32,7 @@ returns-in_err-catalog-clause-reads g c =
     let exit = err_from_is_err_and c.from_residual-in_err-catalog.result c.from_residual-in_err-catalog.ensures.1 in
     rw (exit.1, exit.2) (answers_where read_cause _ _ (λ (files : Tree). names_at files buildpacks)
     (λ (names : List (List ℕ)) (files : Tree). buildpacks_in files buildpacks names) c.as_slice.result.now
-    (Err _) c.in_ok-id_folders.ensures.frame.files names c.in_err-catalog.ensures.reads)
+    (Err _) c.in_ok-id_folders.ensures.leaves.files names c.in_err-catalog.ensures.reads)
 
 pub returns-in_err-catalog-clause-misused : goal.returns-in_err-catalog-clause-misused
 unfolding is_fit_catalog
@@ -45,7 +45,7 @@ returns-in_err-catalog-clause-misused g c =
     (λ (files : Tree). list_all (is_fit_buildpack files buildpacks) (names_in files buildpacks)) _ _ _ _ _
     refl c.in_ok-id_folders.ensures.misused
     (names_fit (λ (files : Tree) (names : List (List ℕ)). list_all (is_fit_buildpack files buildpacks) names)
-    buildpacks c.as_slice.result.now _ _ _ _ c.in_ok-id_folders.ensures.frame.files
+    buildpacks c.as_slice.result.now _ _ _ _ c.in_ok-id_folders.ensures.leaves.files
     (names_told buildpacks c.as_slice.result.now _ names) c.in_err-catalog.ensures.misused)
 
 pub returns-clause-reads : goal.returns-clause-reads
@@ -57,7 +57,7 @@ returns-clause-reads g c =
     let names = subst N (sym c.as_slice.ensures) c.in_ok-id_folders.ensures.reads in
     answers_where read_cause _ _ (λ (files : Tree). names_at files buildpacks)
     (λ (names : List (List ℕ)) (files : Tree). buildpacks_in files buildpacks names) c.as_slice.result.now
-    (Ok c.in_ok-catalog.catalog) c.in_ok-id_folders.ensures.frame.files names c.in_ok-catalog.ensures.reads
+    (Ok c.in_ok-catalog.catalog) c.in_ok-id_folders.ensures.leaves.files names c.in_ok-catalog.ensures.reads
 
 pub returns-clause-misused : goal.returns-clause-misused
 unfolding is_fit_catalog
@@ -70,5 +70,5 @@ returns-clause-misused g c =
     (λ (files : Tree). list_all (is_fit_buildpack files buildpacks) (names_in files buildpacks)) _ _ _ _ _
     refl c.in_ok-id_folders.ensures.misused
     (names_fit (λ (files : Tree) (names : List (List ℕ)). list_all (is_fit_buildpack files buildpacks) names)
-    buildpacks c.as_slice.result.now _ _ _ _ c.in_ok-id_folders.ensures.frame.files
+    buildpacks c.as_slice.result.now _ _ _ _ c.in_ok-id_folders.ensures.leaves.files
     (names_told buildpacks c.as_slice.result.now _ names) c.in_ok-catalog.ensures.misused)

@@ -31,7 +31,7 @@ returns-in_err-versions-clause-misused g c =
     let there = subst (IsFolder (g.W.World.tree c.args.world.now) place) c.if-not-branch.false
     c.in_ok-is_folder.ensures.reads in
     no_misuse (λ (files : Tree). is_fit_buildpack files c.args.buildpacks.now c.args.id_folder.now) _ _ _
-    (listable place _ _ _ _ c.in_ok-is_folder.ensures.frame.files there c.in_err-versions.ensures.misused
+    (listable place _ _ _ _ c.in_ok-is_folder.ensures.leaves.files there c.in_err-versions.ensures.misused
     ∙ c.in_ok-is_folder.ensures.misused)
 
 pub returns-in_err-catalog-clause-reads : goal.returns-in_err-catalog-clause-reads
@@ -47,11 +47,11 @@ returns-in_err-catalog-clause-reads g c =
     let exit = err_from_is_err_and c.from_residual-in_err-catalog.result c.from_residual-in_err-catalog.ensures.1 in
     rw (exit.1, exit.2) (buildpack_refused_from c.args.buildpacks.now c.args.id_folder.now place same c.args.catalog _ _
     (folder_refused place (λ (files : Tree). versions_in files place c.args.id_folder.now (names_in files place))
-    c.args.catalog _ _ _ c.in_ok-is_folder.ensures.frame.files there
+    c.args.catalog _ _ _ c.in_ok-is_folder.ensures.leaves.files there
     (answers_where read_cause _ _ (λ (files : Tree). told (names_in files place))
     (λ (names : List (List ℕ)) (files : Tree). followed_by (Ok c.args.catalog)
     (versions_in files place c.args.id_folder.now names)) c.as_slice.result.now
-    (Err _) c.in_ok-versions.ensures.frame.files names c.in_err-catalog.ensures.reads)))
+    (Err _) c.in_ok-versions.ensures.leaves.files names c.in_err-catalog.ensures.reads)))
 
 pub returns-in_err-catalog-clause-misused : goal.returns-in_err-catalog-clause-misused
 returns-in_err-catalog-clause-misused g c =
@@ -65,11 +65,11 @@ returns-in_err-catalog-clause-misused g c =
     c.in_ok-versions.ensures.reads) in
     buildpack_fits c.args.buildpacks.now c.args.id_folder.now place same _ _ _
     (folder_fits place (λ (files : Tree). are_fit_versions files place (names_in files place)) _ _ _ _ _
-    c.in_ok-is_folder.ensures.frame.files
-    (listable place _ _ _ _ c.in_ok-is_folder.ensures.frame.files there c.in_ok-versions.ensures.misused
+    c.in_ok-is_folder.ensures.leaves.files
+    (listable place _ _ _ _ c.in_ok-is_folder.ensures.leaves.files there c.in_ok-versions.ensures.misused
     ∙ c.in_ok-is_folder.ensures.misused) there
     (names_fit (λ (files : Tree) (names : List (List ℕ)). are_fit_versions files place names) place
-    c.as_slice.result.now _ _ _ _ c.in_ok-versions.ensures.frame.files names
+    c.as_slice.result.now _ _ _ _ c.in_ok-versions.ensures.leaves.files names
     c.in_err-catalog.ensures.misused))
 
 pub returns-clause-reads : goal.returns-clause-reads
@@ -85,11 +85,11 @@ returns-clause-reads g c =
     buildpack_from c.args.buildpacks.now c.args.id_folder.now place same c.args.catalog
     (g.W.World.tree c.args.world.now) (Ok c.in_ok-catalog.catalog)
     (folder_read place (λ (files : Tree). versions_in files place c.args.id_folder.now (names_in files place))
-    c.args.catalog _ _ (Ok c.in_ok-catalog.catalog) c.in_ok-is_folder.ensures.frame.files there
+    c.args.catalog _ _ (Ok c.in_ok-catalog.catalog) c.in_ok-is_folder.ensures.leaves.files there
     (answers_where read_cause _ _ (λ (files : Tree). told (names_in files place))
     (λ (names : List (List ℕ)) (files : Tree). followed_by (Ok c.args.catalog)
     (versions_in files place c.args.id_folder.now names)) c.as_slice.result.now
-    (Ok c.in_ok-catalog.catalog) c.in_ok-versions.ensures.frame.files names c.in_ok-catalog.ensures.reads))
+    (Ok c.in_ok-catalog.catalog) c.in_ok-versions.ensures.leaves.files names c.in_ok-catalog.ensures.reads))
 
 pub returns-clause-misused : goal.returns-clause-misused
 returns-clause-misused g c =
@@ -103,8 +103,8 @@ returns-clause-misused g c =
     c.in_ok-versions.ensures.reads) in
     buildpack_fits c.args.buildpacks.now c.args.id_folder.now place same _ _ _
     (folder_fits place (λ (files : Tree). are_fit_versions files place (names_in files place)) _ _ _ _ _
-    c.in_ok-is_folder.ensures.frame.files
-    (listable place _ _ _ _ c.in_ok-is_folder.ensures.frame.files there c.in_ok-versions.ensures.misused
+    c.in_ok-is_folder.ensures.leaves.files
+    (listable place _ _ _ _ c.in_ok-is_folder.ensures.leaves.files there c.in_ok-versions.ensures.misused
     ∙ c.in_ok-is_folder.ensures.misused) there
     (names_fit (λ (files : Tree) (names : List (List ℕ)). are_fit_versions files place names) place
-    c.as_slice.result.now _ _ _ _ c.in_ok-versions.ensures.frame.files names c.in_ok-catalog.ensures.misused))
+    c.as_slice.result.now _ _ _ _ c.in_ok-versions.ensures.leaves.files names c.in_ok-catalog.ensures.misused))

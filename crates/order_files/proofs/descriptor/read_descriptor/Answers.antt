@@ -52,15 +52,15 @@ pub returns-clause-misused : goal.returns-clause-misused
 returns-clause-misused g c = descriptor_fits c.args.folder.now c.args.id_folder.now c.args.version.now
     c.in_ok-path.path c.in_ok-path.ensures.0 _ _ _ c.in_ok-found.ensures.misused
 
-pub returns-in_err-descriptor-clause-frame : goal.returns-in_err-descriptor-clause-frame
-returns-in_err-descriptor-clause-frame g c =
+pub returns-in_err-descriptor-clause-leaves : goal.returns-in_err-descriptor-clause-leaves
+returns-in_err-descriptor-clause-leaves g c =
     let exit = err_from_is_err_and c.from_residual-in_err-descriptor.result
     c.from_residual-in_err-descriptor.ensures.1 in
-    let frame = c.in_ok-found.ensures.frame in
+    let left = c.in_ok-found.ensures.leaves in
     rw (exit.1, exit.2) (record {
-      files = frame.files;
-      runs = frame.runs;
-      children = frame.children;
-      counts = counts_after (Option Descriptor) (Err _) _ _ frame.counts c.in_err-descriptor.ensures.files;
+      files = left.files;
+      runs = left.runs;
+      children = left.children;
+      counts = counts_after (Option Descriptor) (Err _) _ _ left.counts c.in_err-descriptor.ensures.files;
       cause = names_none _ _ c.in_err-descriptor.ensures.files;
     })

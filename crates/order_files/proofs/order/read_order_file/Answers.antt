@@ -32,14 +32,14 @@ returns-clause-reads g c = read_then (λ (files : Tree). document_at files c.arg
     (order_of c.args.path.now) _ c.in_ok-found.found (Ok c.in_ok-order.order) c.in_ok-found.ensures.reads
     c.in_ok-order.ensures.reads
 
-pub returns-in_err-order-clause-frame : goal.returns-in_err-order-clause-frame
-returns-in_err-order-clause-frame g c =
+pub returns-in_err-order-clause-leaves : goal.returns-in_err-order-clause-leaves
+returns-in_err-order-clause-leaves g c =
     let exit = err_from_is_err_and c.from_residual-in_err-order.result c.from_residual-in_err-order.ensures.1 in
-    let frame = c.in_ok-found.ensures.frame in
+    let left = c.in_ok-found.ensures.leaves in
     rw (exit.1, exit.2) (record {
-      files = frame.files;
-      runs = frame.runs;
-      children = frame.children;
-      counts = counts_after (List (List Entry)) (Err _) _ _ frame.counts c.in_err-order.ensures.files;
+      files = left.files;
+      runs = left.runs;
+      children = left.children;
+      counts = counts_after (List (List Entry)) (Err _) _ _ left.counts c.in_err-order.ensures.files;
       cause = names_none _ _ c.in_err-order.ensures.files;
     })

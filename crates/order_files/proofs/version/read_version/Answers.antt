@@ -32,7 +32,7 @@ returns-in_err-found-clause-reads g c =
     c.args.catalog _ _
     (folder_refused place (λ (files : Tree). listed
     (descriptor_at files place c.args.id_folder.now c.args.version.now)) c.args.catalog _ _ _
-    c.in_ok-is_folder.ensures.frame.files there
+    c.in_ok-is_folder.ensures.leaves.files there
     (descriptor_refused (λ (files : Tree). descriptor_at files place c.args.id_folder.now c.args.version.now)
     c.args.catalog _ _ c.in_err-found.ensures.reads)))
 
@@ -44,7 +44,7 @@ returns-in_err-found-clause-misused g c =
     c.in_ok-is_folder.ensures.reads in
     version_fits c.args.folder.now c.args.id_folder.now c.args.version.now place same _ _ _
     (folder_fits place (λ (files : Tree). is_fit_descriptor files place) _ _ _ _ _
-    c.in_ok-is_folder.ensures.frame.files c.in_ok-is_folder.ensures.misused there
+    c.in_ok-is_folder.ensures.leaves.files c.in_ok-is_folder.ensures.misused there
     c.in_err-found.ensures.misused)
 
 pub returns-in_err-catalog-clause-misused : goal.returns-in_err-catalog-clause-misused
@@ -55,7 +55,7 @@ returns-in_err-catalog-clause-misused g c =
     c.in_ok-is_folder.ensures.reads in
     version_fits c.args.folder.now c.args.id_folder.now c.args.version.now place same _ _ _
     (folder_fits place (λ (files : Tree). is_fit_descriptor files place) _ _ _ _ _
-    c.in_ok-is_folder.ensures.frame.files c.in_ok-is_folder.ensures.misused there
+    c.in_ok-is_folder.ensures.leaves.files c.in_ok-is_folder.ensures.misused there
     c.in_ok-found.ensures.misused)
 
 pub returns-clause-reads : goal.returns-clause-reads
@@ -67,7 +67,7 @@ returns-clause-reads g c =
     version_from c.args.folder.now c.args.id_folder.now c.args.version.now place same c.args.catalog
     (g.W.World.tree c.args.world.now) (Ok c.in_ok-catalog.catalog)
     (folder_read place (λ (files : Tree). listed (descriptor_at files place c.args.id_folder.now
-    c.args.version.now)) c.args.catalog _ _ (Ok c.in_ok-catalog.catalog) c.in_ok-is_folder.ensures.frame.files
+    c.args.version.now)) c.args.catalog _ _ (Ok c.in_ok-catalog.catalog) c.in_ok-is_folder.ensures.leaves.files
     there
     (descriptor_added (λ (files : Tree). descriptor_at files place c.args.id_folder.now c.args.version.now)
     c.args.catalog _ c.in_ok-found.found c.in_ok-catalog.catalog c.in_ok-found.ensures.reads
@@ -81,5 +81,5 @@ returns-clause-misused g c =
     c.in_ok-is_folder.ensures.reads in
     version_fits c.args.folder.now c.args.id_folder.now c.args.version.now place same _ _ _
     (folder_fits place (λ (files : Tree). is_fit_descriptor files place) _ _ _ _ _
-    c.in_ok-is_folder.ensures.frame.files c.in_ok-is_folder.ensures.misused there
+    c.in_ok-is_folder.ensures.leaves.files c.in_ok-is_folder.ensures.misused there
     c.in_ok-found.ensures.misused)

@@ -60,10 +60,10 @@ loop-version-preserved g c =
           names.1 vacant.1;
       others = keeps_ids id_folder version c.args.catalog c.loop-version.catalog _ c.in_ok-catalog.ensures.others
           c.loop-version.invariant.others;
-      tree = c.in_ok-catalog.ensures.frame.files ∙ c.loop-version.invariant.tree;
-      files = c.in_ok-catalog.ensures.frame.counts ∙ c.loop-version.invariant.files;
-      children = c.in_ok-catalog.ensures.frame.children ∙ c.loop-version.invariant.children;
-      runs = c.in_ok-catalog.ensures.frame.runs ∙ c.loop-version.invariant.runs;
+      tree = c.in_ok-catalog.ensures.leaves.files ∙ c.loop-version.invariant.tree;
+      files = c.in_ok-catalog.ensures.leaves.counts ∙ c.loop-version.invariant.files;
+      children = c.in_ok-catalog.ensures.leaves.children ∙ c.loop-version.invariant.children;
+      runs = c.in_ok-catalog.ensures.leaves.runs ∙ c.loop-version.invariant.runs;
       misused = λ now h. c.loop-version.invariant.misused now
           (rest_fits (λ (files : Tree). is_fit_version files folder) version later _ next _ _
           c.loop-version.invariant.tree _ _ now c.in_ok-catalog.ensures.misused h);

@@ -13,8 +13,8 @@ returns-in_err-found g c =
     rw (exit.1, exit.2) (record {
       steps = document_refused cause_of of_read_fault same_cause
           g.D.TableForm.value_in (named_by g.D.NamesTrees.digests_of) {path = c.args.path.now}
-          {at = c.args.path.now} _ refl c.in_err-found.ensures.reads c.in_err-found.ensures.frame
-          c.in_err-found.ensures.misused;
+          {at = c.args.path.now} _ refl c.in_err-found.ensures.reads c.in_err-found.ensures.leaves
+          c.in_err-found.ensures.blames c.in_err-found.ensures.misused;
     })
 
 pub returns : goal.returns
@@ -22,6 +22,6 @@ unfolding reads_names
 returns g c = record {
   steps = document_read cause_of of_read_fault same_cause g.D.TableForm.value_in
       (named_by g.D.NamesTrees.digests_of) {path = c.args.path.now} {at = c.args.path.now} c.in_ok-found.found
-      c.named_by.result refl c.in_ok-found.ensures.reads c.in_ok-found.ensures.frame c.in_ok-found.ensures.misused
+      c.named_by.result refl c.in_ok-found.ensures.reads c.in_ok-found.ensures.leaves c.in_ok-found.ensures.misused
       c.named_by.ensures.answer c.named_by.ensures.cause;
 }

@@ -9,7 +9,7 @@ returns-in_err-check_file g c =
     rw (exit.1, exit.2) (record {
       steps = (not_judged g.W.World c.args.store.now c.args.digest.now c.args.root.now
           c.args.place.now _ _ _ c.in_err-check_file.ensures.checks c.in_err-check_file.ensures.blames
-          c.in_err-check_file.ensures.frame c.in_err-check_file.ensures.misused);
+          c.in_err-check_file.ensures.leaves c.in_err-check_file.ensures.misused);
     })
 
 pub returns-in_err-lay_kept : goal.returns-in_err-lay_kept
@@ -17,7 +17,7 @@ returns-in_err-lay_kept g c =
     let exit = err_from_is_err_and c.from_residual-in_err-lay_kept.result c.from_residual-in_err-lay_kept.ensures.1 in
     rw (exit.1, exit.2) (record {
       steps = (judged_and_laid g.W.World c.args.store.now c.args.digest.now c.args.root.now c.args.place.now _ _ _
-          _ _ _ (Err _) c.in_ok-check_file.ensures.checks c.in_ok-check_file.ensures.frame
+          _ _ _ (Err _) c.in_ok-check_file.ensures.checks c.in_ok-check_file.ensures.leaves
           c.in_ok-check_file.ensures.misused
           (c.new-source.ensures.path ∙ c.requires.path)
           (record {
@@ -34,7 +34,7 @@ pub returns : goal.returns
 returns g c = record {
   steps =
       judged_and_laid g.W.World c.args.store.now c.args.digest.now c.args.root.now c.args.place.now _ _ _ _ _ _
-      c.end.result c.in_ok-check_file.ensures.checks c.in_ok-check_file.ensures.frame
+      c.end.result c.in_ok-check_file.ensures.checks c.in_ok-check_file.ensures.leaves
       c.in_ok-check_file.ensures.misused
       (c.new-source.ensures.path ∙ c.requires.path)
       (record {

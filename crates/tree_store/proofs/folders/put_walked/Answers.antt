@@ -2,9 +2,9 @@ use Rattle.std.proofs.Common.{◌∙◌, [], arith}
 use Rattle.std.proofs.lemmas.Result.{err_from_is_err_and}
 use Rattle.std.specs.Option.{option_map}
 use Rattle.tree_store.specs.Writing.{can_begin}
-use Rattle.tree_store.proofs.FolderPuts.{not_begun, put_frames, tree_named, walk_refused}
+use Rattle.tree_store.proofs.FolderPuts.{not_begun, put_all_others, tree_named, walk_refused}
 use Rattle.tree_store.proofs.Settled.{may_then}
-use Rattle.tree_store.proofs.Written.{frame_value}
+use Rattle.tree_store.proofs.Written.{others_value}
 use Rattle.tree_store.proofs.folders.put_walked.Goals as goal
 
 pub returns-in_err-writer : goal.returns-in_err-writer
@@ -12,7 +12,7 @@ returns-in_err-writer g c =
     let exit = err_from_is_err_and c.from_residual.result c.from_residual.ensures.1 in
     rw (exit.1, exit.2) (record {
       steps = (not_begun c.args.store.now c.args.path.now
-          c.in_err-writer.ensures.frame c.in_err-writer.ensures.free c.in_err-writer.ensures.blames
+          c.in_err-writer.ensures.leaves c.in_err-writer.ensures.free c.in_err-writer.ensures.blames
           c.in_err-writer.ensures.misused);
     })
 
@@ -32,8 +32,8 @@ returns-in-Ok g c = record {
       c.in_ok-writer.ensures.begun c.requires.apart in let tree = walked.added.1 in
       tree_named c.args.path.now tree.node tree.bytes tree.read
       (may_then (option_map (can_begin c.args.store.now) (g.W.World.tree c.args.world.now)) _ walked.right
-      c.in_ok-writer.ensures.misused) (put_frames c.in_ok-writer.ensures.path c.in_ok-writer.ensures.frame
-      c.in-Ok.ensures.leaves c.put_or_clear.ensures.frame)
+      c.in_ok-writer.ensures.misused) (put_all_others c.in_ok-writer.ensures.path c.in_ok-writer.ensures.leaves
+      c.in-Ok.ensures.leaves c.put_or_clear.ensures.leaves)
       (c.put_or_clear.ensures.puts (g.W.World.tree c.args.world.now) walked.added.0 walked.added.2
       (omega (arith, tree.length_is))) c.put_or_clear.ensures.blames;
 }
@@ -43,7 +43,7 @@ returns-in-Err g c = record {
   steps =
       let walked = c.in-Err.ensures.puts.so c.args.store.now (g.W.World.tree c.args.world.now) []
       c.in_ok-writer.ensures.begun c.requires.apart in
-      walk_refused c.in_ok-writer.ensures.path (frame_value tt c.in_ok-writer.ensures.frame)
+      walk_refused c.in_ok-writer.ensures.path (others_value tt c.in_ok-writer.ensures.leaves)
       c.in_ok-writer.ensures.misused c.in-Err.ensures.leaves walked.refused walked.right
       c.cleared.ensures.cleared c.cleared.ensures.blames;
 }

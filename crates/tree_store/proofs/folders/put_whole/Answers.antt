@@ -6,8 +6,8 @@ use Rattle.std.specs.Option.{option_map}
 use Rattle.tree_store.specs.Writing.{can_begin}
 use Rattle.tree_store.proofs.FolderPuts.{no_memory, not_added, not_begun, read_refused, read_still, read_then}
 use Rattle.tree_store.proofs.FolderPuts.{tree_named}
-use Rattle.tree_store.proofs.Settled.{apart_name, either_in, may_then, new_within, other_path, put_frame_then}
-use Rattle.tree_store.proofs.Written.{frame_then, leaves_frame}
+use Rattle.tree_store.proofs.Settled.{apart_name, either_in, may_then, new_within, other_path, put_others_then}
+use Rattle.tree_store.proofs.Written.{others_then, leaves_others}
 use Rattle.tree_store.proofs.folders.put_whole.Goals as goal
 
 pub returns-in_err-tree : goal.returns-in_err-tree
@@ -31,7 +31,7 @@ returns-in_err-writer g c =
     let exit = err_from_is_err_and c.from_residual-in_err-writer.result c.from_residual-in_err-writer.ensures.1 in
     rw (exit.1, exit.2) (record {
       steps = (read_then _ _ _ _ _ _ _ c.in_ok-tree.ensures.steps
-          (not_begun c.args.store.now c.args.path.now c.in_err-writer.ensures.frame c.in_err-writer.ensures.free
+          (not_begun c.args.store.now c.args.path.now c.in_err-writer.ensures.leaves c.in_err-writer.ensures.free
           c.in_err-writer.ensures.blames c.in_err-writer.ensures.misused));
     })
 
@@ -41,8 +41,8 @@ returns g c = record {
       let x = ((c.in-Err.ensures.adds (other_path c.args.store.now)).so c.args.store.now
       (g.W.World.tree c.read_tree.new.world) [] c.in_ok-writer.ensures.begun (apart_name c.args.store.now)) in
       read_then _ _ _ _ _ _ _ c.in_ok-tree.ensures.steps
-      (not_added c.args.store.now c.args.path.now (frame_then c.in_ok-writer.ensures.frame
-      (leaves_frame (new_path c.args.store.now) c.in_ok-writer.ensures.path
+      (not_added c.args.store.now c.args.path.now (others_then c.in_ok-writer.ensures.leaves
+      (leaves_others (new_path c.args.store.now) c.in_ok-writer.ensures.path
       (c.in-Err.ensures.leaves (trees_of c.args.store.now)))) x.refused
       (either_in {A = Unit {0}} (trees_of c.args.store.now) _ (Err _)
       (ap (is_within (trees_of c.args.store.now)) c.in_ok-writer.ensures.path ∙ new_within c.args.store.now)
@@ -70,9 +70,9 @@ returns-in-Ok g c = record {
       (tree_named c.args.path.now c.in_ok-tree.tree (is ∙ c.in_ok-bytes.ensures.spelled.is)
       (read_still _ _ _ _ c.in_ok-tree.ensures.steps)
       (may_then (option_map (can_begin c.args.store.now) (g.W.World.tree c.read_tree.new.world)) _ x.right
-      c.in_ok-writer.ensures.misused) (put_frame_then c.in_ok-writer.ensures.frame
-      (put_frame_then (leaves_frame (new_path c.args.store.now) c.in_ok-writer.ensures.path
-      (c.in-Ok.ensures.leaves (trees_of c.args.store.now))) c.put_or_clear.ensures.frame))
+      c.in_ok-writer.ensures.misused) (put_others_then c.in_ok-writer.ensures.leaves
+      (put_others_then (leaves_others (new_path c.args.store.now) c.in_ok-writer.ensures.path
+      (c.in-Ok.ensures.leaves (trees_of c.args.store.now))) c.put_or_clear.ensures.leaves))
       (c.put_or_clear.ensures.puts (g.W.World.tree c.read_tree.new.world) x.added.0 x.added.2
       (let same : length x.added.0 ≡ length c.as_slice.result.now = ap length (is ∙ sym c.as_slice.ensures)
       in omega (arith, same))) c.put_or_clear.ensures.blames);

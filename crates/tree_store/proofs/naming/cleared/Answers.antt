@@ -9,13 +9,13 @@ plain store file at = ap is_root at ∙ new_plain store
 
 pub returns-in-Ok-clause-cleared : goal.returns-in-Ok-clause-cleared
 returns-in-Ok-clause-cleared g c =
-    cleared_gone c.args.fault c.requires c.in-Ok.ensures.frame c.in-Ok.ensures.last c.in-Ok.ensures.ok
+    cleared_gone c.args.fault c.requires c.in-Ok.ensures.leaves c.in-Ok.ensures.last c.in-Ok.ensures.ok
     (c.in-Ok.ensures.right (plain c.args.store.now c.args.file.now c.requires))
 
 pub returns-in-Err-clause-cleared : goal.returns-in-Err-clause-cleared
 returns-in-Err-clause-cleared g c =
     cleared_later c.args.fault c.in-Err.failed _ c.later.ensures c.in-Err.ensures.free c.requires
-    c.in-Err.ensures.frame (c.in-Err.ensures.right (plain c.args.store.now c.args.file.now c.requires))
+    c.in-Err.ensures.leaves (c.in-Err.ensures.right (plain c.args.store.now c.args.file.now c.requires))
 
 pub returns-in-Err-clause-blames : goal.returns-in-Err-clause-blames
 returns-in-Err-clause-blames g c =

@@ -3,14 +3,14 @@ use Rattle.std.proofs.lemmas.Result.{err_from_is_err_and}
 use Rattle.cnb_world.specs.Tree.{is_within}
 use Rattle.tree_store.specs.Writing.{new_path, trees_of}
 use Rattle.tree_store.proofs.Settled.{apart_name, either_in, is_flushed, names_free, names_from, new_within, other_path}
-use Rattle.tree_store.proofs.Settled.{put_frame, put_frame_stop, put_frame_then, put_frame_value, same_right}
-use Rattle.tree_store.proofs.Written.{frame_stop, leaves_frame}
+use Rattle.tree_store.proofs.Settled.{put_others, put_others_stop, put_others_then, put_others_value, same_right}
+use Rattle.tree_store.proofs.Written.{others_stop, leaves_others}
 use Rattle.tree_store.proofs.naming.put_written.Goals as goal
 
-pub returns-in_err-flush-clause-frame : goal.returns-in_err-flush-clause-frame
-returns-in_err-flush-clause-frame g c =
+pub returns-in_err-flush-clause-leaves : goal.returns-in_err-flush-clause-leaves
+returns-in_err-flush-clause-leaves g c =
     let exit = err_from_is_err_and c.from_residual.result c.from_residual.ensures.1 in
-    rw (exit.1, exit.2) (put_frame (frame_stop (leaves_frame (new_path c.args.store.now) c.requires.path
+    rw (exit.1, exit.2) (put_others (others_stop (leaves_others (new_path c.args.store.now) c.requires.path
     (c.in_err-flush.ensures.leaves (trees_of c.args.store.now)))))
 
 pub returns-in_err-flush-clause-blames : goal.returns-in_err-flush-clause-blames
@@ -28,12 +28,12 @@ returns-in_err-flush-clause-puts g c =
     before bytes h (apart_name c.args.store.now)) in record
     { digest = tt; named = names_free x.refused (same_right before _ _ _ x.right) })
 
-pub returns-in_err-name_file-clause-frame : goal.returns-in_err-name_file-clause-frame
-returns-in_err-name_file-clause-frame g c =
+pub returns-in_err-name_file-clause-leaves : goal.returns-in_err-name_file-clause-leaves
+returns-in_err-name_file-clause-leaves g c =
     let exit = err_from_is_err_and c.from_residual-in_err-name_file.result c.from_residual-in_err-name_file.ensures.1 in
-    rw (exit.1, exit.2) (put_frame_then (leaves_frame (new_path c.args.store.now) c.requires.path
+    rw (exit.1, exit.2) (put_others_then (leaves_others (new_path c.args.store.now) c.requires.path
     (c.in_ok-flush.ensures.leaves (trees_of c.args.store.now)))
-    (put_frame_stop c.in_err-name_file.ensures.frame))
+    (put_others_stop c.in_err-name_file.ensures.leaves))
 
 pub returns-in_err-name_file-clause-puts : goal.returns-in_err-name_file-clause-puts
 returns-in_err-name_file-clause-puts g c =
@@ -48,11 +48,11 @@ returns-in_err-name_file-clause-puts g c =
           flushed.files flushed.kept);
     })
 
-pub returns-clause-frame : goal.returns-clause-frame
-returns-clause-frame g c =
-    put_frame_then (leaves_frame (new_path c.args.store.now) c.requires.path
+pub returns-clause-leaves : goal.returns-clause-leaves
+returns-clause-leaves g c =
+    put_others_then (leaves_others (new_path c.args.store.now) c.requires.path
     (c.in_ok-flush.ensures.leaves (trees_of c.args.store.now)))
-    (put_frame_value _ c.in_ok-name_file.ensures.frame)
+    (put_others_value _ c.in_ok-name_file.ensures.leaves)
 
 pub returns-clause-puts : goal.returns-clause-puts
 returns-clause-puts g c =

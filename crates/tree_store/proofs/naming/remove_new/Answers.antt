@@ -1,11 +1,12 @@
 use Rattle.tree_store.proofs.Around.{removed}
 use Rattle.tree_store.proofs.NewPlace.{place_removed}
 use Rattle.tree_store.proofs.Settled.{last_ok}
-use Rattle.tree_store.proofs.Written.{frame_called}
+use Rattle.tree_store.proofs.Written.{others_called}
 use Rattle.tree_store.proofs.naming.remove_new.Goals as goal
 
-pub returns-clause-frame : goal.returns-clause-frame
-returns-clause-frame g c = frame_called g.W.World c.args.file.now c.args.file.now c.remove.result c.or_blame.result _ _
+pub returns-clause-leaves : goal.returns-clause-leaves
+returns-clause-leaves g c = others_called g.W.World c.args.file.now c.args.file.now c.remove.result
+    c.or_blame.result _ _
     (removed g.W.World c.args.file.now c.remove.result _ _ c.remove.ensures.ok c.remove.ensures.err
     c.remove.ensures.runs c.remove.ensures.misused)
     (place_removed c.args.file.now c.remove.result _ _ c.remove.ensures.ok c.remove.ensures.err)

@@ -15,10 +15,10 @@ loop-number-preserved g c =
           c.loop-number.invariant.tree c.loop-number.invariant.alike c.in_ok-compare_piece.ensures.told;
       stands = file_read (g.W.World.tree c.args.world.now) (g.W.World.tree c.loop-number.world) c.args.path.now _
           c.loop-number.invariant.tree c.in_ok-compare_piece.ensures.stands;
-      tree = c.in_ok-compare_piece.ensures.frame.files ∙ c.loop-number.invariant.tree;
-      files = c.in_ok-compare_piece.ensures.frame.counts ∙ c.loop-number.invariant.files;
-      children = c.in_ok-compare_piece.ensures.frame.children ∙ c.loop-number.invariant.children;
-      runs = c.in_ok-compare_piece.ensures.frame.runs ∙ c.loop-number.invariant.runs;
+      tree = c.in_ok-compare_piece.ensures.leaves.files ∙ c.loop-number.invariant.tree;
+      files = c.in_ok-compare_piece.ensures.leaves.counts ∙ c.loop-number.invariant.files;
+      children = c.in_ok-compare_piece.ensures.leaves.children ∙ c.loop-number.invariant.children;
+      runs = c.in_ok-compare_piece.ensures.leaves.runs ∙ c.loop-number.invariant.runs;
       misused = may_more (option_map (λ t. is_file (item_at t c.args.path.now)
           && is_file (item_at t c.args.file.now)) (g.W.World.tree c.args.world.now)) _ _ _
           c.loop-number.invariant.misused (subst (λ x. MayMisuse

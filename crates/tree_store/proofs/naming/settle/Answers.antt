@@ -8,16 +8,16 @@ use Rattle.tree_store.specs.Writing.{new_path}
 use Rattle.tree_store.proofs.Descents.{may_rise}
 use Rattle.tree_store.proofs.Settled.{blames_fault, clash_blames, clash_counts, compared_right, may_then, names_free}
 use Rattle.tree_store.proofs.Settled.{names_settled, new_plain}
-use Rattle.tree_store.proofs.Written.{frame_local, frame_read, frame_stop, frame_then}
+use Rattle.tree_store.proofs.Written.{others_local, others_read, others_stop, others_then}
 use Rattle.tree_store.proofs.naming.settle.Goals as goal
 
 plain : (store file : List ℕ) → file ≡ new_path store → is_root file ≡ false
 plain store file at = ap is_root at ∙ new_plain store
 
-pub returns-in_err-same-clause-frame : goal.returns-in_err-same-clause-frame
-returns-in_err-same-clause-frame g c =
+pub returns-in_err-same-clause-leaves : goal.returns-in_err-same-clause-leaves
+returns-in_err-same-clause-leaves g c =
     let exit = err_from_is_err_and c.from_residual.result c.from_residual.ensures.1 in
-    rw (exit.1, exit.2) (frame_stop (frame_read c.args.file.now c.in_err-same.ensures.frame
+    rw (exit.1, exit.2) (others_stop (others_read c.args.file.now c.in_err-same.ensures.leaves
     (may_rise _ _ _ c.in_err-same.ensures.misused)))
 
 pub returns-in_err-same-clause-settles : goal.returns-in_err-same-clause-settles
@@ -45,25 +45,25 @@ returns-clause-settles g c =
     c.args.file.now c.args.digest.now before _ _ _ c.or_clash.result c.in_ok-same.same c.args.len
     c.or_clash.ensures digest_is short at new apart kept is c.in_ok-same.ensures.told
     c.in_ok-same.ensures.stands (c.in_ok-remove_new.ensures.ok
-    ∙ ap (option_map (without c.args.file.now)) c.in_ok-same.ensures.frame.files)
+    ∙ ap (option_map (without c.args.file.now)) c.in_ok-same.ensures.leaves.files)
     (may_then (option_map (λ t. is_file_or_absent (item_at t (tree_path store (sha256 bytes)))) before) _
     (c.in_ok-remove_new.ensures.right (plain store c.args.file.now new))
     (compared_right store bytes c.args.path.now c.args.file.now before _ _ _ at new apart kept is stands
     c.in_ok-same.ensures.misused))
 
-pub returns-clause-frame : goal.returns-clause-frame
-returns-clause-frame g c =
-    frame_then (frame_read c.args.file.now c.in_ok-same.ensures.frame
+pub returns-clause-leaves : goal.returns-clause-leaves
+returns-clause-leaves g c =
+    others_then (others_read c.args.file.now c.in_ok-same.ensures.leaves
     (may_rise _ _ _ c.in_ok-same.ensures.misused))
-    (frame_then c.in_ok-remove_new.ensures.frame (frame_local c.args.file.now _ c.or_clash.result
+    (others_then c.in_ok-remove_new.ensures.leaves (others_local c.args.file.now _ c.or_clash.result
     (clash_counts c.in_ok-same.same c.args.digest.now c.or_clash.result c.or_clash.ensures)))
 
-pub returns-in_err-remove_new-clause-frame : goal.returns-in_err-remove_new-clause-frame
-returns-in_err-remove_new-clause-frame g c =
+pub returns-in_err-remove_new-clause-leaves : goal.returns-in_err-remove_new-clause-leaves
+returns-in_err-remove_new-clause-leaves g c =
     let exit = err_from_is_err_and c.from_residual-in_err-remove_new.result
     c.from_residual-in_err-remove_new.ensures.1 in
-    rw (exit.1, exit.2) (frame_then (frame_read c.args.file.now c.in_ok-same.ensures.frame
-    (may_rise _ _ _ c.in_ok-same.ensures.misused)) (frame_stop c.in_err-remove_new.ensures.frame))
+    rw (exit.1, exit.2) (others_then (others_read c.args.file.now c.in_ok-same.ensures.leaves
+    (may_rise _ _ _ c.in_ok-same.ensures.misused)) (others_stop c.in_err-remove_new.ensures.leaves))
 
 pub returns-clause-blames : goal.returns-clause-blames
 returns-clause-blames g c =

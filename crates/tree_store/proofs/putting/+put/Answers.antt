@@ -151,7 +151,7 @@ pub put_names-returns-in_err-names-clause-leaves : goal.put_names-returns-in_err
 put_names-returns-in_err-names-clause-leaves g t c =
     let exit = err_from_is_err_and c.from_residual-in_err-names.result c.from_residual-in_err-names.ensures.1 in
     rw (exit.1, exit.2) (leaves_stop (leaves_read None c.args.writer.now
-    (Err _) _ _ c.in_err-names.ensures.frame c.in_err-names.ensures.blames c.in_err-names.ensures.misused))
+    (Err _) _ _ c.in_err-names.ensures.leaves c.in_err-names.ensures.blames c.in_err-names.ensures.misused))
 
 pub put_names-returns-in_err-names-clause-puts : goal.put_names-returns-in_err-names-clause-puts
 put_names-returns-in_err-names-clause-puts g t c =
@@ -167,7 +167,7 @@ pub put_names-returns-in_err-head-clause-leaves : goal.put_names-returns-in_err-
 put_names-returns-in_err-head-clause-leaves g t c =
     let exit = err_from_is_err_and c.from_residual-in_err-head.result c.from_residual-in_err-head.ensures.1 in
     rw (exit.1, exit.2) (leaves_then (leaves_read None c.args.writer.now
-    (Ok c.in_ok-names.names) _ _ c.in_ok-names.ensures.frame tt c.in_ok-names.ensures.misused)
+    (Ok c.in_ok-names.names) _ _ c.in_ok-names.ensures.leaves tt c.in_ok-names.ensures.misused)
     (leaves_memory c.args.path.now _ _ _ refl))
 
 pub put_names-returns-in_err-head-clause-puts : goal.put_names-returns-in_err-head-clause-puts
@@ -184,7 +184,7 @@ pub put_names-returns-in_err-add-clause-leaves : goal.put_names-returns-in_err-a
 put_names-returns-in_err-add-clause-leaves g t c =
     let exit = err_from_is_err_and c.from_residual-in_err-add.result c.from_residual-in_err-add.ensures.1 in
     rw (exit.1, exit.2) (leaves_then (leaves_read None c.args.writer.now
-    (Ok c.in_ok-names.names) _ _ c.in_ok-names.ensures.frame tt c.in_ok-names.ensures.misused)
+    (Ok c.in_ok-names.names) _ _ c.in_ok-names.ensures.leaves tt c.in_ok-names.ensures.misused)
     (leaves_stop (c.in_err-add.ensures.leaves c.args.path.now)))
 
 pub put_names-returns-in_err-add-clause-puts : goal.put_names-returns-in_err-add-clause-puts
@@ -195,12 +195,12 @@ put_names-returns-in_err-add-clause-puts g t c =
           (added_stop (λ free. free_refuses before (λ files. node_of files c.args.path.now
           (λ name. node_at c.args.levels files (joined c.args.path.now name)) c.args.size
           (item_at files c.args.path.now)) _ free) ((c.in_err-add.ensures.adds c.args.path.now).so store before
-          bytes (written_read c.in_ok-names.ensures.frame.files h) apart));
+          bytes (written_read c.in_ok-names.ensures.leaves.files h) apart));
     })
 
 pub put_names-returns-clause-leaves : goal.put_names-returns-clause-leaves
 put_names-returns-clause-leaves g t c =
-    leaves_then (leaves_read None c.args.writer.now (Ok c.in_ok-names.names) _ _ c.in_ok-names.ensures.frame tt
+    leaves_then (leaves_read None c.args.writer.now (Ok c.in_ok-names.names) _ _ c.in_ok-names.ensures.leaves tt
     c.in_ok-names.ensures.misused) (leaves_then (c.in_ok-add.ensures.leaves c.args.path.now)
     c.put_entries.ensures.leaves)
 
@@ -209,7 +209,7 @@ put_names-returns-clause-puts g t c =
     record {
       so = λ store before bytes h apart. added_from c.in_ok-names.ensures.misused
           (added_then ((c.in_ok-add.ensures.adds c.args.path.now).so store before bytes
-          (written_read c.in_ok-names.ensures.frame.files h) apart)
+          (written_read c.in_ok-names.ensures.leaves.files h) apart)
           (λ more is held. added_with (λ now. now ≤ limit) c.put_entries.ensures.few
           (λ total next few es. node_bytes_as (ap (λ m. m ++ next)
           (is ∙ c.as_slice.ensures.value ∙ c.in_ok-head.ensures.bytes))
@@ -225,7 +225,7 @@ pub put_node-returns-in_err-kind_at-clause-leaves : goal.put_node-returns-in_err
 put_node-returns-in_err-kind_at-clause-leaves g t c =
     let exit = err_from_is_err_and c.from_residual.result c.from_residual.ensures.1 in
     rw (exit.1, exit.2) (leaves_stop (leaves_read None c.args.writer.now
-    (Err _) _ _ c.in_err-kind_at.ensures.frame c.in_err-kind_at.ensures.blames
+    (Err _) _ _ c.in_err-kind_at.ensures.leaves c.in_err-kind_at.ensures.blames
     c.in_err-kind_at.ensures.misused))
 
 pub put_node-returns-in_err-kind_at-clause-puts : goal.put_node-returns-in_err-kind_at-clause-puts
@@ -239,7 +239,7 @@ put_node-returns-in_err-kind_at-clause-puts g t c =
 
 pub put_node-returns-in-Absent-clause-leaves : goal.put_node-returns-in-Absent-clause-leaves
 put_node-returns-in-Absent-clause-leaves g t c =
-    leaves_then (leaves_read None c.args.writer.now (Ok c.in_ok-kind_at.field-0) _ _ c.in_ok-kind_at.ensures.frame
+    leaves_then (leaves_read None c.args.writer.now (Ok c.in_ok-kind_at.field-0) _ _ c.in_ok-kind_at.ensures.leaves
     tt c.in_ok-kind_at.ensures.misused) (leaves_odd c.args.path.now _ _ c.args.path.now c.odd.result
     c.odd.ensures)
 
@@ -254,7 +254,7 @@ put_node-returns-in-Absent-clause-puts g t c =
 
 pub put_node-returns-in-Odd-clause-leaves : goal.put_node-returns-in-Odd-clause-leaves
 put_node-returns-in-Odd-clause-leaves g t c =
-    leaves_then (leaves_read None c.args.writer.now (Ok c.in_ok-kind_at.field-0) _ _ c.in_ok-kind_at.ensures.frame
+    leaves_then (leaves_read None c.args.writer.now (Ok c.in_ok-kind_at.field-0) _ _ c.in_ok-kind_at.ensures.leaves
     tt c.in_ok-kind_at.ensures.misused) (leaves_odd c.args.path.now _ _ c.args.path.now c.odd-in-Odd.result
     c.odd-in-Odd.ensures)
 
@@ -269,20 +269,20 @@ put_node-returns-in-Odd-clause-puts g t c =
 
 pub put_node-returns-in-Link-clause-leaves : goal.put_node-returns-in-Link-clause-leaves
 put_node-returns-in-Link-clause-leaves g t c =
-    leaves_then (leaves_read None c.args.writer.now (Ok c.in_ok-kind_at.field-0) _ _ c.in_ok-kind_at.ensures.frame
+    leaves_then (leaves_read None c.args.writer.now (Ok c.in_ok-kind_at.field-0) _ _ c.in_ok-kind_at.ensures.leaves
     tt c.in_ok-kind_at.ensures.misused) c.put_link.ensures.leaves
 
 pub put_node-returns-in-Link-clause-puts : goal.put_node-returns-in-Link-clause-puts
 put_node-returns-in-Link-clause-puts g t c =
     record {
       so = λ store before bytes h apart. added_from c.in_ok-kind_at.ensures.misused
-          (c.put_link.ensures.puts.so store before bytes (written_read c.in_ok-kind_at.ensures.frame.files h)
+          (c.put_link.ensures.puts.so store before bytes (written_read c.in_ok-kind_at.ensures.leaves.files h)
           apart);
     }
 
 pub put_node-returns-then-levels-eq0-clause-leaves : goal.put_node-returns-then-levels-eq0-clause-leaves
 put_node-returns-then-levels-eq0-clause-leaves g t c =
-    leaves_then (leaves_read None c.args.writer.now (Ok c.in_ok-kind_at.field-0) _ _ c.in_ok-kind_at.ensures.frame
+    leaves_then (leaves_read None c.args.writer.now (Ok c.in_ok-kind_at.field-0) _ _ c.in_ok-kind_at.ensures.leaves
     tt c.in_ok-kind_at.ensures.misused) (leaves_deep c.args.path.now _ _ c.too_deep.result c.too_deep.ensures)
 
 pub put_node-returns-then-levels-eq0-clause-puts : goal.put_node-returns-then-levels-eq0-clause-puts
@@ -297,7 +297,7 @@ put_node-returns-then-levels-eq0-clause-puts g t c =
 
 pub put_node-returns-else-levels-eq0-clause-leaves : goal.put_node-returns-else-levels-eq0-clause-leaves
 put_node-returns-else-levels-eq0-clause-leaves g t c =
-    leaves_then (leaves_read None c.args.writer.now (Ok c.in_ok-kind_at.field-0) _ _ c.in_ok-kind_at.ensures.frame
+    leaves_then (leaves_read None c.args.writer.now (Ok c.in_ok-kind_at.field-0) _ _ c.in_ok-kind_at.ensures.leaves
     tt c.in_ok-kind_at.ensures.misused) c.put_file.ensures.leaves
 
 pub put_node-returns-else-levels-eq0-clause-puts : goal.put_node-returns-else-levels-eq0-clause-puts
@@ -306,12 +306,12 @@ put_node-returns-else-levels-eq0-clause-puts g t c =
     record {
       so = λ store before bytes h apart. added_from c.in_ok-kind_at.ensures.misused
           ((c.put_file.ensures.puts c.args.levels above c.requires.levels).so store before bytes
-          (written_read c.in_ok-kind_at.ensures.frame.files h) apart);
+          (written_read c.in_ok-kind_at.ensures.leaves.files h) apart);
     }
 
 pub put_node-returns-then-levels-eq0-2-clause-leaves : goal.put_node-returns-then-levels-eq0-2-clause-leaves
 put_node-returns-then-levels-eq0-2-clause-leaves g t c =
-    leaves_then (leaves_read None c.args.writer.now (Ok c.in_ok-kind_at.field-0) _ _ c.in_ok-kind_at.ensures.frame
+    leaves_then (leaves_read None c.args.writer.now (Ok c.in_ok-kind_at.field-0) _ _ c.in_ok-kind_at.ensures.leaves
     tt c.in_ok-kind_at.ensures.misused) (leaves_deep c.args.path.now _ _ c.too_deep-then-levels-eq0-2.result
     c.too_deep-then-levels-eq0-2.ensures)
 
@@ -327,7 +327,7 @@ put_node-returns-then-levels-eq0-2-clause-puts g t c =
 
 pub put_node-returns-else-levels-eq0-2-clause-leaves : goal.put_node-returns-else-levels-eq0-2-clause-leaves
 put_node-returns-else-levels-eq0-2-clause-leaves g t c =
-    leaves_then (leaves_read None c.args.writer.now (Ok c.in_ok-kind_at.field-0) _ _ c.in_ok-kind_at.ensures.frame
+    leaves_then (leaves_read None c.args.writer.now (Ok c.in_ok-kind_at.field-0) _ _ c.in_ok-kind_at.ensures.leaves
     tt c.in_ok-kind_at.ensures.misused) c.put_names.ensures.leaves
 
 pub put_node-returns-else-levels-eq0-2-clause-puts : goal.put_node-returns-else-levels-eq0-2-clause-puts
@@ -337,6 +337,6 @@ put_node-returns-else-levels-eq0-2-clause-puts g t c =
       so = λ store before bytes h apart. added_from c.in_ok-kind_at.ensures.misused
           (added_as (λ now more one. folder_above c.args.path.now above one)
           (λ fault why. refuses_above before c.args.path.now c.args.levels c.args.size fault above why)
-          (c.put_names.ensures.puts.so store before bytes (written_read c.in_ok-kind_at.ensures.frame.files h)
+          (c.put_names.ensures.puts.so store before bytes (written_read c.in_ok-kind_at.ensures.leaves.files h)
           apart));
     }

@@ -9,7 +9,7 @@ pub returns-in_err-target-clause-leaves : goal.returns-in_err-target-clause-leav
 returns-in_err-target-clause-leaves g c =
     let exit = err_from_is_err_and c.from_residual.result c.from_residual.ensures.1 in
     rw (exit.1, exit.2) (leaves_stop (leaves_read None c.args.writer.now
-    (Err _) _ _ c.in_err-target.ensures.frame c.in_err-target.ensures.blames c.in_err-target.ensures.misused))
+    (Err _) _ _ c.in_err-target.ensures.leaves c.in_err-target.ensures.blames c.in_err-target.ensures.misused))
 
 pub returns-clause-puts : goal.returns-clause-puts
 returns-clause-puts g c =
@@ -21,5 +21,5 @@ returns-clause-puts g c =
           c.as_str.result.now) (λ files. node_at c.args.levels files c.args.path.now c.args.size) fault
           (link_same c.args.levels c.args.size c.as_str.result.now c.in_ok-target.target c.as_str.ensures h
           apart c.requires.kind c.in_ok-target.ensures.told) why)
-          (c.put_target.ensures.puts.so store before bytes (written_read c.in_ok-target.ensures.frame.files h) apart));
+          (c.put_target.ensures.puts.so store before bytes (written_read c.in_ok-target.ensures.leaves.files h) apart));
     }

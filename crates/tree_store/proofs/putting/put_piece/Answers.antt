@@ -11,7 +11,7 @@ pub returns-in_err-piece-clause-leaves : goal.returns-in_err-piece-clause-leaves
 returns-in_err-piece-clause-leaves g c =
     let exit = err_from_is_err_and c.from_residual.result c.from_residual.ensures.1 in
     rw (exit.1, exit.2) (leaves_stop (leaves_read _ c.args.writer.now
-    (Err _) _ _ c.in_err-piece.ensures.frame c.in_err-piece.ensures.blames c.in_err-piece.ensures.misused))
+    (Err _) _ _ c.in_err-piece.ensures.leaves c.in_err-piece.ensures.blames c.in_err-piece.ensures.misused))
 
 pub returns-in_err-piece-clause-puts : goal.returns-in_err-piece-clause-puts
 returns-in_err-piece-clause-puts g c =
@@ -22,7 +22,7 @@ returns-in_err-piece-clause-puts g c =
 
 pub returns-then-as_slice-size-clause-leaves : goal.returns-then-as_slice-size-clause-leaves
 returns-then-as_slice-size-clause-leaves g c =
-    leaves_then (leaves_read _ c.args.writer.now (Ok c.in_ok-piece.piece) _ _ c.in_ok-piece.ensures.frame
+    leaves_then (leaves_read _ c.args.writer.now (Ok c.in_ok-piece.piece) _ _ c.in_ok-piece.ensures.leaves
     c.in_ok-piece.ensures.blames c.in_ok-piece.ensures.misused)
     (leaves_odd c.args.path.now c.args.writer.now _ c.args.path.now c.odd.result c.odd.ensures)
 
@@ -38,7 +38,7 @@ pub returns-in_err-add-clause-leaves : goal.returns-in_err-add-clause-leaves
 returns-in_err-add-clause-leaves g c =
     let exit = err_from_is_err_and c.from_residual-in_err-add.result c.from_residual-in_err-add.ensures.1 in
     rw (exit.1, exit.2) (leaves_then (leaves_read _ c.args.writer.now
-    (Ok c.in_ok-piece.piece) _ _ c.in_ok-piece.ensures.frame c.in_ok-piece.ensures.blames
+    (Ok c.in_ok-piece.piece) _ _ c.in_ok-piece.ensures.leaves c.in_ok-piece.ensures.blames
     c.in_ok-piece.ensures.misused) (leaves_stop (c.in_err-add.ensures.leaves c.args.path.now)))
 
 pub returns-in_err-add-clause-puts : goal.returns-in_err-add-clause-puts
@@ -48,11 +48,11 @@ returns-in_err-add-clause-puts g c =
     rw (exit.1, exit.2) (added_from (read_right c.args.len _ _ h apart file c.in_ok-piece.ensures.misused)
     (added_stop (λ free. some_free before _ free)
     ((c.in_err-add.ensures.adds c.args.path.now).so store before bytes
-    (written_read c.in_ok-piece.ensures.frame.files h) apart)))
+    (written_read c.in_ok-piece.ensures.leaves.files h) apart)))
 
 pub returns-clause-leaves : goal.returns-clause-leaves
 returns-clause-leaves g c =
-    leaves_then (leaves_read _ c.args.writer.now (Ok c.in_ok-piece.piece) _ _ c.in_ok-piece.ensures.frame
+    leaves_then (leaves_read _ c.args.writer.now (Ok c.in_ok-piece.piece) _ _ c.in_ok-piece.ensures.leaves
     c.in_ok-piece.ensures.blames c.in_ok-piece.ensures.misused)
     (leaves_value _ (c.in_ok-add.ensures.leaves c.args.path.now))
 
@@ -64,4 +64,4 @@ returns-clause-puts g c =
     (sym (is ∙ c.as_slice-2.ensures)) (part_read c.in_ok-piece.piece c.args.done c.next_size-size.result h
     apart c.in_ok-piece.ensures.told (ap length (sym c.as_slice.ensures) ∙ c.if-as_slice-size.false)))
     ((c.in_ok-add.ensures.adds c.args.path.now).so store before bytes
-    (written_read c.in_ok-piece.ensures.frame.files h) apart))
+    (written_read c.in_ok-piece.ensures.leaves.files h) apart))

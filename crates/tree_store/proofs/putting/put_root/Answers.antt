@@ -11,7 +11,7 @@ pub returns-in_err-kind_at-clause-leaves : goal.returns-in_err-kind_at-clause-le
 returns-in_err-kind_at-clause-leaves g c =
     let exit = err_from_is_err_and c.from_residual.result c.from_residual.ensures.1 in
     rw (exit.1, exit.2) (leaves_stop (leaves_read None c.args.writer.now
-    (Err _) _ _ c.in_err-kind_at.ensures.frame c.in_err-kind_at.ensures.blames
+    (Err _) _ _ c.in_err-kind_at.ensures.leaves c.in_err-kind_at.ensures.blames
     c.in_err-kind_at.ensures.misused))
 
 pub returns-in_err-kind_at-clause-puts : goal.returns-in_err-kind_at-clause-puts
@@ -25,7 +25,7 @@ returns-in_err-kind_at-clause-puts g c =
 
 pub returns-in-Folder-clause-leaves : goal.returns-in-Folder-clause-leaves
 returns-in-Folder-clause-leaves g c =
-    leaves_then (leaves_read None c.args.writer.now (Ok c.in_ok-kind_at.field-0) _ _ c.in_ok-kind_at.ensures.frame
+    leaves_then (leaves_read None c.args.writer.now (Ok c.in_ok-kind_at.field-0) _ _ c.in_ok-kind_at.ensures.leaves
     tt c.in_ok-kind_at.ensures.misused) c.put_names.ensures.leaves
 
 pub returns-in-Folder-clause-puts : goal.returns-in-Folder-clause-puts
@@ -34,13 +34,13 @@ returns-in-Folder-clause-puts g c =
       so = λ store before bytes h apart. added_from c.in_ok-kind_at.ensures.misused
           (root_added c.in_ok-kind_at.field-0 c.in-Folder.is
           (kind_before c.in_ok-kind_at.field-0 h apart c.in_ok-kind_at.ensures.told)
-          (c.put_names.ensures.puts.so store before bytes (written_read c.in_ok-kind_at.ensures.frame.files h)
+          (c.put_names.ensures.puts.so store before bytes (written_read c.in_ok-kind_at.ensures.leaves.files h)
           apart));
     }
 
 pub returns-in-Absent-clause-leaves : goal.returns-in-Absent-clause-leaves
 returns-in-Absent-clause-leaves g c =
-    leaves_then (leaves_read None c.args.writer.now (Ok c.in_ok-kind_at.field-0) _ _ c.in_ok-kind_at.ensures.frame
+    leaves_then (leaves_read None c.args.writer.now (Ok c.in_ok-kind_at.field-0) _ _ c.in_ok-kind_at.ensures.leaves
     tt c.in_ok-kind_at.ensures.misused) (leaves_odd c.args.path.now _ _ c.args.path.now c.odd.result
     c.odd.ensures)
 
@@ -56,7 +56,7 @@ returns-in-Absent-clause-puts g c =
 
 pub returns-in-File-clause-leaves : goal.returns-in-File-clause-leaves
 returns-in-File-clause-leaves g c =
-    leaves_then (leaves_read None c.args.writer.now (Ok c.in_ok-kind_at.field-0) _ _ c.in_ok-kind_at.ensures.frame
+    leaves_then (leaves_read None c.args.writer.now (Ok c.in_ok-kind_at.field-0) _ _ c.in_ok-kind_at.ensures.leaves
     tt c.in_ok-kind_at.ensures.misused) (leaves_odd c.args.path.now _ _ c.args.path.now c.odd-in-File.result
     c.odd-in-File.ensures)
 
@@ -72,7 +72,7 @@ returns-in-File-clause-puts g c =
 
 pub returns-in-Link-clause-leaves : goal.returns-in-Link-clause-leaves
 returns-in-Link-clause-leaves g c =
-    leaves_then (leaves_read None c.args.writer.now (Ok c.in_ok-kind_at.field-0) _ _ c.in_ok-kind_at.ensures.frame
+    leaves_then (leaves_read None c.args.writer.now (Ok c.in_ok-kind_at.field-0) _ _ c.in_ok-kind_at.ensures.leaves
     tt c.in_ok-kind_at.ensures.misused) (leaves_odd c.args.path.now _ _ c.args.path.now c.odd-in-Link.result
     c.odd-in-Link.ensures)
 
@@ -88,7 +88,7 @@ returns-in-Link-clause-puts g c =
 
 pub returns-in-Odd-clause-leaves : goal.returns-in-Odd-clause-leaves
 returns-in-Odd-clause-leaves g c =
-    leaves_then (leaves_read None c.args.writer.now (Ok c.in_ok-kind_at.field-0) _ _ c.in_ok-kind_at.ensures.frame
+    leaves_then (leaves_read None c.args.writer.now (Ok c.in_ok-kind_at.field-0) _ _ c.in_ok-kind_at.ensures.leaves
     tt c.in_ok-kind_at.ensures.misused) (leaves_odd c.args.path.now _ _ c.args.path.now c.odd-in-Odd.result
     c.odd-in-Odd.ensures)
 

@@ -11,14 +11,14 @@ read_folder-returns-in_err-entries-clause-reads g t c =
     let exit = err_from_is_err_and c.from_residual-in_err-entries.result c.from_residual-in_err-entries.ensures.1 in
     rw (exit.1, exit.2) (folder_refused (g.W.World.tree c.args.world.now)
     (g.W.World.tree c.listed.new.world) c.args.levels c.args.path.now c.args.size c.in_ok-size.size
-    c.as_slice.result.now c.in_ok-names.names _ c.in_ok-names.ensures.frame.files c.requires.kind
+    c.as_slice.result.now c.in_ok-names.names _ c.in_ok-names.ensures.leaves.files c.requires.kind
     c.in_ok-size.ensures c.as_slice.ensures c.in_ok-names.ensures.told c.in_err-entries.ensures.reads)
 
 pub read_folder-returns-clause-reads : goal.read_folder-returns-clause-reads
 read_folder-returns-clause-reads g t c =
     folder_reads (g.W.World.tree c.args.world.now) (g.W.World.tree c.listed.new.world) c.args.levels
     c.args.path.now c.args.size c.in_ok-size.size c.as_slice.result.now c.in_ok-names.names
-    (Ok (c.in_ok-entries.entries, c.in_ok-entries.size)) c.in_ok-names.ensures.frame.files c.requires.kind
+    (Ok (c.in_ok-entries.entries, c.in_ok-entries.size)) c.in_ok-names.ensures.leaves.files c.requires.kind
     c.in_ok-size.ensures c.as_slice.ensures c.in_ok-names.ensures.told c.in_ok-entries.ensures.reads
 
 pub read_node-returns-in-Absent-clause-reads : goal.read_node-returns-in-Absent-clause-reads
@@ -35,13 +35,13 @@ pub read_node-returns-else-levels-eq0-clause-reads : goal.read_node-returns-else
 read_node-returns-else-levels-eq0-clause-reads g t c =
     let above : 0 < c.args.levels = omega (arith, c.if-levels-eq0.false) in
     file_read (g.W.World.tree c.args.world.now) _ c.args.levels c.args.path.now c.args.size c.read_file.result
-    c.in_ok-kind_at.ensures.frame.files above c.read_file.ensures.reads
+    c.in_ok-kind_at.ensures.leaves.files above c.read_file.ensures.reads
 
 pub read_node-returns-else-levels-eq0-2-clause-reads : goal.read_node-returns-else-levels-eq0-2-clause-reads
 read_node-returns-else-levels-eq0-2-clause-reads g t c =
     let above : 0 < c.args.levels = omega (arith, c.if-levels-eq0-2.false) in
     folder_read (g.W.World.tree c.args.world.now) _ c.args.levels c.args.path.now c.args.size c.read_folder.result
-    c.in_ok-kind_at.ensures.frame.files above c.read_folder.ensures.reads
+    c.in_ok-kind_at.ensures.leaves.files above c.read_folder.ensures.reads
 
 pub read_entries-loop-name-preserved : goal.read_entries-loop-name-preserved
 read_entries-loop-name-preserved g t c =
@@ -63,10 +63,10 @@ read_entries-loop-name-preserved g t c =
           c.in_ok-node.node c.args.size c.loop-name.so_far c.in_ok-node.now c.loop-name.invariant.bytes
           c.in_ok-node.ensures.fit.1 more;
       few = c.in_ok-node.ensures.few;
-      tree = c.in_ok-node.ensures.frame.files ∙ c.loop-name.invariant.tree;
-      files = c.in_ok-node.ensures.frame.counts ∙ c.loop-name.invariant.files;
-      children = c.in_ok-node.ensures.frame.children ∙ c.loop-name.invariant.children;
-      runs = c.in_ok-node.ensures.frame.runs ∙ c.loop-name.invariant.runs;
+      tree = c.in_ok-node.ensures.leaves.files ∙ c.loop-name.invariant.tree;
+      files = c.in_ok-node.ensures.leaves.counts ∙ c.loop-name.invariant.files;
+      children = c.in_ok-node.ensures.leaves.children ∙ c.loop-name.invariant.children;
+      runs = c.in_ok-node.ensures.leaves.runs ∙ c.loop-name.invariant.runs;
       misused = c.in_ok-node.ensures.misused ∙ c.loop-name.invariant.misused;
       leaves = leaves_on (g.W.World.tree c.args.world.now) (g.W.World.tree c.loop-name.world) c.args.levels
           c.args.size c.loop-name.so_far c.in_ok-node.now c.loop-name.name-index c.args.folder.now

@@ -10,14 +10,14 @@ returns-in_err-root-in-Folder-clause-reads g c =
     c.from_residual-in_err-root-in-Folder.ensures.1 in
     rw (exit.1, exit.2) (root_refused (g.W.World.tree c.args.world.now)
     (g.W.World.tree c.kind_at.new.world) c.args.path.now c.in_ok-kind_at.field-0 _
-    c.in_ok-kind_at.ensures.frame.files c.in-Folder.is c.in_ok-kind_at.ensures.told
+    c.in_ok-kind_at.ensures.leaves.files c.in-Folder.is c.in_ok-kind_at.ensures.told
     c.in_err-root-in-Folder.ensures.reads)
 
 pub returns-in_ok-root-in-Folder-clause-reads : goal.returns-in_ok-root-in-Folder-clause-reads
 returns-in_ok-root-in-Folder-clause-reads g c = rw c.measured.ensures
     (root_read (g.W.World.tree c.args.world.now) (g.W.World.tree c.kind_at.new.world) c.args.path.now
     c.in_ok-kind_at.field-0 (c.in_ok-root-in-Folder.root, c.in_ok-root-in-Folder.size)
-    c.in_ok-kind_at.ensures.frame.files c.in-Folder.is c.in_ok-kind_at.ensures.told
+    c.in_ok-kind_at.ensures.leaves.files c.in-Folder.is c.in_ok-kind_at.ensures.told
     c.in_ok-root-in-Folder.ensures.reads)
 
 pub returns-in-Absent-clause-reads : goal.returns-in-Absent-clause-reads

@@ -35,10 +35,10 @@ loop-number-preserved g c =
           c.in_ok-take.ensures;
       file = file_read (g.W.World.tree c.args.world.now) (g.W.World.tree c.loop-number.world) c.args.path.now _
           c.loop-number.invariant.tree c.in_ok-piece.ensures.file;
-      tree = c.in_ok-piece.ensures.frame.files ∙ c.loop-number.invariant.tree;
-      files = c.in_ok-piece.ensures.frame.counts ∙ c.loop-number.invariant.files;
-      children = c.in_ok-piece.ensures.frame.children ∙ c.loop-number.invariant.children;
-      runs = c.in_ok-piece.ensures.frame.runs ∙ c.loop-number.invariant.runs;
+      tree = c.in_ok-piece.ensures.leaves.files ∙ c.loop-number.invariant.tree;
+      files = c.in_ok-piece.ensures.leaves.counts ∙ c.loop-number.invariant.files;
+      children = c.in_ok-piece.ensures.leaves.children ∙ c.loop-number.invariant.children;
+      runs = c.in_ok-piece.ensures.leaves.runs ∙ c.loop-number.invariant.runs;
       misused = may_go_on (g.W.World.tree c.args.world.now) (g.W.World.tree c.loop-number.world) c.args.path.now
           (g.W.World.misused c.args.world.now) (g.W.World.misused c.loop-number.world)
           (g.W.World.misused c.read_piece.new.world) c.loop-number.invariant.tree c.loop-number.invariant.misused

@@ -3,19 +3,19 @@ use Rattle.std.proofs.lemmas.Result.{err_from_is_err_and}
 use Rattle.tree_store.specs.Writing.{new_path}
 use Rattle.tree_store.proofs.NewPlace.{place_created, place_made}
 use Rattle.tree_store.proofs.Ways.{when_ok}
-use Rattle.tree_store.proofs.Written.{create_around, create_misuse, folder_around, folder_misuse, frame_called}
-use Rattle.tree_store.proofs.Written.{frame_memory, frame_then, trees_blamed}
+use Rattle.tree_store.proofs.Written.{create_around, create_misuse, folder_around, folder_misuse, others_called}
+use Rattle.tree_store.proofs.Written.{others_memory, others_then, trees_blamed}
 use Rattle.tree_store.proofs.writing.begin_file.Goals as goal
 
-pub returns-in_err-trees-clause-frame : goal.returns-in_err-trees-clause-frame
-returns-in_err-trees-clause-frame g c =
+pub returns-in_err-trees-clause-leaves : goal.returns-in_err-trees-clause-leaves
+returns-in_err-trees-clause-leaves g c =
     let exit = err_from_is_err_and c.from_residual.result c.from_residual.ensures.1 in
-    rw (exit.1, exit.2) (frame_memory (new_path c.args.store.now) _)
+    rw (exit.1, exit.2) (others_memory (new_path c.args.store.now) _)
 
-pub returns-in_err-or_blame-clause-frame : goal.returns-in_err-or_blame-clause-frame
-returns-in_err-or_blame-clause-frame g c =
+pub returns-in_err-or_blame-clause-leaves : goal.returns-in_err-or_blame-clause-leaves
+returns-in_err-or_blame-clause-leaves g c =
     let exit = err_from_is_err_and c.from_residual-in_err-or_blame.result c.from_residual-in_err-or_blame.ensures.1 in
-    rw (exit.1, exit.2) (frame_called g.W.World (new_path c.args.store.now) _ c.make_folder.result
+    rw (exit.1, exit.2) (others_called g.W.World (new_path c.args.store.now) _ c.make_folder.result
     (Err c.in_err-or_blame.field-0.0) _ _
     (folder_around g.W.World c.args.store.now _ c.make_folder.result _ _ c.in_ok-trees.ensures.path
     c.make_folder.ensures.ok c.make_folder.ensures.err c.make_folder.ensures.runs
@@ -25,9 +25,9 @@ returns-in_err-or_blame-clause-frame g c =
     c.make_folder.ensures.children c.make_folder.ensures.files c.make_folder.ensures.at
     c.in_err-or_blame.ensures.counts c.in_err-or_blame.ensures.last)
 
-pub returns-clause-frame : goal.returns-clause-frame
-returns-clause-frame g c =
-    frame_then (frame_called g.W.World (new_path c.args.store.now) _ c.make_folder.result (Ok tt) _ _
+pub returns-clause-leaves : goal.returns-clause-leaves
+returns-clause-leaves g c =
+    others_then (others_called g.W.World (new_path c.args.store.now) _ c.make_folder.result (Ok tt) _ _
     (folder_around g.W.World c.args.store.now _ c.make_folder.result _ _ c.in_ok-trees.ensures.path
     c.make_folder.ensures.ok c.make_folder.ensures.err c.make_folder.ensures.runs
     c.make_folder.ensures.misused)
@@ -35,7 +35,7 @@ returns-clause-frame g c =
     c.make_folder.ensures.err)
     c.make_folder.ensures.children c.make_folder.ensures.files c.make_folder.ensures.at
     c.in_ok-or_blame.ensures.counts c.in_ok-or_blame.ensures.last)
-    (frame_called g.W.World (new_path c.args.store.now) _ c.create.result c.or_blame-2.result _ _
+    (others_called g.W.World (new_path c.args.store.now) _ c.create.result c.or_blame-2.result _ _
     (create_around g.W.World c.args.store.now _ c.create.result _ _ c.requires.path c.create.ensures.ok
     c.create.ensures.err c.create.ensures.runs c.create.ensures.misused)
     (place_created c.args.store.now _ _ c.create.result _ _ c.requires.path c.create.ensures.ok c.create.ensures.err)

@@ -12,7 +12,7 @@ pub returns-in_err-self-clause-leaves : goal.returns-in_err-self-clause-leaves
 returns-in_err-self-clause-leaves g c = λ path.
     let exit = err_from_is_err_and c.from_residual.result c.from_residual.ensures.1 in
     rw (exit.1, exit.2) (leaves_stop path _ _ _ _ _
-    (leaves_read g.W.World path c.args.self.now _ (Err _) _ _ refl c.in_err-self.ensures.frame
+    (leaves_read g.W.World path c.args.self.now _ (Err _) _ _ refl c.in_err-self.ensures.leaves
     c.in_err-self.ensures.blames c.in_err-self.ensures.misused))
 
 pub returns-in_err-self-clause-reads : goal.returns-in_err-self-clause-reads
@@ -26,20 +26,20 @@ pub returns-then-holds-2-clause-leaves : goal.returns-then-holds-2-clause-leaves
 returns-then-holds-2-clause-leaves g c = λ path.
     leaves_value path _ _ _ _ c.in_ok-self.field-0 _
     (leaves_read g.W.World path c.args.self.now _ (Ok c.in_ok-self.field-0) _ _ refl
-    c.in_ok-self.ensures.frame tt c.in_ok-self.ensures.misused)
+    c.in_ok-self.ensures.leaves tt c.in_ok-self.ensures.misused)
 
 pub returns-then-holds-2-clause-reads : goal.returns-then-holds-2-clause-reads
 returns-then-holds-2-clause-reads g c = λ bytes folders long.
-    does_read _ _ bytes bytes folders c.args.self.now _ _ _ c.in_ok-self.ensures.frame.files (λ ahead. tt)
+    does_read _ _ bytes bytes folders c.args.self.now _ _ _ c.in_ok-self.ensures.leaves.files (λ ahead. tt)
     (λ ahead. ahead_filled c.args.self.now _ (g.W.World.tree c.args.world.now) _ bytes
-    c.in_ok-self.ensures.frame.files c.in_ok-self.ensures.told refl refl refl refl refl ahead)
+    c.in_ok-self.ensures.leaves.files c.in_ok-self.ensures.told refl refl refl refl refl ahead)
     (λ ahead. read_right c.args.self.now (g.W.World.tree c.args.world.now) bytes _ _ ahead c.in_ok-self.ensures.misused)
 
 pub returns-else-holds-2-clause-leaves : goal.returns-else-holds-2-clause-leaves
 returns-else-holds-2-clause-leaves g c = λ path.
     rw c.broken.ensures (leaves_broken path _ _ _ _ c.in_ok-self.field-0 _ _ _
     (leaves_read g.W.World path c.args.self.now _ (Ok c.in_ok-self.field-0) _ _ refl
-    c.in_ok-self.ensures.frame tt c.in_ok-self.ensures.misused))
+    c.in_ok-self.ensures.leaves tt c.in_ok-self.ensures.misused))
 
 pub returns-else-holds-2-clause-reads : goal.returns-else-holds-2-clause-reads
 returns-else-holds-2-clause-reads g c = λ bytes folders long. does_never _ bytes bytes _ _ _ c.args.self.now _ _ _

@@ -14,7 +14,7 @@ use Rattle.cnb_world.specs.Whole.{Progress, Unbegun, FolderMade, PartBeside, wri
 use Rattle.cnb_world.proofs.Trees.{get-insert_bytes, get-remove_bytes}
 use Rattle.cnb_world.proofs.Folders.{get-with_folders}
 use Rattle.steps.specs.Causes.{Cause, Decided}
-use Rattle.steps.specs.Frames.{folder_paths, touched, is_free, standing, Keeps, Spares}
+use Rattle.steps.specs.Keeping.{folder_paths, touched, is_free, standing, Keeps, Spares}
 use Rattle.steps.specs.Outside.{Seen}
 use Rattle.steps.proofs.EndLaws.{obeys_bind, obeys_told}
 use Rattle.steps.specs.Steps.{LeavesSome, Same, ◌>>=◌, gives, map_err, reads, makes_folder, runs_child, writes, yields}
@@ -112,10 +112,10 @@ keeps_bind path first next p q = obeys_bind (λ last. Keeps path) (λ fault. Dec
 still : (path : List ℕ) (old new : Seen) → Same old new → Keeps path old new
 still path old new same = keeps_same path old new same.runs (ap (λ o. standing o path) same.files)
 
-pub keeps_reads : {E A : Type 0} (path : List ℕ) (cause_of : E → Cause) (fits : Tree → Bool)
-    (want : Tree → Result A E) → Preserves path (reads cause_of fits want)
+pub keeps_reads : {E A : Type 0} (path : List ℕ) (cause_of : E → Cause) (Among : List ℕ → Type 0) (fits : Tree → Bool)
+    (want : Tree → Result A E) → Preserves path (reads cause_of Among fits want)
 unfolding reads
-keeps_reads path cause_of fits want old new result h = still path old new h.same
+keeps_reads path cause_of Among fits want old new result h = still path old new h.same
 
 unmoved : (path : List ℕ) (old new : Seen) → new ≡ old → Keeps path old new
 unmoved path old new e = keeps_same path old new (ap (λ s. s.runs) e) (ap (λ s. standing s.files path) e)
