@@ -5,6 +5,7 @@ pub mod Images
 pub mod Layers
 pub mod Report
 pub mod Restored
+pub mod RestoredFiles
 pub mod Restores
 pub mod RestoresFrom
 pub mod Rows

@@ -4,6 +4,7 @@ ghost use Rattle.shelf_set.specs.Caches.{caches_seen, world_and_caches};
 ghost use Rattle.shelf_set.specs.CacheSteps.{gathers};
 ghost use Rattle.steps.specs.Outside.{seen};
 ghost use Rattle.cnb_restore.specs.Faults.{cause_of};
+ghost use Rattle.cnb_restore.specs.RestoredFiles.{LeavesRestored};
 ghost use Rattle.cnb_restore.specs.Restores.{restores};
 ghost use Rattle.cnb_restore.specs.RestoresFrom.{restores_from};
 
@@ -68,6 +69,9 @@ pub fn restore<W: World>(
     ensures steps { restores store.now analyzed.now.previous group.now layers.now
         (world_and_caches (seen W.World world.old) (caches_seen ⟦<dyn Shelf as Shelf>⟧ caches.old)) result
         (world_and_caches (seen W.World world.new) (caches_seen ⟦<dyn Shelf as Shelf>⟧ caches.new)) }
+    ensures files { IfOk result (λ restored. LeavesRestored store.now analyzed.now.previous group.now layers.now
+        (world_and_caches (seen W.World world.old) (caches_seen ⟦<dyn Shelf as Shelf>⟧ caches.old)) restored
+        (world_and_caches (seen W.World world.new) (caches_seen ⟦<dyn Shelf as Shelf>⟧ caches.new))) }
 {
     let previous = read_previous(alloc, world, store, analyzed.previous.as_ref())?;
     let mut sources = Sources {

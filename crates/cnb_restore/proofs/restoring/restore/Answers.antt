@@ -5,27 +5,26 @@ use Rattle.steps.proofs.StepLemmas.{ended, went}
 use Rattle.shelf_set.proofs.CacheLemmas.{within}
 use Rattle.cnb_restore.specs.Restores.{restores}
 use Rattle.cnb_restore.specs.RestoresFrom.{restores_from}
+use Rattle.cnb_restore.proofs.FilesLaws.{leaves_restored}
 use Rattle.cnb_restore.proofs.ReadLemmas.{previous_as}
 use Rattle.cnb_restore.proofs.RestoreLemmas.{group_from}
 use Rattle.cnb_restore.proofs.restoring.restore.Goals as goal
 
-pub returns-in_err-previous : goal.returns-in_err-previous
+pub returns-in_err-previous-clause-steps : goal.returns-in_err-previous-clause-steps
 unfolding restores
-returns-in_err-previous g c =
+returns-in_err-previous-clause-steps g c =
     let exit = err_from_is_err_and c.from_residual.result c.from_residual.ensures.1 in
-    rw (exit.1, exit.2) (record {
-      steps = ended _ _ _ _ _
-          (within _ _ _ _ _ (previous_as c.args.store.now _ _ (seen g.W.World c.args.world.now)
-          (Err c.in_err-previous.field-0.0) (seen g.W.World c.read_previous.new.world) c.as_ref.ensures.value
-          c.in_err-previous.ensures.step));
-    })
+    rw (exit.1, exit.2) (ended _ _ _ _ _ (within _ _ _ _ _ (previous_as c.args.store.now _ _
+    (seen g.W.World c.args.world.now) (Err c.in_err-previous.field-0.0) (seen g.W.World c.read_previous.new.world)
+    c.as_ref.ensures.value c.in_err-previous.ensures.step)))
 
-pub returns : goal.returns
+pub returns-clause-steps : goal.returns-clause-steps
 unfolding restores restores_from
-returns g c =
-    record {
-      steps = went _ _ _ _ _ _ _ (within _ _ _ _ _ (previous_as c.args.store.now _ _
-          (seen g.W.World c.args.world.now) (Ok c.in_ok-previous.previous)
-          (seen g.W.World c.read_previous.new.world) c.as_ref.ensures.value c.in_ok-previous.ensures.step))
-          (group_from _ _ _ _ _ _ _ c.as_slice.ensures c.restore_from.ensures.steps);
-    }
+returns-clause-steps g c =
+    went _ _ _ _ _ _ _ (within _ _ _ _ _ (previous_as c.args.store.now _ _ (seen g.W.World c.args.world.now)
+    (Ok c.in_ok-previous.previous) (seen g.W.World c.read_previous.new.world) c.as_ref.ensures.value
+    c.in_ok-previous.ensures.step))
+    (group_from _ _ _ _ _ _ _ c.as_slice.ensures c.restore_from.ensures.steps)
+
+pub returns-clause-files : goal.returns-clause-files
+returns-clause-files g c = leaves_restored _ _ _ _ _ _ _ (returns-clause-steps g c)
