@@ -405,7 +405,8 @@ fn add_row<'a>(change: &'a Change, rows: &mut Vec<&'a ChildRun>) -> Result<(), M
     Ok(())
 }
 
-fn part(bytes: &[u8], at: u64, max: u64) -> &[u8]
+/// The bytes from `at` on, at most `max` of them.
+pub fn part(bytes: &[u8], at: u64, max: u64) -> &[u8]
     ensures { result.now ≡ take max (drop at bytes.now) }
 {
     let len = bytes.len() as u64;

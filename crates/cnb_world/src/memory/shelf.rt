@@ -6,6 +6,7 @@ ghost use Rattle.std.specs.Str.{bytes_eq};
 ghost use Rattle.cnb_world.specs.Calls.{Rose};
 ghost use Rattle.cnb_world.specs.Shelf.{held_of};
 
+use crate::memory::changes::part;
 use crate::memory::numbers::{Numbers, raised};
 use crate::shelf::{Shelf, ShelfFault};
 use crate::values::{Bytes, List, Memory};
@@ -18,12 +19,14 @@ pub struct Held {
     pub bytes: Bytes,
 }
 
-/// A shelf in memory. Calls are numbered from 0, and those of the given numbers are counted faults.
+/// A shelf in memory. Calls are numbered from 0, and those of the given numbers are counted faults. A call that fails
+/// to begin, append or keep drops what was begun.
 #[derive(Drop)]
 pub struct MemShelf {
     alloc: Global,
     rows: Bytes,
     puts: Vec<Held>,
+    begun: Option<Held>,
     numbers: Numbers,
     faults: u64,
 }
@@ -44,6 +47,7 @@ impl MemShelf {
             alloc,
             rows,
             puts: held.into_vec(),
+            begun: None,
             numbers: Numbers::new(faulty),
             faults: 0,
         })
@@ -66,20 +70,14 @@ impl MemShelf {
     }
 
     #[tactic(auto, using(crate::proofs::ShelfLemmas::held_of_push))]
-    fn add(&mut self, digest: &[u8; 32], bytes: &[u8]) -> Result<(), Memory>
+    fn add(&mut self, held: Held) -> Result<(), Memory>
         ensures ok { OnOk result (held_of self.new.puts.items
-            ≡ insert (held_of self.old.puts.items) digest.now bytes.now) }
+            ≡ insert (held_of self.old.puts.items) held.digest held.bytes) }
         ensures err { OnErr result (self.new.puts.items ≡ self.old.puts.items) }
         ensures rows { self.new.rows ≡ self.old.rows }
         ensures faults { self.new.faults ≡ self.old.faults }
     {
-        let bytes = Bytes::of(self.alloc, bytes)?;
-        let next = Held {
-            digest: *digest,
-            bytes,
-        };
-        self.puts.push(next)?;
-        Ok(())
+        Ok(self.puts.push(held)?)
     }
 }
 
@@ -87,6 +85,8 @@ impl Shelf for MemShelf {
     ghost held = { λ s. Some (held_of s.puts.items) };
 
     ghost rows = { λ s. Some s.rows };
+
+    ghost begun = { λ s. s.begun };
 
     ghost faults = { λ s. s.faults };
 
@@ -112,22 +112,50 @@ impl Shelf for MemShelf {
         Ok(self.found(digest).is_some())
     }
 
-    fn get(&mut self, digest: &[u8; 32]) -> Result<Option<Bytes>, ShelfFault> {
+    fn read(&mut self, digest: &[u8; 32], at: u64, most: u64) -> Result<Option<Bytes>, ShelfFault> {
         if self.numbers.is_next_faulty() {
             return Err(self.fault());
         }
         match self.found(digest) {
-            Some(bytes) => Ok(Some(Bytes::of(self.alloc, bytes.as_slice())?)),
+            Some(bytes) => Ok(Some(Bytes::of(self.alloc, part(bytes.as_slice(), at, most))?)),
             None => Ok(None),
         }
     }
 
-    fn put(&mut self, digest: &[u8; 32], bytes: &[u8]) -> Result<(), ShelfFault> {
+    fn begin(&mut self, digest: &[u8; 32]) -> Result<(), ShelfFault> {
+        self.begun = None;
         if self.numbers.is_next_faulty() {
             return Err(self.fault());
         }
-        self.add(digest, bytes)?;
+        self.begun = Some(Held {
+            digest: *digest,
+            bytes: Bytes::from_vec(Vec::new(self.alloc)),
+        });
         Ok(())
+    }
+
+    fn append(&mut self, bytes: &[u8]) -> Result<(), ShelfFault> {
+        let begun = self.begun.take();
+        if self.numbers.is_next_faulty() {
+            return Err(self.fault());
+        }
+        let Some(mut held) = begun else {
+            return Err(self.fault());
+        };
+        held.bytes.append(bytes)?;
+        self.begun = Some(held);
+        Ok(())
+    }
+
+    fn keep(&mut self) -> Result<(), ShelfFault> {
+        let begun = self.begun.take();
+        if self.numbers.is_next_faulty() {
+            return Err(self.fault());
+        }
+        let Some(held) = begun else {
+            return Err(self.fault());
+        };
+        Ok(self.add(held)?)
     }
 }
 
