@@ -1,6 +1,5 @@
 // The export of the image, and its document.
-ghost use Rattle.std.specs.Prelude.{◌≡◌, IfOk, IsTrue};
-ghost use Rattle.cnb_layers.specs.Frame as frames;
+ghost use Rattle.std.specs.Prelude.{IfOk, IsTrue};
 ghost use Rattle.cnb_layers.specs.Refusals as exporting;
 ghost use Rattle.cnb_words.specs.Create.{KeepsLimits};
 ghost use Rattle.image_docs.specs.Image.{is_image_doc};
@@ -8,7 +7,7 @@ ghost use Rattle.run_docs.specs.Group.{is_group_doc};
 ghost use Rattle.shelf_set.specs.Caches.{caches_seen, world_and_caches};
 ghost use Rattle.steps.specs.Outside.{seen};
 ghost use Rattle.steps.specs.Steps.{map_err};
-ghost use Rattle.cnb_create.specs.Creates.{export_frame, exports_image, leaves_image};
+ghost use Rattle.cnb_create.specs.Creates.{exports_image, leaves_image};
 ghost use Rattle.cnb_create.specs.declared.refusal.CreateRefusal.TheVariants as refused;
 
 use crate::phases::Phases;
@@ -17,23 +16,10 @@ use crate::report::created_text;
 use cnb_export::{Exported, export, save_image};
 use cnb_layers::{ExportFault, ExportFrame};
 use cnb_words::CreateWords;
-use cnb_world::{Memory, Shelf, Text, World};
+use cnb_world::{Shelf, Text, World};
 use image_docs::ImageDoc;
 use shelf_set::Caches;
 use std::alloc::Global;
-
-fn export_frame(alloc: Global, options: &CreateWords) -> Result<ExportFrame, Memory>
-    requires { KeepsLimits options.now }
-    ensures frame { IfOk result (λ frame. frame ≡ export_frame options.now) }
-    ensures limits { IfOk result frames.KeepsLimits }
-{
-    Ok(ExportFrame {
-        store: options.store.copy(alloc)?,
-        layers: options.layers.copy(alloc)?,
-        app: options.detect.app.copy(alloc)?,
-        launcher: options.launcher.copy(alloc)?,
-    })
-}
 
 fn export_image<W: World>(
     alloc: Global,
@@ -49,7 +35,13 @@ fn export_image<W: World>(
     ensures readable { IsTrue (is_group_doc phases.now.group)
         → IfOk result (λ exported. IsTrue (is_image_doc exported.image)) }
 {
-    let frame = export_frame(alloc, options)?;
+    let frame = ExportFrame::new(
+        alloc,
+        &options.store,
+        &options.layers,
+        &options.detect.app,
+        &options.launcher,
+    )?;
     let exported = export(
         alloc,
         world,

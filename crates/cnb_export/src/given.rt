@@ -6,15 +6,14 @@ ghost use Rattle.run_docs.specs.Group.{group_in};
 ghost use Rattle.steps.specs.Causes.{IsAnswer, IsGivenCause};
 ghost use Rattle.steps.specs.Outside.{seen};
 ghost use Rattle.cnb_layers.specs.Frame.{KeepsLimits};
-ghost use Rattle.cnb_export.specs.Given.{frame_of, needed_at, reads_given, reads_group, reads_needed, refusal_cause};
-ghost use Rattle.cnb_export.specs.Given.{served};
+ghost use Rattle.cnb_export.specs.Given.{needed_at, reads_given, reads_group, reads_needed, refusal_cause, served};
 ghost use Rattle.cnb_layers.specs.Refusals.{cause_of};
 
 use crate::refusal::ExportRefusal;
 use cnb_layers::{ExportFault, ExportFrame, read_document, value_at};
 use cnb_toml::DocFault;
 use cnb_words::ExportWords;
-use cnb_world::{Bytes, Memory, Path, World};
+use cnb_world::{Bytes, Path, World};
 use image_docs::{Analyzed, read_analyzed};
 use run_docs::{GroupDoc, foreign_among, read_group};
 use std::alloc::Global;
@@ -97,19 +96,6 @@ fn find_served_group<W: World>(
     Ok(group)
 }
 
-fn frame(alloc: Global, options: &ExportWords) -> Result<ExportFrame, Memory>
-    requires { words.KeepsLimits options.now }
-    ensures frame { IfOk result (λ frame. frame ≡ frame_of options.now) }
-    ensures limits { IfOk result KeepsLimits }
-{
-    Ok(ExportFrame {
-        store: options.store.copy(alloc)?,
-        layers: options.layers.copy(alloc)?,
-        app: options.app.copy(alloc)?,
-        launcher: options.launcher.copy(alloc)?,
-    })
-}
-
 /// Reads the chosen group and what was analyzed.
 pub(crate) fn read_given<W: World>(
     alloc: Global,
@@ -122,7 +108,13 @@ pub(crate) fn read_given<W: World>(
 {
     let group = find_served_group(alloc, world, &options.work)?;
     let analyzed = find_analyzed(alloc, world, &options.work)?;
-    let frame = frame(alloc, options)?;
+    let frame = ExportFrame::new(
+        alloc,
+        &options.store,
+        &options.layers,
+        &options.app,
+        &options.launcher,
+    )?;
     Ok(ExportGiven {
         frame,
         group,
