@@ -18,5 +18,6 @@ pub mod ScanFeeds
 pub mod Takes
 pub mod Tells
 pub mod Feeds
+pub mod Feeding
 pub mod Pieces
 mod Held

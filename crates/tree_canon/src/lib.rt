@@ -24,7 +24,7 @@ pub use digest::Digest;
 pub use event::{Event, Step};
 pub use fault::{DecodeFault, Reason, TreeFault};
 pub use fitting::is_target;
-pub use judging::{Judged, judge};
+pub use judging::{Judged, Judging, judge};
 pub use node::{Named, Node};
 pub use scan::Scan;
 pub use spelling::encode;

@@ -28,13 +28,13 @@ use Rattle.tree_store.specs.declared.fault.StoreFault.{StoreFault}
 use Rattle.tree_store.specs.declared.fault.StoreFault.TheVariants.{Damaged}
 use Rattle.tree_store.specs.Answers.{BlamesAt, cause_of}
 use Rattle.tree_store.specs.Checking.{Checks, ChecksOf, HasChecked}
-use Rattle.tree_store.specs.Judging.{IsFed}
+use Rattle.tree_canon.specs.Judging.{IsFed}
 use Rattle.tree_store.specs.Steps.{checks_tree, gets_tree}
 use Rattle.tree_store.specs.Digests.{HasTree}
 use Rattle.tree_store.specs.Store.{tree_path, Gets}
 use Rattle.tree_store.proofs.CallSteps.{got}
 use Rattle.tree_store.proofs.CountLaws.{counted}
-use Rattle.tree_store.proofs.Feeding.{fed_on, fed_broken, ended_badly}
+use Rattle.tree_canon.proofs.Feeding.{fed_on, fed_broken, ended_badly}
 use Rattle.tree_store.proofs.Kept.{Taken, contents}
 
 -- ---- one piece

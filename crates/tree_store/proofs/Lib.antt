@@ -9,7 +9,6 @@ pub mod Checked
 pub mod Contents
 pub mod CountLaws
 pub mod Entries
-pub mod Feeding
 pub mod Fit
 pub mod Fitting
 pub mod Kept

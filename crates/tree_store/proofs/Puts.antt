@@ -19,8 +19,8 @@ use Rattle.tree_canon.specs.declared.judging.Judged.TheVariants as judged
 use Rattle.tree_canon.specs.declared.node.Node.{Node}
 use Rattle.tree_store.specs.declared.fault.StoreFault.{StoreFault}
 use Rattle.tree_store.specs.declared.fault.StoreFault.TheVariants.{OddFile, Limit, File, NoTree, Damaged, Clash, Memory}
-use Rattle.tree_store.specs.declared.judging.Judging.{Judging}
-use Rattle.tree_store.specs.Judging.{HasTaken}
+use Rattle.tree_canon.specs.declared.judging.Judging.{Judging}
+use Rattle.tree_canon.specs.Judging.{HasTaken}
 use Rattle.steps.specs.Causes.{IsAnswer, WhereDecided}
 use Rattle.tree_store.specs.Answers.{cause_of, is_free, is_file_kind, is_absent_kind}
 use Rattle.tree_store.specs.Store.{left_or_written, kept_or_written, KeepsOver, Keeps, LeavesStore, IsJudgedTree}

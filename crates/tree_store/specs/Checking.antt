@@ -5,7 +5,7 @@ use Rattle.cnb_world.specs.declared.world.Item.{Item}
 use Rattle.tree_canon.specs.Feeding.{Fed}
 use Rattle.tree_canon.specs.Scans.{Scans}
 use Rattle.tree_canon.specs.declared.node.Node.{Node}
-use Rattle.tree_store.specs.Judging.{IsFed}
+use Rattle.tree_canon.specs.Judging.{IsFed}
 use Rattle.tree_store.specs.Store.{Gets, GetsOf}
 use Rattle.tree_store.specs.declared.checking.Checking.{Checking}
 use Rattle.tree_store.specs.declared.fault.StoreFault.{StoreFault}

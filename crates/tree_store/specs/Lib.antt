@@ -4,7 +4,6 @@ pub mod Around
 pub mod Checking
 pub mod Comparing
 pub mod Digests
-pub mod Judging
 pub mod Laying
 pub mod Matching
 pub mod Overlay

@@ -5,7 +5,6 @@
 mod checking;
 mod fault;
 mod folders;
-mod judging;
 mod kept_bytes;
 mod laws;
 mod laying;

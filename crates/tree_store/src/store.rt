@@ -18,11 +18,10 @@ ghost use Rattle.tree_store.specs.Store.{tree_path, tree_put, kept_or_written, G
 ghost use Rattle.tree_store.specs.Store.{LeavesStore};
 
 use crate::fault::{StoreFault, blamed};
-use crate::judging::Judging;
 use crate::reading::kind_at;
 use cnb_world::{Bytes, Kind, Memory, Path, World, write_whole};
 use std::alloc::Global;
-use tree_canon::{Digest, Judged, Tree, encode};
+use tree_canon::{Digest, Judged, Judging, Tree, encode};
 
 /// How many bytes are read at once.
 pub(crate) const PIECE: u64 = 65536;

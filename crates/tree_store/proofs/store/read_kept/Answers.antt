@@ -1,11 +1,11 @@
 use Rattle.std.proofs.Common.{◌≡◌, ◌+◌, ◌/◌, ◌∙◌, arith, refl, subst, sym}
 use Rattle.std.specs.Option.{option_map}
 use Rattle.cnb_world.specs.Tree.{is_file, item_at}
-use Rattle.tree_store.specs.Judging.{HasTaken}
+use Rattle.tree_canon.specs.Judging.{HasTaken}
 use Rattle.tree_store.proofs.Kept.{TookAll, file_read, is_file_after, last_piece, may_begin, may_go_on, no_file_yet}
 use Rattle.tree_store.proofs.Kept.{none_taken, taken_on, told_slice, within_pieces}
 use Rattle.tree_store.proofs.Puts.{judged_digest, judged_gets}
-use Rattle.tree_store.specs.declared.judging.Judging.{Judging}
+use Rattle.tree_canon.specs.declared.judging.Judging.{Judging}
 use Rattle.tree_store.proofs.store.read_kept.Given as given
 use Rattle.tree_store.proofs.store.read_kept.Goals as goal
 use Rattle.tree_store.proofs.store.read_kept.Goals.{else-loop-number-test}

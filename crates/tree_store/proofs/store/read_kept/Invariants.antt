@@ -2,7 +2,7 @@ use Rattle.std.proofs.Common.{◌≡◌}
 use Rattle.std.specs.Option.{option_map}
 use Rattle.cnb_world.specs.Calls.{MayMisuse}
 use Rattle.cnb_world.specs.Tree.{item_at, is_file}
-use Rattle.tree_store.specs.Judging.{HasTaken}
+use Rattle.tree_canon.specs.Judging.{HasTaken}
 use Rattle.tree_store.proofs.Kept.{IsFileAfter, Taken}
 use Rattle.tree_store.proofs.store.read_kept.Given as goal
 

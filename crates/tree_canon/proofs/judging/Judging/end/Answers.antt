@@ -3,8 +3,8 @@ use Rattle.tree_canon.specs.Feeding.{Ends}
 use Rattle.tree_canon.specs.Judging.{IsJudged}
 use Rattle.tree_canon.specs.declared.fault.DecodeFault.{DecodeFault}
 use Rattle.tree_canon.specs.declared.fault.DecodeFault.TheVariants as faults
-use Rattle.tree_store.proofs.Feeding.{ended_badly}
-use Rattle.tree_store.proofs.judging.Judging.end.Goals as goal
+use Rattle.tree_canon.proofs.Feeding.{ended_badly}
+use Rattle.tree_canon.proofs.judging.Judging.end.Goals as goal
 
 pub returns-in-Err-Bad : goal.returns-in-Err-Bad
 returns-in-Err-Bad c bytes taken =

@@ -7,7 +7,7 @@ use Rattle.tree_canon.specs.declared.node.Node.{Node}
 use Rattle.tree_canon.specs.CutTree.{cut_bytes}
 use Rattle.tree_canon.specs.Division.{Spells, IsBroken}
 use Rattle.tree_canon.specs.Feeding.{Fed, Feeds, Ends, IsBad}
-use Rattle.tree_store.specs.Judging.{IsFed}
+use Rattle.tree_canon.specs.Judging.{IsFed}
 
 -- more bytes mend no field
 broken_more : (bytes more : List ℕ) (at : ℕ) (reason : Reason) → IsBroken bytes at reason

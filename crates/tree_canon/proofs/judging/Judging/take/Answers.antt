@@ -1,8 +1,8 @@
 use Rattle.std.proofs.Common.{◌≡◌, Err, subst}
 use Rattle.tree_canon.specs.Feeding.{Feeds}
 use Rattle.tree_canon.specs.declared.fault.DecodeFault.TheVariants as faults
-use Rattle.tree_store.proofs.Feeding.{fed_broken}
-use Rattle.tree_store.proofs.judging.Judging.take.Goals as goal
+use Rattle.tree_canon.proofs.Feeding.{fed_broken}
+use Rattle.tree_canon.proofs.judging.Judging.take.Goals as goal
 
 pub returns-in-Err-Bad : goal.returns-in-Err-Bad
 returns-in-Err-Bad c =
