@@ -120,25 +120,8 @@ where
     read_found(rt, alloc, path, &found, 0, max)
 }
 
-/// The bytes of the regular file at a path, at most `max` of them, where anything stands there.
-pub fn read_if_there<R: Files>(
-    rt: &R,
-    alloc: Global,
-    path: &str,
-    max: u64,
-) -> Result<Option<Bytes>, HostFault>
-where
-    R::File: FileExt,
-    ensures bound { IfOk result (λ found. IfSome found (λ bytes. length bytes ≤ max)) }
-{
-    match look_at(rt, path)? {
-        Some(found) => Ok(Some(read_found(rt, alloc, path, &found, 0, max)?)),
-        None => Ok(None),
-    }
-}
-
-// The regular file that was found at a path, opened, and its length.
-fn open_to_read<R: Files>(
+/// The regular file that was found at a path, opened, and its length.
+pub fn open_to_read<R: Files>(
     rt: &R,
     path: &str,
     found: &Metadata,
@@ -344,28 +327,6 @@ fn check_same(rt: &impl Files, path: &str, opened: &Metadata) -> Result<(), Host
     } else {
         Err(HostFault::Failed)
     }
-}
-
-/// Puts a file with these bytes at a path, in place of a regular file that stands there. It is written beside its place
-/// and renamed, so that at no time a part of the bytes stands there.
-pub fn replace_file<R: Files + AllocGlobal>(
-    rt: &R,
-    path: &str,
-    bytes: &[u8],
-) -> Result<(), HostFault> {
-    let unfinished = format!(in rt.alloc(); "{path}.new")?;
-    replace_through(rt, unfinished.as_str(), path, bytes)
-}
-
-fn replace_through<R: Files>(
-    rt: &R,
-    unfinished: &str,
-    path: &str,
-    bytes: &[u8],
-) -> Result<(), HostFault> {
-    let mut file = create_file(rt, unfinished, false)?;
-    file.write_all(bytes)?;
-    rename_open(rt, &file, unfinished, path)
 }
 
 fn is_same_file(found: &Metadata, opened: &Metadata) -> bool {

@@ -5,6 +5,7 @@
 //! counted, an answer is within its bounds, and a child is handed exactly its job. What the system does is trusted.
 #![tactic(auto)]
 
+mod beside;
 mod command;
 mod fault;
 mod files;
@@ -12,6 +13,7 @@ mod kept;
 mod locks;
 mod looked;
 mod names;
+mod opened;
 mod plans;
 mod prober;
 mod process;

@@ -3,25 +3,45 @@ ghost use Rattle.std.specs.Prelude.{◌≡◌, ◌≤◌, IfOk, IfSome, None, le
 ghost use Rattle.std.specs.Result.{result_ok};
 ghost use Rattle.cnb_world.specs.Calls.{CountsShelf};
 
+use crate::beside::{NewFile, replace_file};
 use crate::fault::HostFault;
-use crate::files::{kind_at, make_folders, read_if_there, replace_file};
+use crate::files::{kind_at, make_folders};
+use crate::opened::OpenedFile;
 use cnb_world::{Bytes, Kind, Path, Shelf, ShelfFault};
 use std::alloc::{AllocError, Global};
 use std::marker::Model;
 use std::os::unix::fs::FileExt;
 use std::rt::Files;
 
-/// The most that is handed out of a file: the spelling of a tree is no longer.
+/// The most bytes that are handed out of a file: the spelling of a tree is no longer.
 const MOST: u64 = 1073741824;
 
 /// A cache in a folder: the rows document in `rows.toml`, and the bytes under a digest in `trees`, in a file named by
 /// the digest's 64 digits. Contracts see it as the count of the calls that failed. A `rows.toml` that is not there has
 /// no bytes. A file is written beside its place and renamed. The folder is made by the first call that writes.
+///
+/// A tree's file that is read from its start stays open for the pieces that follow, up to the last one, and one that is
+/// written until it is kept or a call on it fails.
 #[derive(Drop)]
 pub struct FolderShelf<R: Files + AllocGlobal + Drop> {
     rt: R,
     folder: Path,
+    reading: Option<TreeFile<R>>,
+    begun: Option<NewFile<R>>,
     faults: u64,
+}
+
+/// A tree's file that is read.
+#[derive(Drop)]
+struct TreeFile<R: Files> {
+    digest: [u8; 32],
+    file: OpenedFile<R>,
+}
+
+impl<R: Files> TreeFile<R> {
+    fn is_under(&self, digest: &[u8; 32]) -> bool {
+        self.digest.as_slice() == digest.as_slice()
+    }
 }
 
 impl<R: Files + AllocGlobal + Drop> Model for FolderShelf<R> {
@@ -39,6 +59,8 @@ impl<R: Files + AllocGlobal + Drop> FolderShelf<R> {
         FolderShelf {
             rt,
             folder,
+            reading: None,
+            begun: None,
             faults: 0,
         }
     }
@@ -67,8 +89,7 @@ impl<R: Files + AllocGlobal + Drop> FolderShelf<R> {
 
     fn write_rows(&self, bytes: &[u8]) -> Result<(), HostFault> {
         make_folders(&self.rt, self.folder.as_str())?;
-        let path = self.rows_path()?;
-        replace_file(&self.rt, path.as_str(), bytes)
+        replace_file(&self.rt, self.rows_path()?, bytes)
     }
 
     fn has_tree(&self, digest: &[u8; 32]) -> Result<bool, HostFault> {
@@ -76,19 +97,69 @@ impl<R: Files + AllocGlobal + Drop> FolderShelf<R> {
         has_file(&self.rt, path.as_str())
     }
 
-    fn read_tree(&self, digest: &[u8; 32]) -> Result<Option<Bytes>, HostFault>
-    where
-        R::File: FileExt,
-        ensures bound { IfOk result (λ found. IfSome found (λ bytes. length bytes ≤ 1073741824)) }
+    // The file that is open for a tree, unless it is read anew.
+    fn take_tree(&mut self, digest: &[u8; 32], at: u64) -> Result<Option<TreeFile<R>>, HostFault>
+        ensures faults { self.new ≡ self.old }
     {
-        let path = self.tree_path(digest)?;
-        read_if_there(&self.rt, self.rt.alloc(), path.as_str(), MOST)
+        match self.reading.take() {
+            Some(tree) if at > 0 && tree.is_under(digest) => Ok(Some(tree)),
+            _ => self.open_tree(digest),
+        }
     }
 
-    fn write_tree(&self, digest: &[u8; 32], bytes: &[u8]) -> Result<(), HostFault> {
-        self.make_trees()?;
+    fn open_tree(&self, digest: &[u8; 32]) -> Result<Option<TreeFile<R>>, HostFault> {
         let path = self.tree_path(digest)?;
-        replace_file(&self.rt, path.as_str(), bytes)
+        let file = OpenedFile::open(&self.rt, path.as_str(), MOST)?;
+        Ok(file.map(|file| TreeFile {
+            digest: *digest,
+            file,
+        }))
+    }
+
+    fn read_tree(
+        &mut self,
+        digest: &[u8; 32],
+        at: u64,
+        most: u64,
+    ) -> Result<Option<Bytes>, HostFault>
+    where
+        R::File: FileExt,
+        ensures bound { IfOk result (λ found. IfSome found (λ bytes. length bytes ≤ most)) }
+        ensures faults { self.new ≡ self.old }
+    {
+        let Some(tree) = self.take_tree(digest, at)? else {
+            return Ok(None);
+        };
+        let bytes = tree.file.read(self.rt.alloc(), at, most)?;
+        if bytes.as_slice().len() as u64 == most {
+            self.reading = Some(tree);
+        }
+        Ok(Some(bytes))
+    }
+
+    fn begin_tree(&mut self, digest: &[u8; 32]) -> Result<(), HostFault>
+        ensures faults { self.new ≡ self.old }
+    {
+        self.begun = None;
+        self.make_trees()?;
+        self.begun = Some(NewFile::begin(&self.rt, self.tree_path(digest)?)?);
+        Ok(())
+    }
+
+    fn append_tree(&mut self, bytes: &[u8]) -> Result<(), HostFault>
+        ensures faults { self.new ≡ self.old }
+    {
+        let mut begun = self.begun.take().ok_or(HostFault::Failed)?;
+        begun.append(bytes)?;
+        self.begun = Some(begun);
+        Ok(())
+    }
+
+    fn keep_tree(&mut self) -> Result<(), HostFault>
+        ensures faults { self.new ≡ self.old }
+    {
+        self.reading = None;
+        self.begun.take().ok_or(HostFault::Failed)?.keep(&self.rt)
     }
 
     fn make_trees(&self) -> Result<(), HostFault> {
@@ -119,6 +190,8 @@ where
 
     ghost rows = { λ _. None };
 
+    ghost begun = { λ _. None };
+
     ghost faults = { λ count. count };
 
     fn rows(&mut self) -> Result<Bytes, ShelfFault> {
@@ -136,14 +209,24 @@ where
         self.counted(found)
     }
 
-    fn get(&mut self, digest: &[u8; 32]) -> Result<Option<Bytes>, ShelfFault> {
-        let bytes = self.read_tree(digest);
+    fn read(&mut self, digest: &[u8; 32], at: u64, most: u64) -> Result<Option<Bytes>, ShelfFault> {
+        let bytes = self.read_tree(digest, at, most);
         self.counted(bytes)
     }
 
-    fn put(&mut self, digest: &[u8; 32], bytes: &[u8]) -> Result<(), ShelfFault> {
-        let written = self.write_tree(digest, bytes);
-        self.counted(written)
+    fn begin(&mut self, digest: &[u8; 32]) -> Result<(), ShelfFault> {
+        let begun = self.begin_tree(digest);
+        self.counted(begun)
+    }
+
+    fn append(&mut self, bytes: &[u8]) -> Result<(), ShelfFault> {
+        let appended = self.append_tree(bytes);
+        self.counted(appended)
+    }
+
+    fn keep(&mut self) -> Result<(), ShelfFault> {
+        let kept = self.keep_tree();
+        self.counted(kept)
     }
 }
 
@@ -152,8 +235,8 @@ where
     R::File: FileExt,
     ensures bound { IfOk result (λ bytes. length bytes ≤ 1073741824) }
 {
-    match read_if_there(rt, alloc, path, MOST)? {
-        Some(bytes) => Ok(bytes),
+    match OpenedFile::open(rt, path, MOST)? {
+        Some(file) => file.read(alloc, 0, MOST),
         None => Ok(Bytes::from_vec(Vec::new(alloc))),
     }
 }

@@ -1,0 +1,51 @@
+// A file that is written beside its place.
+
+use crate::fault::HostFault;
+use crate::files::{create_file, rename_open};
+use std::io::Write;
+use std::rt::Files;
+
+/// A file that is written beside its place, and open until it is renamed, so that at no time a part of its bytes is
+/// there.
+#[derive(Drop)]
+pub struct NewFile<R: Files> {
+    path: String,
+    unfinished: String,
+    file: R::File,
+}
+
+impl<R: Files + AllocGlobal> NewFile<R> {
+    /// Begins the file at a path, in place of an unfinished one.
+    pub fn begin(rt: &R, path: String) -> Result<NewFile<R>, HostFault> {
+        let unfinished = format!(in rt.alloc(); "{path}.new")?;
+        let file = create_file(rt, unfinished.as_str(), false)?;
+        Ok(NewFile {
+            path,
+            unfinished,
+            file,
+        })
+    }
+}
+
+impl<R: Files> NewFile<R> {
+    /// Adds bytes at the end.
+    pub fn append(&mut self, bytes: &[u8]) -> Result<(), HostFault> {
+        Ok(self.file.write_all(bytes)?)
+    }
+
+    /// Puts the file at its place, in place of a regular file that is there, once what it holds has reached the disk.
+    pub fn keep(self, rt: &R) -> Result<(), HostFault> {
+        rename_open(rt, &self.file, self.unfinished.as_str(), self.path.as_str())
+    }
+}
+
+/// Puts a file with these bytes at a path, in place of a regular file that is there.
+pub fn replace_file<R: Files + AllocGlobal>(
+    rt: &R,
+    path: String,
+    bytes: &[u8],
+) -> Result<(), HostFault> {
+    let mut file = NewFile::begin(rt, path)?;
+    file.append(bytes)?;
+    file.keep(rt)
+}
