@@ -61,7 +61,7 @@ impl<W: World + Drop, S: Spawner + Drop, C: Shelf> Stage<W, S, C> {
             "kind" | "list" | "read" | "read_link" | "read_whole" => {
                 look(alloc, &mut self.world, line)
             }
-            "cache_rows" | "cache_get" => recall(alloc, &mut self.cache, line),
+            "cache_rows" | "cache_get" | "cache_read" => recall(alloc, &mut self.cache, line),
             "run" | "run_side" => self.run(alloc, line),
             "detect" => self.detect(alloc, line),
             _ => {
@@ -80,7 +80,9 @@ impl<W: World + Drop, S: Spawner + Drop, C: Shelf> Stage<W, S, C> {
                 Ok(self.env.set(name, value)?)
             }
             "shell" => self.shell(alloc, line.given),
-            "cache_set_rows" | "cache_put" => keep(alloc, &mut self.cache, line),
+            "cache_set_rows" | "cache_put" | "cache_begin" | "cache_append" | "cache_keep" => {
+                keep(alloc, &mut self.cache, line)
+            }
             _ => change(alloc, &mut self.world, line),
         }
     }
