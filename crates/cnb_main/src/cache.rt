@@ -25,6 +25,8 @@ impl Shelf for FolderCache {
 
     ghost rows = { λ _. None };
 
+    ghost begun = { λ _. None };
+
     ghost faults = { λ cache. cache.shelf };
 
     fn rows(&mut self) -> Result<Bytes, ShelfFault> {
@@ -39,11 +41,19 @@ impl Shelf for FolderCache {
         self.shelf.has(digest)
     }
 
-    fn get(&mut self, digest: &[u8; 32]) -> Result<Option<Bytes>, ShelfFault> {
-        self.shelf.get(digest)
+    fn read(&mut self, digest: &[u8; 32], at: u64, most: u64) -> Result<Option<Bytes>, ShelfFault> {
+        self.shelf.read(digest, at, most)
     }
 
-    fn put(&mut self, digest: &[u8; 32], bytes: &[u8]) -> Result<(), ShelfFault> {
-        self.shelf.put(digest, bytes)
+    fn begin(&mut self, digest: &[u8; 32]) -> Result<(), ShelfFault> {
+        self.shelf.begin(digest)
+    }
+
+    fn append(&mut self, bytes: &[u8]) -> Result<(), ShelfFault> {
+        self.shelf.append(bytes)
+    }
+
+    fn keep(&mut self) -> Result<(), ShelfFault> {
+        self.shelf.keep()
     }
 }

@@ -5,6 +5,7 @@ pub mod FindLemmas
 pub mod StoreLemmas
 pub mod GatherLemmas
 pub mod CountLemmas
+pub mod AskLemmas
 pub mod CacheLemmas
 pub mod CachingLemmas
 pub mod CountLaws

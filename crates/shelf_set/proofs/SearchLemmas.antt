@@ -9,11 +9,13 @@ use Rattle.cnb_world.specs.Shelf.{Held}
 use Rattle.cnb_world.specs.declared.shelf.ShelfFault.{ShelfFault}
 use Rattle.cnb_world.specs.declared.shelf.ShelfFault.TheVariants as shelf
 use Rattle.cnb_world.specs.declared.values.Memory.{Memory}
+use Rattle.tree_canon.specs.Judging.{IsJudged}
+use Rattle.tree_canon.specs.declared.judging.Judged.{Judged}
 use Rattle.shelf_set.specs.ShelfState.{ShelfState}
 use Rattle.shelf_set.specs.Dropping.{Turn, after_of, has_failed, left_of}
 use Rattle.shelf_set.specs.Turns.{TakesTurn, is_failed}
 use Rattle.shelf_set.specs.Finding.{TellsSame, IsFirst, IsUnasked, NoneBehind, holds_first, tells_of}
-use Rattle.shelf_set.specs.Searching.{Asks, Lacks, Searching, Searches}
+use Rattle.shelf_set.specs.Searching.{Asks, HoldsJudged, Lacks, Searching, Searches}
 use Rattle.shelf_set.proofs.Lists.{map-last, onto, all_both}
 use Rattle.shelf_set.proofs.TurnLemmas.{counted, OneMore, one_more, left-kept, left-dropped, still, all_still, none_yet}
 use Rattle.shelf_set.proofs.TurnLemmas.{finish, left_tell, ends_at}
@@ -103,17 +105,17 @@ same_still rest later = all_still TellsSame (λ n s. (refl, refl)) rest later
 module _ (old now new : List ShelfState) (places numbers later digest : List ℕ) (at asked next : ℕ)
     (lt : asked < length places) (s : Searching old now places numbers digest at asked) where
   -- the next shelf gives this answer
-  abbrev Answers : Result (Option (List ℕ)) ShelfFault → Type 0
+  abbrev Answers : Result (Option Judged) ShelfFault → Type 0
   Answers result = TakesTurn now numbers at (Asks digest result) (is_failed result) new later next
 
-  next_turn : (result : Result (Option (List ℕ)) ShelfFault) → Answers result
+  next_turn : (result : Result (Option Judged) ShelfFault) → Answers result
       → OneMore s.turns old new places later next (Asks digest result) (is_failed result)
   next_turn result k =
       one_more s.turns old now places numbers at (Asks digest result) (is_failed result) new later next
       (subst (λ n. n < length places) (sym s.count) lt)
       (λ b a asks. counted result b.faults a.faults asks.faults) s.goes k
 
-  same_more : (result : Result (Option (List ℕ)) ShelfFault)
+  same_more : (result : Result (Option Judged) ShelfFault)
       → (m : OneMore s.turns old new places later next (Asks digest result) (is_failed result))
       → AllByRecursion TellsSame (s.turns ++ m.turn ∷ [])
   same_more result m = all_both TellsSame s.turns (m.turn ∷ []) s.same ((m.does.held, m.does.rows), tt)
@@ -126,7 +128,8 @@ module _ (old now new : List ShelfState) (places numbers later digest : List ℕ
   lacking k =
       let m = next_turn (Ok None) k in
       let e = left-kept s.turns m.turn m.failing in
-      let lack : Lacks digest m.turn.after = lacks_after m.turn.before.held m.turn.after.held m.does.held m.does.told in
+      let lack : Lacks digest m.turn.after = lacks_after m.does.bytes m.turn.before.held m.turn.after.held m.does.held
+      m.does.judged m.does.told in
       record {
         turns = s.turns ++ m.turn ∷ [];
         goes = m.goes;
@@ -137,11 +140,13 @@ module _ (old now new : List ShelfState) (places numbers later digest : List ℕ
         count = count_more m.turn;
       }
     where
-      lacks_after : (o p : Option Held) → p ≡ o → IfSome o (λ h. None ≡ get h digest)
-          → IfSome p (λ h. get h digest ≡ None)
-      lacks_after o None e told = tt
-      lacks_after None (Some h) e told = absurd (cc)
-      lacks_after (Some g) (Some h) e told = let same : g ≡ h = cc in sym (told ∙ ap (λ x. get x digest) same)
+      lacks_after : (bytes : Option (List ℕ)) (o p : Option Held) → p ≡ o → HoldsJudged digest bytes None
+          → IfSome o (λ h. bytes ≡ get h digest) → IfSome p (λ h. get h digest ≡ None)
+      lacks_after (Some bytes) o p e judged told = absurd judged
+      lacks_after None o None e judged told = tt
+      lacks_after None None (Some h) e judged told = absurd (cc)
+      lacks_after None (Some g) (Some h) e judged told = let same : g ≡ h = cc
+          in sym (told ∙ ap (λ x. get x digest) same)
 
   -- a shelf that failed
   pub failing : Answers (Err shelf.Failed) → Searching old new places later digest next (asked + 1)
@@ -172,21 +177,24 @@ module _ (old now new : List ShelfState) (places numbers later digest : List ℕ
         drops = finish turns old new places later next _ g end.stands;
         same = all_both TellsSame turns (still g.rest g.later) (same_more (Err shelf.Memory) m)
             (same_still g.rest g.later);
+        bytes = None;
+        judged = tt;
         first = tt;
         unasked = behind_last digest s.turns m.turn g.rest g.later (passed digest s.turns s.same s.lacks);
         fits = end.fits;
       }
 
-  pub holding : (bytes : List ℕ) → Answers (Ok (Some bytes))
-      → Searches old places digest (Ok (Some bytes)) new later (next + (length places - asked - 1))
-  holding bytes k =
-      let m = next_turn (Ok (Some bytes)) k in
+  holding_bytes : (judged : Judged) (m : OneMore s.turns old new places later next
+      (Asks digest (Ok (Some judged))) false) (bytes : List ℕ) → IsJudged digest bytes judged
+      → IfSome m.turn.before.held (λ h. Some bytes ≡ get h digest)
+      → Searches old places digest (Ok (Some judged)) new later (next + (length places - asked - 1))
+  holding_bytes judged m bytes is told =
       let g = m.goes in
       let turns : List Turn = s.turns ++ m.turn ∷ [] in
       let end = ends_at turns old new places later next (asked + 1) _ g (count_more m.turn) total_then in
       let A : List ShelfState = map after_of (left_of s.turns) in
-      let told : IfSome m.turn.after.held (λ h. get h digest ≡ Some bytes) = held_after bytes m.turn.before.held
-      m.turn.after.held m.does.held m.does.told in
+      let tells : IfSome m.turn.after.held (λ h. get h digest ≡ Some bytes) = held_after m.turn.before.held
+      m.turn.after.held m.does.held told in
       let list : map after_of (left_of (turns ++ still g.rest g.later)) ≡ A ++ m.turn.after
       ∷ g.rest = left_tell turns g.rest g.later g.paired ∙ ap (λ l. map after_of l ++ g.rest)
       (left-kept s.turns m.turn m.failing) ∙ ap (λ l. l ++ g.rest)
@@ -194,42 +202,55 @@ module _ (old now new : List ShelfState) (places numbers later digest : List ℕ
       record {
         turns = turns ++ still g.rest g.later;
         drops = finish turns old new places later next _ g end.stands;
-        same = all_both TellsSame turns (still g.rest g.later) (same_more (Ok (Some bytes)) m)
+        same = all_both TellsSame turns (still g.rest g.later) (same_more (Ok (Some judged)) m)
             (same_still g.rest g.later);
+        bytes = Some bytes;
+        judged = is;
         first = subst (λ l. IsFirst l digest (Some bytes)) (sym list)
-            (first_some A m.turn.after g.rest digest bytes s.lacks told);
+            (first_some A m.turn.after g.rest digest bytes s.lacks tells);
         unasked = behind_last digest s.turns m.turn g.rest g.later (passed digest s.turns s.same s.lacks);
         fits = end.fits;
       }
     where
-      held_after : (bytes : List ℕ) (o p : Option Held) → p ≡ o → IfSome o (λ h. Some bytes ≡ get h digest)
+      held_after : (o p : Option Held) → p ≡ o → IfSome o (λ h. Some bytes ≡ get h digest)
           → IfSome p (λ h. get h digest ≡ Some bytes)
-      held_after bytes o None e told = tt
-      held_after bytes None (Some h) e told = absurd (cc)
-      held_after bytes (Some g) (Some h) e told = let same : g ≡ h = cc in sym (told ∙ ap (λ x. get x digest) same)
+      held_after o None e told = tt
+      held_after None (Some h) e told = absurd (cc)
+      held_after (Some g) (Some h) e told = let same : g ≡ h = cc in sym (told ∙ ap (λ x. get x digest) same)
+
+  pub holding : (judged : Judged) → Answers (Ok (Some judged))
+      → Searches old places digest (Ok (Some judged)) new later (next + (length places - asked - 1))
+  holding judged k = let m = next_turn (Ok (Some judged)) k in by m m.does.bytes m.does.judged m.does.told
+    where
+      by : (m : OneMore s.turns old new places later next (Asks digest (Ok (Some judged))) false)
+          → (bytes : Option (List ℕ)) → HoldsJudged digest bytes (Some judged)
+          → IfSome m.turn.before.held (λ h. bytes ≡ get h digest)
+          → Searches old places digest (Ok (Some judged)) new later (next + (length places - asked - 1))
+      by m None is told = absurd (cc)
+      by m (Some bytes) is told = holding_bytes judged m bytes is told
 
   -- the same of what a call answered
-  pub lacking_then : (result : Result (Option (List ℕ)) ShelfFault) (found : Option (List ℕ)) → Answers result
+  pub lacking_then : (result : Result (Option Judged) ShelfFault) (found : Option Judged) → Answers result
       → result ≡ Ok found → found ≡ None → Searching old new places later digest next (asked + 1)
   lacking_then result found k is none = lacking (subst (λ r. Answers r) (is ∙ ap (λ f. Ok f) none) k)
 
-  pub failing_then : (result : Result (Option (List ℕ)) ShelfFault) (fault : ShelfFault) → Answers result
+  pub failing_then : (result : Result (Option Judged) ShelfFault) (fault : ShelfFault) → Answers result
       → result ≡ Err fault → fault ≡ shelf.Failed → Searching old new places later digest next (asked + 1)
   failing_then result fault k is failed = failing (subst (λ r. Answers r) (is ∙ ap (λ f. Err f) failed) k)
 
-  pub ended_then : (result : Result (Option (List ℕ)) ShelfFault) (fault : ShelfFault) (e : Memory) (count : ℕ)
+  pub ended_then : (result : Result (Option Judged) ShelfFault) (fault : ShelfFault) (e : Memory) (count : ℕ)
       → Answers result → result ≡ Err fault → fault ≡ shelf.Memory → count ≡ length places
       → Searches old places digest (Err e) new later (next + (count - asked - 1))
   ended_then result fault e count k is ended all = subst
       (λ n. Searches old places digest (Err e) new later (next + (n - asked - 1))) (sym all)
       (out_of_memory e (subst (λ r. Answers r) (is ∙ ap (λ f. Err f) ended) k))
 
-  pub holding_then : (result : Result (Option (List ℕ)) ShelfFault) (found : Option (List ℕ)) (bytes : List ℕ)
-      (count : ℕ) → Answers result → result ≡ Ok found → found ≡ Some bytes → count ≡ length places
-      → Searches old places digest (Ok (Some bytes)) new later (next + (count - asked - 1))
-  holding_then result found bytes count k is some all = subst
-      (λ n. Searches old places digest (Ok (Some bytes)) new later (next + (n - asked - 1))) (sym all)
-      (holding bytes (subst (λ r. Answers r) (is ∙ ap (λ f. Ok f) some) k))
+  pub holding_then : (result : Result (Option Judged) ShelfFault) (found : Option Judged) (judged : Judged)
+      (count : ℕ) → Answers result → result ≡ Ok found → found ≡ Some judged → count ≡ length places
+      → Searches old places digest (Ok (Some judged)) new later (next + (count - asked - 1))
+  holding_then result found judged count k is some all = subst
+      (λ n. Searches old places digest (Ok (Some judged)) new later (next + (n - asked - 1))) (sym all)
+      (holding judged (subst (λ r. Answers r) (is ∙ ap (λ f. Ok f) some) k))
 
 -- all were asked
 pub nowhere : (old new : List ShelfState) (places numbers digest : List ℕ) (at asked : ℕ)
@@ -243,6 +264,8 @@ nowhere old new places numbers digest at asked s all =
       turns = s.turns ++ still g.rest g.later;
       drops = finish s.turns old new places numbers at at g end.stands;
       same = all_both TellsSame s.turns (still g.rest g.later) s.same (same_still g.rest g.later);
+      bytes = None;
+      judged = refl;
       first = subst (λ l. IsFirst l digest None) (sym
           (left_tell s.turns g.rest g.later g.paired ∙ no_rest g.rest (g.paired ∙ none)))
           (first_none (map after_of (left_of s.turns)) digest s.lacks);

@@ -1,22 +1,43 @@
 -- Searching shelves for bytes, which private calls alone speak of.
-use Rattle.std.specs.Prelude.{ℕ, ◌≡◌, ◌≤◌, List, length, map, take, drop, Option, None, Result, IfSome, IfOk}
+use Rattle.std.specs.Prelude.{ℕ, ◌≡◌, ◌≤◌, List, length, map, take, drop, Option, Some, None, Result, IfSome, IfOk}
+use Rattle.std.specs.Prelude.{OnOk}
 use Rattle.std.specs.List.{AllByRecursion}
 use Rattle.std.specs.FinMap.{get}
+use Rattle.std.specs.Option.{option_map}
 use Rattle.cnb_world.specs.Calls.{CountsShelf}
 use Rattle.cnb_world.specs.declared.shelf.ShelfFault.{ShelfFault}
 use Rattle.cnb_world.specs.declared.values.Memory.{Memory}
+use Rattle.tree_canon.specs.Judging.{IsJudged}
+use Rattle.tree_canon.specs.declared.judging.Judged.{Judged}
 use Rattle.shelf_set.specs.ShelfState.{ShelfState}
 use Rattle.shelf_set.specs.Dropping.{Turn, after_of, left_of, Drops}
 use Rattle.shelf_set.specs.Turns.{Goes}
 use Rattle.shelf_set.specs.Finding.{TellsSame, IsFirst, NoneBehind}
 
--- what one shelf answers, and how it is before and after
-pub record Asks (digest : List ℕ) (result : Result (Option (List ℕ)) ShelfFault)
+-- what one shelf gives of the bytes under a digest, from a place on
+pub record Reads (digest : List ℕ) (at : ℕ) (result : Result (Option (List ℕ)) ShelfFault)
     (before after : ShelfState) : Type 0 where
   pub held : after.held ≡ before.held
   pub rows : after.rows ≡ before.rows
   pub faults : CountsShelf result before.faults after.faults
-  pub told : IfSome before.held (λ h. IfOk result (λ found. found ≡ get h digest))
+  pub told : IfSome before.held (λ h. IfOk result (λ found. found
+      ≡ option_map (λ bytes. take 65536 (drop at bytes)) (get h digest)))
+
+-- what these bytes are under a digest, where there are any
+abbrev pub HoldsJudged : List ℕ → Option (List ℕ) → Option Judged → Type 0
+HoldsJudged digest None judged = judged ≡ None
+HoldsJudged digest (Some bytes) None = ⊥
+HoldsJudged digest (Some bytes) (Some judged) = IsJudged digest bytes judged
+
+-- what one shelf holds and answers, and how it is before and after
+pub record Asks (digest : List ℕ) (result : Result (Option Judged) ShelfFault)
+    (before after : ShelfState) : Type 0 where
+  pub held : after.held ≡ before.held
+  pub rows : after.rows ≡ before.rows
+  pub faults : CountsShelf result before.faults after.faults
+  pub bytes : Option (List ℕ)
+  pub judged : IfOk result (HoldsJudged digest bytes)
+  pub told : IfSome before.held (λ h. OnOk result (bytes ≡ get h digest))
 
 -- a shelf that tells doesn't hold the digest
 abbrev pub Lacks : List ℕ → ShelfState → Type 0
@@ -33,11 +54,13 @@ pub record Searching (old now : List ShelfState) (places numbers : List ℕ) (di
 
 -- what the search answers and leaves; the first of the numbers, so many, are those of the shelves that stand
 pub record Searches (old : List ShelfState) (places : List ℕ) (digest : List ℕ)
-    (found : Result (Option (List ℕ)) Memory) (new : List ShelfState) (numbers : List ℕ)
+    (found : Result (Option Judged) Memory) (new : List ShelfState) (numbers : List ℕ)
     (standing : ℕ) : Type 0 where
   pub turns : List Turn
   pub drops : Drops turns old new places (take standing numbers) (drop standing numbers)
   pub same : AllByRecursion TellsSame turns
-  pub first : IfOk found (IsFirst (map after_of (left_of turns)) digest)
+  pub bytes : Option (List ℕ)
+  pub judged : IfOk found (HoldsJudged digest bytes)
+  pub first : OnOk found (IsFirst (map after_of (left_of turns)) digest bytes)
   pub unasked : NoneBehind digest turns
   pub fits : standing ≤ length numbers

@@ -1,15 +1,16 @@
 // Finding a tree.
-ghost use Rattle.std.specs.Prelude.{IfOk, OnErr};
+ghost use Rattle.std.specs.Prelude.{ℕ, IfOk, List as Seq, OnErr, Option};
 ghost use Rattle.shelf_set.specs.ShelfState.{shelves_seen};
 ghost use Rattle.shelf_set.specs.Dropping.{AreStanding};
 ghost use Rattle.shelf_set.specs.Finding.{IsFound, Finds, LeavesSearched};
+ghost use Rattle.shelf_set.specs.Searching.{HoldsJudged};
 
 use crate::searching::{Searched, search};
 use crate::turns::{Shelves, part};
-use cnb_world::{Bytes, List, Memory, Shelf};
+use cnb_world::{List, Memory, Shelf};
 use std::alloc::Global;
 use std::mem;
-use tree_canon::{Digest, Judged, Reason, Tree, judge};
+use tree_canon::{Digest, Judged, Reason, Tree};
 
 /// What shelves hold under a digest: a tree, nothing, or bytes that are damaged. Of these `found` is the digest, and
 /// where it is the one that was asked for, `bad` says why they spell no tree.
@@ -31,15 +32,15 @@ pub struct Search {
     pub gone: List<u32>,
 }
 
-fn answer(alloc: Global, digest: &Digest, held: Option<Bytes>) -> Result<Found, Memory>
-    ensures { IfOk result (IsFound digest.now held) }
+fn answer(judged: Option<Judged>) -> Found
+    ensures { (digest : Seq ℕ) (held : Option (Seq ℕ)) → HoldsJudged digest held judged → IsFound digest held result }
 {
-    let Some(bytes) = held else {
-        return Ok(Found::None);
+    let Some(judged) = judged else {
+        return Found::None;
     };
-    match judge(alloc, digest, bytes.as_slice())? {
-        Judged::Tree(tree) => Ok(Found::Tree(tree)),
-        Judged::Damaged { asked, found, bad } => Ok(Found::Damaged { asked, found, bad }),
+    match judged {
+        Judged::Tree(tree) => Found::Tree(tree),
+        Judged::Damaged { asked, found, bad } => Found::Damaged { asked, found, bad },
     }
 }
 
@@ -64,8 +65,10 @@ pub fn find(
     ensures again { AreStanding places.new (shelves_seen ⟦<dyn Shelf as Shelf>⟧ shelves.new.items) }
 {
     let mut numbers = mem::replace(places, List::new(alloc)).into_vec();
-    let Searched { found, standing } = search(shelves, &mut numbers, digest.bytes());
+    let Searched { found, standing } = search(alloc, shelves, &mut numbers, digest);
     let gone = part(alloc, places, numbers, standing)?;
-    let found = answer(alloc, digest, found?)?;
-    Ok(Search { found, gone })
+    Ok(Search {
+        found: answer(found?),
+        gone,
+    })
 }

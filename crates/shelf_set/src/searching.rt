@@ -1,4 +1,4 @@
-// Searching the shelves that stand for bytes.
+// Searching the shelves that stand for a tree.
 ghost use Rattle.std.specs.Prelude.{◌<◌, length};
 ghost use Rattle.shelf_set.specs.ShelfState.{shelves_seen};
 ghost use Rattle.shelf_set.specs.Dropping.{AreStanding};
@@ -7,14 +7,17 @@ ghost use Rattle.shelf_set.specs.Searching.{Asks, Searches};
 
 use crate::ask::ask_at;
 use crate::turns::{Shelves, has_failed, settle};
-use cnb_world::{Bytes, Memory, Shelf, ShelfFault};
+use cnb_world::{Memory, Shelf, ShelfFault};
+use std::alloc::Global;
+use tree_canon::{Digest, Judged};
 
 fn take_turn(
+    alloc: Global,
     shelves: &mut Shelves,
     numbers: &mut Vec<u32>,
     at: &mut usize,
-    digest: &[u8; 32],
-) -> Result<Option<Bytes>, ShelfFault>
+    digest: &Digest,
+) -> Result<Option<Judged>, ShelfFault>
     requires within { at.old < length shelves.old.items }
     requires numbered { at.old < length numbers.old.items }
     ensures { TakesTurn
@@ -22,7 +25,7 @@ fn take_turn(
         (Asks digest.now result) (is_failed result)
         (shelves_seen ⟦<dyn Shelf as Shelf>⟧ shelves.new.items) numbers.new.items at.new }
 {
-    let answer = ask_at(shelves, *at, digest);
+    let answer = ask_at(alloc, shelves, *at, digest);
     let failed = has_failed(&answer);
     settle(shelves, numbers, at, failed);
     answer
@@ -30,12 +33,17 @@ fn take_turn(
 
 /// What was found, and how many shelves stand.
 pub(crate) struct Searched {
-    pub found: Result<Option<Bytes>, Memory>,
+    pub found: Result<Option<Judged>, Memory>,
     pub standing: usize,
 }
 
 /// Asks one shelf after another, until one holds the digest or memory runs out.
-pub(crate) fn search(shelves: &mut Shelves, numbers: &mut Vec<u32>, digest: &[u8; 32]) -> Searched
+pub(crate) fn search(
+    alloc: Global,
+    shelves: &mut Shelves,
+    numbers: &mut Vec<u32>,
+    digest: &Digest,
+) -> Searched
     requires { AreStanding numbers.old.items (shelves_seen ⟦<dyn Shelf as Shelf>⟧ shelves.old.items) }
     ensures { Searches
         (shelves_seen ⟦<dyn Shelf as Shelf>⟧ shelves.old.items) numbers.old.items
@@ -45,12 +53,12 @@ pub(crate) fn search(shelves: &mut Shelves, numbers: &mut Vec<u32>, digest: &[u8
     let count = numbers.len();
     let mut at = 0usize;
     for asked in 0..count {
-        match take_turn(shelves, numbers, &mut at, digest) {
+        match take_turn(alloc, shelves, numbers, &mut at, digest) {
             Ok(None) => {}
             Err(ShelfFault::Failed) => {}
-            Ok(Some(bytes)) => {
+            Ok(Some(judged)) => {
                 return Searched {
-                    found: Ok(Some(bytes)),
+                    found: Ok(Some(judged)),
                     standing: at + (count - asked - 1),
                 };
             }

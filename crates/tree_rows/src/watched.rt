@@ -36,6 +36,8 @@ impl Shelf for Watched {
 
     ghost rows = { λ s. ⟦<MemShelf as Shelf>⟧.rows s.shelf };
 
+    ghost begun = { λ s. ⟦<MemShelf as Shelf>⟧.begun s.shelf };
+
     ghost faults = { λ s. ⟦<MemShelf as Shelf>⟧.faults s.shelf };
 
     fn rows(&mut self) -> Result<Bytes, ShelfFault> {
@@ -53,13 +55,23 @@ impl Shelf for Watched {
         self.shelf.has(digest)
     }
 
-    fn get(&mut self, digest: &[u8; 32]) -> Result<Option<Bytes>, ShelfFault> {
+    fn read(&mut self, digest: &[u8; 32], at: u64, most: u64) -> Result<Option<Bytes>, ShelfFault> {
         self.count_call();
-        self.shelf.get(digest)
+        self.shelf.read(digest, at, most)
     }
 
-    fn put(&mut self, digest: &[u8; 32], bytes: &[u8]) -> Result<(), ShelfFault> {
+    fn begin(&mut self, digest: &[u8; 32]) -> Result<(), ShelfFault> {
         self.count_call();
-        self.shelf.put(digest, bytes)
+        self.shelf.begin(digest)
+    }
+
+    fn append(&mut self, bytes: &[u8]) -> Result<(), ShelfFault> {
+        self.count_call();
+        self.shelf.append(bytes)
+    }
+
+    fn keep(&mut self) -> Result<(), ShelfFault> {
+        self.count_call();
+        self.shelf.keep()
     }
 }

@@ -7,8 +7,5 @@ returns-in_err-gone-clause-again g c = again _ _ _ _ _ _ _ _ c.search-found.ensu
 pub returns-in_err-found-clause-again : goal.returns-in_err-found-clause-again
 returns-in_err-found-clause-again g c = again _ _ _ _ _ _ _ _ c.search-found.ensures c.part.ensures.left
 
-pub returns-in_err-found-2-clause-again : goal.returns-in_err-found-2-clause-again
-returns-in_err-found-2-clause-again g c = again _ _ _ _ _ _ _ _ c.search-found.ensures c.part.ensures.left
-
 pub returns-clause-again : goal.returns-clause-again
 returns-clause-again g c = again _ _ _ _ _ _ _ _ c.search-found.ensures c.part.ensures.left
