@@ -5,7 +5,7 @@ use Rattle.std.specs.Prelude.{nat_lt, nat_le}
 use Rattle.std.specs.Int.{to_be_bytes}
 use Rattle.std.proofs.lemmas.List.{length-map}
 use Rattle.tree_canon.specs.Spelling.{node_bytes, entry_bytes, entries_bytes, node_step, entry_step, folder_head}
-use Rattle.tree_canon.specs.Spelling.{file_head, link_head, name_bytes}
+use Rattle.tree_canon.specs.Spelling.{link_head, name_bytes}
 use Rattle.tree_canon.specs.Fits.{fits, entry_fits, entries_fit, fit_step, fit_entry_step}
 use Rattle.tree_canon.specs.Names.{is_target}
 use Rattle.tree_canon.specs.declared.node.Named.{Named}
@@ -48,24 +48,6 @@ fits_link target depth = ap (λ (f : ℕ → Bool). f depth)
 pub fits_named : (e : Named) → entry_fits e ≡ (e.name, fits e.node)
 fits_named e = fold_out-Named _ _ fit_step fit_entry_step e
 
--- what is written at the end, part by part
-
-pub put_folder_is : (out : List ℕ) (all : List Named) → (out ++ folder_head (length all)) ++ entries_bytes all
-    ≡ out ++ node_bytes (Folder all)
-put_folder_is out all = append_assoc out (folder_head (length all)) (entries_bytes all)
-    ∙ ap (λ x. out ++ x) (sym (node_bytes_folder all))
-
-pub put_file_is : (out : List ℕ) (exec : Bool) (bytes : List ℕ)
-    → (out ++ file_head exec (length bytes)) ++ bytes ≡ out ++ node_bytes (File exec bytes)
-put_file_is out exec bytes = append_assoc out (file_head exec (length bytes)) bytes
-    ∙ ap (λ x. out ++ x) (sym (node_bytes_file exec bytes))
-
 pub put_link_is : (out target : List ℕ) → (out ++ link_head (length target)) ++ target ≡ out ++ node_bytes (Link target)
 put_link_is out target = append_assoc out (link_head (length target)) target
     ∙ ap (λ x. out ++ x) (sym (node_bytes_link target))
-
-pub put_entry_is : (out rest : List ℕ) (e : Named) → ((out ++ name_bytes e.name) ++ node_bytes e.node) ++ rest
-    ≡ out ++ (entry_bytes e ++ rest)
-put_entry_is out rest e =
-    ap (λ x. x ++ rest) (append_assoc out (name_bytes e.name) (node_bytes e.node)
-    ∙ ap (λ x. out ++ x) (sym (entry_bytes_is e))) ∙ append_assoc out (entry_bytes e) rest

@@ -4,7 +4,6 @@ pub mod Equations
 pub mod Lengths
 pub mod Reach
 pub mod Nodes
-pub mod FittingNodes
 pub mod CutMoves
 pub mod Keeps
 pub mod Total
@@ -21,3 +20,5 @@ pub mod Feeds
 pub mod Feeding
 pub mod Pieces
 mod Held
+pub mod PartLemmas
+pub mod Hashed

@@ -16,3 +16,5 @@ pub mod Telling
 pub mod Scans
 pub mod Making
 pub mod Decoding
+pub mod Parts
+pub mod Pieces

@@ -1,9 +1,8 @@
--- What the writing and measuring of nodes asks and gives, which private calls alone speak of.
-use Rattle.std.specs.Prelude.{◌≡◌, ◌≤◌, if◌then◌else◌, ℕ, true, List, length, nat_le, Option, Some, None}
+-- What the measuring of nodes asks and gives, which private calls alone speak of.
+use Rattle.std.specs.Prelude.{◌≡◌, ◌≤◌, if◌then◌else◌, ℕ, true, length, nat_le, Option, Some, None}
 use Rattle.tree_canon.specs.declared.node.Node.{Node}
-use Rattle.tree_canon.specs.declared.node.Named.{Named}
 use Rattle.tree_canon.specs.Spelling.{limit, spelling_of}
-use Rattle.tree_canon.specs.Fits.{fits, entries_fit}
+use Rattle.tree_canon.specs.Fits.{fits}
 
 -- a number of bytes, unless it is more than a spelling may have
 abbrev pub room : ℕ → Option ℕ
@@ -14,14 +13,3 @@ pub record IsMeasured (root : Node) (bytes : ℕ) : Type 0 where
   pub fit : fits root 0 ≡ true
   pub few : bytes ≤ limit
   pub is : bytes ≡ length (spelling_of root)
-
--- a node that fits at some depth
-pub record IsFitting (node : Node) : Type 0 where
-  pub depth : ℕ
-  pub fit : fits node depth ≡ true
-
--- entries that fit at some depth behind some name
-pub record AreFitting (es : List Named) : Type 0 where
-  pub depth : ℕ
-  pub last : Option (List ℕ)
-  pub fit : entries_fit last es depth ≡ true

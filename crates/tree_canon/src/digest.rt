@@ -2,9 +2,12 @@
 ghost use Rattle.std.specs.Prelude.{◌≡◌, ◌↔◌, IsTrue, IfOk, length, IsNone, IfSome, true, false};
 ghost use Rattle.sha2.specs.Sha256.{sha256};
 ghost use Rattle.hex.specs.Hex.{encode_lower};
+ghost use Rattle.tree_canon.specs.Spelling.{spelling_of};
 ghost use Rattle.tree_canon.specs.Digest.{is_digest_text, is_lower_digit};
 ghost use Rattle.std.specs.List.{list_all};
 
+use crate::spelling::TreePieces;
+use crate::tree::Tree;
 use cnb_world::{Memory, Text};
 use hex::FromHex;
 use sha2::{Digest as _, Sha256};
@@ -35,6 +38,20 @@ impl Digest {
         Digest {
             bytes: Sha256::digest(bytes),
         }
+    }
+
+    /// The digest of a tree, whose spelling is taken in pieces.
+    pub fn of_tree(alloc: Global, tree: &Tree) -> Result<Digest, Memory>
+        ensures { IfOk result (λ digest. digest ≡ sha256 (spelling_of tree.now)) }
+    {
+        let mut pieces = TreePieces::new(alloc, tree)?;
+        let mut hasher = Sha256::new();
+        let mut piece = pieces.next(alloc)?;
+        while !piece.as_slice().is_empty() {
+            hasher.update(piece.as_slice());
+            piece = pieces.next(alloc)?;
+        }
+        Ok(Digest::from_bytes(hasher.finalize()))
     }
 
     /// The digest that these 32 bytes are.

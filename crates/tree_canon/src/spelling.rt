@@ -1,15 +1,49 @@
 // Writing the spelling of a tree.
-ghost use Rattle.std.specs.Prelude.{◌≡◌, ◌++◌, ◌<◌, ◌^◌, ◌↔◌, ℕ, List, length, OnOk, IfOk};
+ghost use Rattle.std.specs.Prelude.{◌≡◌, ◌++◌, ◌↔◌, [], ℕ, List, IfOk};
 ghost use Rattle.tree_canon.specs.declared.node.Node.{Node};
-ghost use Rattle.tree_canon.specs.declared.node.Node.TheVariants.{File, Link};
-ghost use Rattle.tree_canon.specs.Spelling.{folder_head, file_head, link_head, name_bytes, node_bytes, entries_bytes};
-ghost use Rattle.tree_canon.specs.Writing.{IsFitting, AreFitting};
+ghost use Rattle.tree_canon.specs.Spelling.{spelling_of};
 ghost use Rattle.tree_canon.specs.Division.{Spells};
+ghost use Rattle.tree_canon.specs.Pieces.{bytes_left};
 
-use crate::node::{Named, Node};
+use crate::parts::Parts;
 use crate::tree::Tree;
 use cnb_world::{Bytes, Memory};
 use std::alloc::Global;
+
+/// The most bytes of a piece.
+const PIECE: usize = 65536;
+
+/// The most bytes that a node or a name has beside a file's contents: those of a link whose target has 4,096.
+const HEAD: usize = 4099;
+
+/// The bytes of a tree's spelling that are still to come. It holds none of them, but the way to them.
+#[derive(Drop)]
+pub struct TreePieces<'a> {
+    parts: Parts<'a>,
+}
+
+impl<'a> TreePieces<'a> {
+    /// All bytes of a tree's spelling.
+    #[tactic(auto, unfolding(crate::specs::Pieces::bytes_left))]
+    pub fn new(alloc: Global, tree: &'a Tree) -> Result<TreePieces<'a>, Memory>
+        ensures { IfOk result (λ pieces. bytes_left pieces ≡ spelling_of tree.now) }
+    {
+        Ok(TreePieces {
+            parts: Parts::new(alloc, tree.node())?,
+        })
+    }
+
+    /// The next bytes, at most 65,536. There are none only where none are left.
+    #[tactic(auto, unfolding(crate::specs::Pieces::bytes_left))]
+    pub fn next(&mut self, alloc: Global) -> Result<Bytes, Memory>
+        ensures next { IfOk result (λ piece. bytes_left self.old ≡ piece ++ bytes_left self.new) }
+        ensures end { IfOk result (λ piece. piece ≡ [] → bytes_left self.new ≡ []) }
+    {
+        let mut piece = Vec::with_capacity(alloc, PIECE)?;
+        self.parts.write(&mut piece, PIECE - HEAD)?;
+        Ok(Bytes::from_vec(piece))
+    }
+}
 
 /// The spelling of a tree, written in one pass into room that is taken first.
 pub fn encode(alloc: Global, tree: &Tree) -> Result<Bytes, Memory>
@@ -18,92 +52,8 @@ pub fn encode(alloc: Global, tree: &Tree) -> Result<Bytes, Memory>
     ensures same { IfOk result (λ bytes. (other : Node) (spelling : List ℕ) → Spells other spelling
         → ((spelling ≡ bytes) ↔ (other ≡ tree.now))) }
 {
-    let mut out = Vec::with_capacity(alloc, tree.length() as usize)?;
-    out.extend_from_slice(b"CNBT\x01")?;
-    put_node(&mut out, tree.node())?;
+    let most = tree.length() as usize;
+    let mut out = Vec::with_capacity(alloc, most)?;
+    Parts::new(alloc, tree.node())?.write(&mut out, most)?;
     Ok(Bytes::from_vec(out))
-}
-
-#[cycle(put)]
-#[tactic(auto, using(crate::proofs::Equations::put_folder_is, crate::proofs::FittingNodes::folder_count, crate::proofs::FittingNodes::folder_entries))]
-fn put_node(out: &mut Vec<u8>, node: &Node) -> Result<(), Memory>
-    requires { IsFitting node.now }
-    ensures { OnOk result (out.new.items ≡ out.old.items ++ node_bytes node.now) }
-{
-    match node {
-        Node::Folder(all) => {
-            put_folder_head(out, all.as_slice().len())?;
-            put_entries(out, all.as_slice())
-        }
-        Node::File { exec, bytes } => put_file(out, *exec, bytes.as_slice()),
-        Node::Link { target } => put_link(out, target.as_str()),
-    }
-}
-
-#[cycle(put)]
-fn put_entries(out: &mut Vec<u8>, entries: &[Named]) -> Result<(), Memory>
-    requires { AreFitting entries.now }
-    ensures { OnOk result (out.new.items ≡ out.old.items ++ entries_bytes entries.now) }
-{
-    for entry in entries {
-        put_name(out, entry.name.as_str())?;
-        put_node(out, &entry.node)?;
-    }
-    Ok(())
-}
-
-#[tactic(auto, using(crate::proofs::Equations::put_file_is))]
-fn put_file(out: &mut Vec<u8>, exec: bool, bytes: &[u8]) -> Result<(), Memory>
-    ensures { OnOk result (out.new.items ≡ out.old.items ++ node_bytes (File exec bytes.now)) }
-{
-    put_file_head(out, exec, bytes.len())?;
-    out.extend_from_slice(bytes)?;
-    Ok(())
-}
-
-#[tactic(auto, using(crate::proofs::Equations::put_link_is))]
-fn put_link(out: &mut Vec<u8>, target: &str) -> Result<(), Memory>
-    requires { length target.now < 2 ^ 16 }
-    ensures { OnOk result (out.new.items ≡ out.old.items ++ node_bytes (Link target.now)) }
-{
-    put_link_head(out, target.len())?;
-    out.extend_from_slice(target.as_bytes())?;
-    Ok(())
-}
-
-fn put_name(out: &mut Vec<u8>, name: &str) -> Result<(), Memory>
-    requires { length name.now < 2 ^ 16 }
-    ensures { OnOk result (out.new.items ≡ out.old.items ++ name_bytes name.now) }
-{
-    let bytes = name.as_bytes();
-    out.extend_from_slice(&(bytes.len() as u16).to_be_bytes())?;
-    out.extend_from_slice(bytes)?;
-    Ok(())
-}
-
-fn put_folder_head(out: &mut Vec<u8>, count: usize) -> Result<(), Memory>
-    requires { count < 2 ^ 32 }
-    ensures { OnOk result (out.new.items ≡ out.old.items ++ folder_head count) }
-{
-    out.push(b'D')?;
-    out.extend_from_slice(&(count as u32).to_be_bytes())?;
-    Ok(())
-}
-
-fn put_file_head(out: &mut Vec<u8>, exec: bool, size: usize) -> Result<(), Memory>
-    ensures { OnOk result (out.new.items ≡ out.old.items ++ file_head exec size) }
-{
-    out.push(b'F')?;
-    out.push(if exec { 1 } else { 0 })?;
-    out.extend_from_slice(&(size as u64).to_be_bytes())?;
-    Ok(())
-}
-
-fn put_link_head(out: &mut Vec<u8>, size: usize) -> Result<(), Memory>
-    requires { size < 2 ^ 16 }
-    ensures { OnOk result (out.new.items ≡ out.old.items ++ link_head size) }
-{
-    out.push(b'L')?;
-    out.extend_from_slice(&(size as u16).to_be_bytes())?;
-    Ok(())
 }
