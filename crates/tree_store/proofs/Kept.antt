@@ -1,10 +1,8 @@
 -- The bytes of a tree's file, piece by piece.
-use Rattle.std.proofs.Common.{◌≡◌, ◌≢◌, ℕ, ◌+◌, ◌*◌, ◌/◌, ◌<◌, ◌≤◌, ◌∙◌, Bool, true, false, not, List, [], ◌++◌, length}
-use Rattle.std.proofs.Common.{take, drop, refl, sym, ap, subst, arith, Option, Some, None}
-use Rattle.std.specs.Prelude.{IfSome, IsTrue, ◌↔◌}
+use Rattle.std.proofs.Common.{◌≡◌, ℕ, ◌+◌, ◌*◌, ◌<◌, ◌≤◌, ◌∙◌, Bool, true, false, List, [], ◌++◌, length, take, drop}
+use Rattle.std.proofs.Common.{refl, sym, ap, subst, arith, Option, Some, None}
+use Rattle.std.specs.Prelude.{IfSome, IsTrue}
 use Rattle.std.specs.Option.{option_map}
-use Rattle.std.specs.Str.{bytes_eq}
-use Rattle.std.proofs.lemmas.Slice.Eq.{bytes_eq-Decides}
 use Rattle.std.proofs.Math.Seq.{take-add}
 use Rattle.std.proofs.lemmas.List.{take_all, length-drop, length-take}
 use Rattle.cnb_world.specs.Calls.{MayMisuse}
@@ -23,62 +21,13 @@ pub same_to_end : (xs ys : List ℕ) (n : ℕ) → length ys < n → take n xs �
 same_to_end xs ys n long same = sym (take_all n xs
     (omega (arith, length-take n xs, length-take n ys, ap length same))) ∙ same ∙ take_all n ys (omega arith)
 
-pub behind_end : (size : ℕ) → size < (size / 65536 + 1) * 65536
-behind_end size = omega arith
-
 pub next_number : (number : ℕ) → number * 65536 + 65536 ≡ (number + 1) * 65536
 next_number number = omega arith
-
-pub rest_is_long : (rest : List ℕ) → 65536 < length rest → 65536 ≡ length (take 65536 rest)
-rest_is_long rest h = omega (arith, length-take 65536 rest)
-
-pub same_unless : (xs ys : List ℕ) (differ : Bool) → differ ≡ not (bytes_eq xs ys) → differ ≡ false → xs ≡ ys
-same_unless xs ys differ is e = (bytes_eq-Decides xs ys).0 (by (bytes_eq xs ys) (sym is ∙ e))
-  where
-    by : (v : Bool) → not v ≡ false → v ≡ true
-    by true h = refl
-    by false h = absurd (cc)
 
 -- ---- what is told of a file
 
 abbrev pub contents : Tree → List ℕ → List ℕ
 contents files path = bytes_of (item_at files path)
-
--- so many pieces of a file are these
-abbrev pub Alike : Option Tree → List ℕ → List ℕ → ℕ → Type 0
-Alike o path bytes number = IfSome o (λ files. take (number * 65536) (contents files path)
-    ≡ take (number * 65536) bytes)
-
-pub none_alike : (o : Option Tree) (path bytes : List ℕ) → Alike o path bytes 0
-none_alike None path bytes = tt
-none_alike (Some files) path bytes = refl
-
-pub one_alike : (o o1 : Option Tree) (path bytes piece expected : List ℕ) (number : ℕ) → o1 ≡ o
-    → Alike o path bytes number → IfSome o1 (λ files. piece
-    ≡ take 65536 (drop (number * 65536) (contents files path)))
-    → expected ≡ take 65536 (drop (number * 65536) bytes) → piece ≡ expected → Alike o path bytes (number + 1)
-one_alike None o1 path bytes piece expected number same before read is e = tt
-one_alike (Some files) o1 path bytes piece expected number same before read is e =
-    ap (λ n. take n (contents files path)) (sym (next_number number))
-    ∙ piece_more (contents files path) bytes (number * 65536) 65536 before
-    (sym (subst (λ x. IfSome x (λ files. piece ≡ take 65536 (drop (number * 65536) (contents files path))))
-    same read) ∙ e ∙ is)
-    ∙ ap (λ n. take n bytes) (next_number number)
-
-pub all_alike : (o : Option Tree) (path bytes : List ℕ) → Alike o path bytes (length bytes / 65536 + 1)
-    → IfSome o (λ files. contents files path ≡ bytes)
-all_alike None path bytes h = tt
-all_alike (Some files) path bytes h = same_to_end (contents files path) bytes ((length bytes / 65536 + 1) * 65536)
-    (behind_end (length bytes)) h
-
-pub other_piece : (o o1 : Option Tree) (path bytes piece expected : List ℕ) (number : ℕ) → o1 ≡ o
-    → IfSome o1 (λ files. piece ≡ take 65536 (drop (number * 65536) (contents files path)))
-    → expected ≡ take 65536 (drop (number * 65536) bytes) → piece ≢ expected
-    → IfSome o (λ files. contents files path ≢ bytes)
-other_piece None o1 path bytes piece expected number same read is ne = tt
-other_piece (Some files) o1 path bytes piece expected number same read is ne = λ e. ne
-    (subst (λ x. IfSome x (λ files. piece ≡ take 65536 (drop (number * 65536) (contents files path)))) same read
-    ∙ ap (λ b. take 65536 (drop (number * 65536) b)) e ∙ sym is)
 
 -- so many pieces are all of a file
 pub within_pieces : (o : Option Tree) (path : List ℕ) (len number : ℕ) → len < number * 65536
@@ -190,14 +139,3 @@ pub may_go_on : (o o1 : Option Tree) (path : List ℕ) (a b c : ℕ) → o1 ≡ 
     → MayMisuse (option_map (λ t. is_file (item_at t path)) o) a c
 may_go_on o o1 path a b c same before m = may_more (option_map (λ t. is_file (item_at t path)) o) a b c before
     (subst (λ x. MayMisuse (option_map (λ t. is_file (item_at t path)) x) b c) same m)
-
--- what comparing answers
-pub says_other : (o : Option Tree) (path bytes : List ℕ) → IfSome o (λ files. contents files path ≢ bytes)
-    → IfSome o (λ files. IsTrue false ↔ (contents files path ≡ bytes))
-says_other None path bytes ne = tt
-says_other (Some files) path bytes ne = (λ h. absurd (cc), λ e. absurd (ne e))
-
-pub says_same : (o : Option Tree) (path bytes : List ℕ) → IfSome o (λ files. contents files path ≡ bytes)
-    → IfSome o (λ files. IsTrue true ↔ (contents files path ≡ bytes))
-says_same None path bytes e = tt
-says_same (Some files) path bytes e = (λ h. e, λ same. refl)

@@ -26,6 +26,7 @@ pub mod Right
 pub mod Roots
 pub mod Standing
 pub mod Stored
+pub mod Spelled
 pub mod StorePaths
 pub mod Ways
 pub mod Apart

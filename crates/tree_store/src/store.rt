@@ -3,11 +3,13 @@ ghost use Rattle.std.specs.Prelude.{◌≡◌, ◌≤◌, ◌+◌, ◌*◌, ◌-
 ghost use Rattle.std.specs.Prelude.{length, take, drop, is_some, not, false, true, ℕ};
 ghost use Rattle.std.specs.Option.{option_map};
 ghost use Rattle.sha2.specs.Sha256.{sha256};
-ghost use Rattle.cnb_world.specs.Calls.{MayMisuse};
+ghost use Rattle.cnb_world.specs.Calls.{AppendsSome, CountsFailed, MayMisuse};
 ghost use Rattle.cnb_world.specs.Path.{is_path, beside, parent_of};
-ghost use Rattle.cnb_world.specs.Tree.{item_at, is_file, is_file_or_absent, is_root, is_within, bytes_of};
+ghost use Rattle.cnb_world.specs.Tree.{appended, bytes_of, can_read, item_at, is_file, is_file_or_absent, is_root};
+ghost use Rattle.cnb_world.specs.Tree.{is_within};
 ghost use Rattle.cnb_world.specs.Whole.{can_write, written, LeavesPart};
-ghost use Rattle.tree_canon.specs.Spelling.{spelling_of};
+ghost use Rattle.tree_canon.specs.Pieces.{bytes_left};
+ghost use Rattle.tree_canon.specs.Spelling.{limit, spelling_of};
 ghost use Rattle.steps.specs.Causes.{CountsFiles, IsAnswer};
 ghost use Rattle.steps.specs.Outside.{seen};
 ghost use Rattle.steps.specs.Reading.{LeavesUnchanged};
@@ -19,9 +21,9 @@ ghost use Rattle.tree_store.specs.Store.{LeavesStore};
 
 use crate::fault::{StoreFault, blamed};
 use crate::reading::kind_at;
-use cnb_world::{Bytes, Kind, Memory, Path, World, write_whole};
+use cnb_world::{Bytes, FileFault, Kind, Memory, Path, World};
 use std::alloc::Global;
-use tree_canon::{Digest, Judged, Judging, Tree, encode};
+use tree_canon::{Digest, Judged, Judging, Tree, TreePieces};
 
 /// How many bytes are read at once.
 pub(crate) const PIECE: u64 = 65536;
@@ -132,28 +134,18 @@ pub(crate) fn is_last(piece: &Bytes) -> bool
     (piece.as_slice().len() as u64) < PIECE
 }
 
-// The bytes from a place on, at most as many as are read at once.
-fn piece_of(bytes: &[u8], at: usize) -> &[u8]
-    requires { at ≤ length bytes.now }
-    ensures { result.now ≡ take 65536 (drop at bytes.now) }
-{
-    let rest = &bytes[at..];
-    if rest.len() > PIECE as usize {
-        &rest[..PIECE as usize]
-    } else {
-        rest
-    }
-}
-
-// Whether the file at a path has these bytes.
-fn has_bytes<W: World>(
+// Whether the file at a path has these bytes from a place on, where at most so many are asked for.
+#[tactic(auto, using(crate::proofs::Blames::blamed_last))]
+fn has_piece<W: World>(
     alloc: Global,
     world: &mut W,
     path: &Path,
-    bytes: &[u8],
+    at: u64,
+    max: u64,
+    piece: &Bytes,
 ) -> Result<bool, StoreFault>
-    ensures told { IfSome (W.tree world.old) (λ files. IfOk result
-        (λ same. IsTrue same ↔ (bytes_of (item_at files path.now) ≡ bytes.now))) }
+    ensures told { IfSome (W.tree world.old) (λ files. IfOk result (λ same. IsTrue same
+        ↔ (take max (drop at (bytes_of (item_at files path.now))) ≡ piece.now))) }
     ensures file { IfSome (W.tree world.old) (λ files. OnOk result (IsTrue (is_file (item_at files path.now)))) }
     ensures free { IfErr result (λ fault. IsTrue (is_free fault)) }
     ensures blames { IfErr result (BlamesAt path.now) }
@@ -162,14 +154,61 @@ fn has_bytes<W: World>(
         (W.misused world.old)
         (W.misused world.new) }
 {
-    for number in 0..bytes.len() / PIECE as usize + 1 {
-        let at = number * PIECE as usize;
-        let piece = read_piece(alloc, world, path, at as u64)?;
-        if piece.as_slice() != piece_of(bytes, at) {
+    match world.read(path, at, max) {
+        Ok(found) => Ok(found.as_slice() == piece.as_slice()),
+        Err(fault) => Err(blamed(alloc, path, fault)),
+    }
+}
+
+// A tree's bytes in pieces. There are no more of them than a spelling may have.
+fn pieces_of<'a>(alloc: Global, tree: &'a Tree) -> Result<TreePieces<'a>, Memory>
+    ensures all { IfOk result (λ pieces. bytes_left pieces ≡ spelling_of tree.now) }
+    ensures few { length (spelling_of tree.now) ≤ limit }
+{
+    // The proof takes from this call that the tree has a spelling.
+    let _root = tree.node();
+    TreePieces::new(alloc, tree)
+}
+
+// Whether the file at a path has a tree's bytes and no others. They are compared a piece after another. With the last
+// one a byte more is asked for, which would be behind them.
+fn has_bytes<W: World>(
+    alloc: Global,
+    world: &mut W,
+    path: &Path,
+    tree: &Tree,
+) -> Result<bool, StoreFault>
+    ensures told { IfSome (W.tree world.old) (λ files. IfOk result
+        (λ same. IsTrue same ↔ (bytes_of (item_at files path.now) ≡ spelling_of tree.now))) }
+    ensures file { IfSome (W.tree world.old) (λ files. OnOk result (IsTrue (is_file (item_at files path.now)))) }
+    ensures free { IfErr result (λ fault. IsTrue (is_free fault)) }
+    ensures blames { IfErr result (BlamesAt path.now) }
+    ensures leaves { LeavesUnchanged cause_of result (seen W.World world.old) (seen W.World world.new) }
+    ensures misused { MayMisuse (option_map (λ t. is_file (item_at t path.now)) (W.tree world.old))
+        (W.misused world.old)
+        (W.misused world.new) }
+{
+    let mut pieces = pieces_of(alloc, tree)?;
+    let mut at = 0u64;
+    let mut piece = pieces.next(alloc)?;
+    let mut next = pieces.next(alloc)?;
+    while !next.as_slice().is_empty() {
+        let len = piece.as_slice().len() as u64;
+        if !has_piece(alloc, world, path, at, len, &piece)? {
             return Ok(false);
         }
+        at += len;
+        piece = next;
+        next = pieces.next(alloc)?;
     }
-    Ok(true)
+    has_piece(
+        alloc,
+        world,
+        path,
+        at,
+        piece.as_slice().len() as u64 + 1,
+        &piece,
+    )
 }
 
 // Whether nothing stands at a path.
@@ -190,39 +229,94 @@ pub(crate) fn is_absent_at<W: World>(
     Ok(is_absent(kind))
 }
 
-// Sees that the file at a path has these bytes.
+// Sees that the file at a path has a tree's bytes.
 fn compare<W: World>(
     alloc: Global,
     world: &mut W,
     path: &Path,
-    bytes: &[u8],
+    tree: &Tree,
     digest: &Digest,
 ) -> Result<(), StoreFault>
-    ensures keeps { IfSome (W.tree world.old) (λ files. Keeps digest.now bytes.now (item_at files path.now) result) }
+    ensures keeps { IfSome (W.tree world.old) (λ files.
+        Keeps digest.now (spelling_of tree.now) (item_at files path.now) result) }
     ensures blames { IfErr result (BlamesAt path.now) }
     ensures leaves { LeavesUnchanged cause_of result (seen W.World world.old) (seen W.World world.new) }
     ensures misused { MayMisuse (option_map (λ t. is_file (item_at t path.now)) (W.tree world.old))
         (W.misused world.old)
         (W.misused world.new) }
 {
-    if has_bytes(alloc, world, path, bytes)? {
+    if has_bytes(alloc, world, path, tree)? {
         Ok(())
     } else {
         Err(StoreFault::Clash { digest: *digest })
     }
 }
 
-// The bytes in a new file at a path.
+// A tree's bytes behind those of a file, appended a piece after another.
+fn append_tree<W: World>(
+    alloc: Global,
+    world: &mut W,
+    path: &Path,
+    tree: &Tree,
+) -> Result<(), FileFault>
+    requires { IfSome (W.tree world.old) (λ files. IsTrue (can_read files path.now)) }
+    ensures ok { OnOk result (W.tree world.new
+        ≡ option_map (appended path.now (spelling_of tree.now)) (W.tree world.old)) }
+    ensures err { OnErr result (AppendsSome (W.tree world.old) (W.tree world.new) path.now (spelling_of tree.now)) }
+    ensures files { CountsFailed result (W.file_faults world.old) (W.file_faults world.new) }
+    ensures children { W.child_faults world.new ≡ W.child_faults world.old }
+    ensures runs { W.runs world.new ≡ W.runs world.old }
+    ensures misused { W.misused world.new ≡ W.misused world.old }
+{
+    let mut pieces = TreePieces::new(alloc, tree)?;
+    let mut piece = pieces.next(alloc)?;
+    while !piece.as_slice().is_empty() {
+        world.append(path, piece.as_slice())?;
+        piece = pieces.next(alloc)?;
+    }
+    Ok(())
+}
+
+// A file of a tree's bytes, with the folders above it: first beside its path, and then under its name.
+#[tactic(auto, using(cnb_world::proofs::Trees::written_run))]
+fn write_pieces<W: World>(
+    alloc: Global,
+    world: &mut W,
+    path: &Path,
+    tree: &Tree,
+) -> Result<(), FileFault>
+    requires beside { IsTrue (is_path (beside path.now)) }
+    requires not_root { is_root path.now ≡ false }
+    ensures ok { OnOk result (W.tree world.new
+        ≡ option_map (written path.now (spelling_of tree.now)) (W.tree world.old)) }
+    ensures err { OnErr result (LeavesPart (W.tree world.old) (W.tree world.new) path.now (spelling_of tree.now)) }
+    ensures files { CountsFailed result (W.file_faults world.old) (W.file_faults world.new) }
+    ensures children { W.child_faults world.new ≡ W.child_faults world.old }
+    ensures runs { W.runs world.new ≡ W.runs world.old }
+    ensures misused { MayMisuse (option_map (can_write path.now) (W.tree world.old))
+        (W.misused world.old) (W.misused world.new) }
+{
+    let folder = path.parent(alloc)?;
+    let unfinished = path.beside(alloc)?;
+    world.make_folder(&folder)?;
+    world.create(&unfinished, false)?;
+    append_tree(alloc, world, &unfinished, tree)?;
+    world.rename(&unfinished, path)?;
+    Ok(())
+}
+
+// A tree's bytes in a new file at a path.
 fn write_new<W: World>(
     alloc: Global,
     world: &mut W,
     path: &Path,
-    bytes: &[u8],
+    tree: &Tree,
 ) -> Result<(), StoreFault>
     requires beside { IsTrue (is_path (beside path.now)) }
     requires not_root { is_root path.now ≡ false }
-    ensures ok { OnOk result (W.tree world.new ≡ option_map (written path.now bytes.now) (W.tree world.old)) }
-    ensures err { OnErr result (LeavesPart (W.tree world.old) (W.tree world.new) path.now bytes.now) }
+    ensures ok { OnOk result (W.tree world.new
+        ≡ option_map (written path.now (spelling_of tree.now)) (W.tree world.old)) }
+    ensures err { OnErr result (LeavesPart (W.tree world.old) (W.tree world.new) path.now (spelling_of tree.now)) }
     ensures free { IfErr result (λ fault. IsTrue (is_free fault)) }
     ensures blames { IfErr result (BlamesAt path.now) }
     ensures files { CountsFiles cause_of result (W.file_faults world.old) (W.file_faults world.new) }
@@ -231,26 +325,28 @@ fn write_new<W: World>(
     ensures misused { MayMisuse (option_map (can_write path.now) (W.tree world.old)) (W.misused world.old)
         (W.misused world.new) }
 {
-    match write_whole(alloc, world, path, bytes) {
+    match write_pieces(alloc, world, path, tree) {
         Ok(()) => Ok(()),
         Err(fault) => Err(blamed(alloc, path, fault)),
     }
 }
 
-// The bytes in the file at a path, which is written where nothing stands and else compared.
+// A tree's bytes in the file at a path, which is written where nothing stands and else compared.
 fn keep<W: World>(
     alloc: Global,
     world: &mut W,
     path: &Path,
-    bytes: &[u8],
+    tree: &Tree,
     digest: &Digest,
 ) -> Result<(), StoreFault>
     requires beside { IsTrue (is_path (beside path.now)) }
     requires not_root { is_root path.now ≡ false }
-    ensures keeps { IfSome (W.tree world.old) (λ files. Keeps digest.now bytes.now (item_at files path.now) result) }
-    ensures ok { OnOk result (W.tree world.new ≡ option_map (kept_or_written path.now bytes.now) (W.tree world.old)) }
+    ensures keeps { IfSome (W.tree world.old) (λ files.
+        Keeps digest.now (spelling_of tree.now) (item_at files path.now) result) }
+    ensures ok { OnOk result (W.tree world.new
+        ≡ option_map (kept_or_written path.now (spelling_of tree.now)) (W.tree world.old)) }
     ensures err { IfErr result (λ fault.
-        LeavesStore fault path.now bytes.now (W.tree world.old) (W.tree world.new)) }
+        LeavesStore fault path.now (spelling_of tree.now) (W.tree world.old) (W.tree world.new)) }
     ensures blames { IfErr result (BlamesAt path.now) }
     ensures files { CountsFiles cause_of result (W.file_faults world.old) (W.file_faults world.new) }
     ensures children { W.child_faults world.new ≡ W.child_faults world.old }
@@ -259,10 +355,10 @@ fn keep<W: World>(
         (W.misused world.new) }
 {
     if is_absent_at(alloc, world, path)? {
-        write_new(alloc, world, path, bytes)?;
+        write_new(alloc, world, path, tree)?;
         return Ok(());
     }
-    compare(alloc, world, path, bytes, digest)?;
+    compare(alloc, world, path, tree, digest)?;
     Ok(())
 }
 
@@ -287,10 +383,9 @@ fn put_file<W: World>(
         (W.tree world.old))
         (W.misused world.old) (W.misused world.new) }
 {
-    let bytes = encode(alloc, tree)?;
-    let digest = Digest::of(bytes.as_slice());
+    let digest = Digest::of_tree(alloc, tree)?;
     let path = tree_file(alloc, store, &digest)?;
-    keep(alloc, world, &path, bytes.as_slice(), &digest)?;
+    keep(alloc, world, &path, tree, &digest)?;
     Ok(digest)
 }
 
