@@ -167,6 +167,11 @@ counts_on : (fault : ShelfFault) (before now new : ℕ) → now ≡ before
 counts_on shelf.Failed before now new e c = subst (λ n. CountsShelf {T = Option Judged} (Err shelf.Failed) n new) e c
 counts_on shelf.Memory before now new e c = subst (λ n. CountsShelf {T = Option Judged} (Err shelf.Memory) n new) e c
 
+-- of a refused call nothing is told
+nothing_said : (held : Option Held) → IfSome held (λ h. Unit {0})
+nothing_said None = tt
+nothing_said (Some h) = tt
+
 -- a call is refused
 pub reading_fails : (digest : List ℕ) (number : ℕ) (result : Result (Option (List ℕ)) ShelfFault)
     (fault : ShelfFault) (Holds : List ℕ → Type 0) (before now new : ShelfState)
@@ -181,12 +186,8 @@ reading_fails digest number result fault Holds before now new so_far is reads =
       faults = counts_on fault before.faults now.faults new.faults so_far.faults answered.faults;
       bytes = None;
       judged = tt;
-      told = by before.held;
+      told = nothing_said before.held;
     }
-  where
-    by : (held : Option Held) → IfSome held (λ h. Unit {0})
-    by None = tt
-    by (Some h) = tt
 
 -- memory runs out between two calls
 pub reading_stops : (digest : List ℕ) (number : ℕ) (Holds : List ℕ → Type 0) (before now : ShelfState)
@@ -197,9 +198,5 @@ reading_stops digest number Holds before now so_far = record {
   faults = so_far.faults;
   bytes = None;
   judged = tt;
-  told = by before.held;
+  told = nothing_said before.held;
 }
-  where
-    by : (held : Option Held) → IfSome held (λ h. Unit {0})
-    by None = tt
-    by (Some h) = tt

@@ -1,16 +1,18 @@
 -- Storing the layers that a cache keeps.
-use Rattle.std.proofs.Common.{◌≡◌, ◌∙◌, refl, sym, ap, inl, inr, arith, ℕ, Bool, ◌+◌, ◌<◌, List, [], ◌∷◌, ◌++◌, length}
-use Rattle.std.proofs.Common.{map, take, get_or, Result, Ok, Err}
+use Rattle.std.proofs.Common.{◌≡◌, ◌∙◌, refl, sym, ap, inl, inr, arith, ℕ, Bool, ◌+◌, ◌<◌, List, length}
+use Rattle.std.proofs.Common.{map, get_or, Result, Ok, Err}
 use Rattle.std.specs.Prelude.{IsTrue, OnErr}
-use Rattle.std.proofs.lemmas.List.{get_or-map, length-map, map-append, take_more}
-use Rattle.tree_canon.specs.Division.{Spells}
+use Rattle.std.proofs.lemmas.List.{get_or-map, length-map}
+use Rattle.cnb_world.specs.declared.shelf.ShelfFault.{ShelfFault}
+use Rattle.tree_canon.specs.Spelling.{spelling_of}
 use Rattle.tree_canon.specs.declared.node.Node.{Node}
 use Rattle.image_docs.specs.CacheRows.{cache_in}
 use Rattle.image_docs.specs.declared.layer_row.LayerRow.{LayerRow}
 use Rattle.shelf_set.specs.Caching.{digest_of_row, digest_of_tree, spelled, StoresRows, StoresSomeRows}
 use Rattle.shelf_set.specs.ShelfState.{ShelfState}
 use Rattle.shelf_set.specs.Storing.{StoresSome}
-use Rattle.shelf_set.specs.declared.storing.TreeBytes.{TreeBytes}
+use Rattle.shelf_set.specs.StoringEach.{Putting, Puts}
+use Rattle.shelf_set.proofs.StoreLemmas.{put_more}
 
 -- rows and trees are as many
 pub as_many : (layers : List LayerRow) (trees : List Node) (i : ℕ)
@@ -18,24 +20,26 @@ pub as_many : (layers : List LayerRow) (trees : List Node) (i : ℕ)
 as_many layers trees i same lt = let e = sym (length-map layers digest_of_row) ∙ ap length same
     ∙ length-map trees digest_of_tree in omega (arith, e)
 
--- one tree more
-pub spelled_more : (layers : List LayerRow) (trees : List Node) (i : ℕ) (layer : LayerRow) (tree : Node)
-    (bytes : List ℕ) (before now : List TreeBytes) → map digest_of_row layers ≡ map digest_of_tree trees
-    → i < length trees → i < length layers → tree ≡ get_or trees i tree → Spells tree bytes
-    → before ≡ map spelled (take i trees) → now ≡ before ++ record
-    { digest = (get_or layers i layer).digest; bytes = bytes } ∷ [] → now ≡ map spelled (take (i + 1) trees)
-spelled_more layers trees i layer tree bytes before now same lt within is spells done pushed =
-    let digest : (get_or layers i layer).digest ≡ digest_of_tree tree =
-    sym (get_or-map digest_of_row layers i layer layer.digest within) ∙ ap (λ all. get_or all i layer.digest) same
-    ∙ get_or-map digest_of_tree trees i tree layer.digest lt ∙ ap digest_of_tree (sym is) in
-    let one : ◌≡◌ {A = TreeBytes} (record { digest = (get_or layers i layer).digest; bytes = bytes })
-    (spelled tree) = ap (λ d. record { digest = d; bytes = bytes }) digest
-    ∙ ap (λ b. record { digest = digest_of_tree tree; bytes = b }) spells.is in
-    let next : map spelled (take (i + 1) trees) ≡ map spelled (take i trees) ++ spelled tree ∷ [] =
-    ap (map spelled) (take_more trees i tree lt) ∙ map-append spelled (take i trees) (get_or trees i tree ∷ [])
-    ∙ ap (λ t. map spelled (take i trees) ++ spelled t ∷ []) (sym is) in
-    pushed ∙ ap (λ l. l ++ record { digest = (get_or layers i layer).digest; bytes = bytes } ∷ []) done
-    ∙ ap (λ x. map spelled (take i trees) ++ x ∷ []) one ∙ sym next
+-- the digest of a row is that of its tree
+pub digest_at : (layers : List LayerRow) (trees : List Node) (i : ℕ) (layer : LayerRow) (tree : Node)
+    → map digest_of_row layers ≡ map digest_of_tree trees → i < length trees → layer ≡ get_or layers i layer
+    → tree ≡ get_or trees i tree → layer.digest ≡ digest_of_tree tree
+digest_at layers trees i layer tree same lt here is = ap digest_of_row here
+    ∙ sym (get_or-map digest_of_row layers i layer layer.digest (as_many layers trees i same lt))
+    ∙ ap (λ all. get_or all i layer.digest) same
+    ∙ get_or-map digest_of_tree trees i tree layer.digest lt ∙ ap digest_of_tree (sym is)
+
+-- one tree more is put
+pub spelled_put : (layers : List LayerRow) (trees : List Node) (i : ℕ) (layer : LayerRow) (tree : Node)
+    (digest bytes : List ℕ) (result : Result Unit ShelfFault) (done : Unit {0}) (before now new : ShelfState)
+    → Putting (map spelled trees) i before now → map digest_of_row layers ≡ map digest_of_tree trees → i < length trees
+    → layer ≡ get_or layers i layer → tree ≡ get_or trees i tree → digest ≡ layer.digest → bytes ≡ spelling_of tree
+    → result ≡ Ok done → Puts digest bytes result now new → Putting (map spelled trees) (i + 1) before new
+spelled_put layers trees i layer tree digest bytes result done before now new p same lt here is d b ok puts =
+    put_more (map spelled trees) i (spelled tree) digest bytes result done before now new p
+    (omega (arith, lt, length-map trees spelled))
+    (sym (get_or-map spelled trees i tree (spelled tree) lt ∙ ap spelled (sym is)))
+    (d ∙ digest_at layers trees i layer tree same lt here is) b ok puts
 
 -- where nothing was stored
 pub none_stored : {A E : Type 0} (result : Result A E) (readable : Bool) (layers : List LayerRow)

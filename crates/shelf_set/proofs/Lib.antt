@@ -9,3 +9,4 @@ pub mod AskLemmas
 pub mod CacheLemmas
 pub mod CachingLemmas
 pub mod CountLaws
+pub mod PutLemmas

@@ -17,7 +17,7 @@ use Rattle.shelf_set.specs.Dropping.{Turn, has_failed, Drops, AreStanding}
 use Rattle.shelf_set.specs.Turns.{TakesTurn, is_failed}
 use Rattle.shelf_set.specs.Storing.{with_trees, HasEither, IsStored, MayBeStored}
 use Rattle.shelf_set.specs.StoringEach.{Puts, SetsRows, Putting, Stores, Storing, StoresEach}
-use Rattle.shelf_set.specs.declared.storing.TreeBytes.{TreeBytes}
+use Rattle.shelf_set.specs.Storing.{TreeBytes}
 use Rattle.shelf_set.proofs.Lists.{all_both}
 use Rattle.shelf_set.proofs.TurnLemmas.{counted, OneMore, one_more, still, all_still, none_yet, finish, ends_at}
 use Rattle.shelf_set.proofs.TurnLemmas.{standing_again}

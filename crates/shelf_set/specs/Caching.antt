@@ -9,7 +9,7 @@ use Rattle.steps.specs.Causes.{Cause, OutOfMemory}
 use Rattle.shelf_set.specs.Caches.{Caches}
 use Rattle.shelf_set.specs.ShelfState.{ShelfState}
 use Rattle.shelf_set.specs.Storing.{StoresAll, StoresSome}
-use Rattle.shelf_set.specs.declared.storing.TreeBytes.{TreeBytes}
+use Rattle.shelf_set.specs.Storing.{TreeBytes}
 
 abbrev pub digest_of_row : LayerRow → List ℕ
 digest_of_row row = row.digest

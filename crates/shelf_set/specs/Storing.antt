@@ -6,7 +6,11 @@ use Rattle.std.specs.FinMap.{insert}
 use Rattle.cnb_world.specs.Shelf.{Held}
 use Rattle.shelf_set.specs.ShelfState.{ShelfState}
 use Rattle.shelf_set.specs.Dropping.{Turn, has_failed, Drops}
-use Rattle.shelf_set.specs.declared.storing.TreeBytes.{TreeBytes}
+
+-- the bytes of a tree, and their digest
+pub record TreeBytes : Type 0 where
+  pub digest : List ℕ
+  pub bytes : List ℕ
 
 -- trees put one after another, each in place of what is there under its digest
 abbrev pub with_trees : List TreeBytes → Held → Held

@@ -1,16 +1,34 @@
 -- Storing trees on one shelf after another, which private calls alone speak of.
-use Rattle.std.specs.Prelude.{ℕ, ◌≡◌, ◌≤◌, List, length, take, drop, Result, Ok, Err, OnOk, OnErr}
+use Rattle.std.specs.Prelude.{ℕ, ◌≡◌, ◌≤◌, ◌++◌, List, [], Option, length, take, drop, Result, Ok, Err, OnOk, OnErr}
 use Rattle.std.specs.List.{AllByRecursion}
 use Rattle.std.specs.Option.{option_map}
 use Rattle.std.specs.FinMap.{insert}
 use Rattle.cnb_world.specs.Calls.{CountsShelf}
+use Rattle.cnb_world.specs.Shelf.{empty_at, with_more}
+use Rattle.cnb_world.specs.declared.memory.shelf.Held.{Held as HeldBytes}
 use Rattle.cnb_world.specs.declared.shelf.ShelfFault.{ShelfFault}
 use Rattle.cnb_world.specs.declared.values.Memory.{Memory}
 use Rattle.shelf_set.specs.ShelfState.{ShelfState}
 use Rattle.shelf_set.specs.Dropping.{Turn, Drops}
 use Rattle.shelf_set.specs.Turns.{Goes}
 use Rattle.shelf_set.specs.Storing.{with_trees, HasAll, HasSome, IsStored, MayBeStored}
-use Rattle.shelf_set.specs.declared.storing.TreeBytes.{TreeBytes}
+use Rattle.shelf_set.specs.Storing.{TreeBytes}
+
+-- a call that leaves what one shelf tells
+pub record LeavesTold (result : Result Unit ShelfFault) (before after : ShelfState) : Type 0 where
+  pub held : after.held ≡ before.held
+  pub rows : after.rows ≡ before.rows
+  pub faults : CountsShelf result before.faults after.faults
+
+-- Of these bytes the first ones were begun under a digest, a piece and what is left are still to come, and an empty
+-- piece is the last one. The shelf tells what it told.
+pub record IsBegun (digest bytes piece left : List ℕ) (begun : Option HeldBytes)
+    (before now : ShelfState) : Type 0 where
+  pub first : List ℕ
+  pub all : first ++ (piece ++ left) ≡ bytes
+  pub end : piece ≡ [] → left ≡ []
+  pub has : begun ≡ option_map (λ _. with_more first (empty_at digest)) before.held
+  pub told : LeavesTold (Ok tt) before now
 
 -- what one shelf answers where bytes are put, and how it is before and after
 pub record Puts (digest bytes : List ℕ) (result : Result Unit ShelfFault) (before after : ShelfState) : Type 0 where

@@ -1,31 +1,16 @@
 // Storing the layers that a cache keeps.
 ghost use Rattle.std.specs.Prelude.{◌≡◌, IfOk, OnErr, map};
 ghost use Rattle.image_docs.specs.CacheRows.{is_cache_doc};
-ghost use Rattle.shelf_set.specs.Caching.{digest_of_row, digest_of_tree, spelled, StoresRows, StoresSomeRows};
+ghost use Rattle.shelf_set.specs.Caching.{digest_of_row, digest_of_tree, StoresRows, StoresSomeRows};
 ghost use Rattle.shelf_set.specs.Dropping.{AreStanding};
 ghost use Rattle.shelf_set.specs.ShelfState.{shelves_seen};
 
-use crate::storing::{TreeBytes, put_all};
+use crate::storing::put_all;
 use crate::turns::Shelves;
 use cnb_world::{List, Memory, Shelf};
-use image_docs::{CacheDoc, LayerRow, write_cache};
+use image_docs::{CacheDoc, write_cache};
 use std::alloc::Global;
-use tree_canon::{Tree, encode};
-
-// The bytes of trees, under the digests that their rows give.
-fn spell(alloc: Global, rows: &[LayerRow], trees: &[Tree]) -> Result<Vec<TreeBytes>, Memory>
-    requires { map digest_of_row rows.now ≡ map digest_of_tree trees.now }
-    ensures { IfOk result (λ all. all.items ≡ map spelled trees.now) }
-{
-    let mut all = Vec::with_capacity(alloc, trees.len())?;
-    for (number, tree) in trees.iter().enumerate() {
-        all.push(TreeBytes {
-            digest: rows[number].digest,
-            bytes: encode(alloc, tree)?,
-        })?;
-    }
-    Ok(all)
-}
+use tree_canon::Tree;
 
 /// Puts the trees of the layers that a cache keeps on each shelf that stands, in order, and then their rows. `trees`
 /// has the trees of the layers, in their order. Answers the numbers of the shelves that were dropped. Where memory runs
@@ -48,6 +33,12 @@ pub fn store_all(
     ensures again { AreStanding places.new (shelves_seen ⟦<dyn Shelf as Shelf>⟧ shelves.new.items) }
 {
     let document = write_cache(alloc, layers)?;
-    let spelled = spell(alloc, layers.as_slice(), trees.as_slice())?;
-    put_all(alloc, shelves, places, &spelled, document.as_slice())
+    put_all(
+        alloc,
+        shelves,
+        places,
+        layers.as_slice(),
+        trees.as_slice(),
+        document.as_slice(),
+    )
 }

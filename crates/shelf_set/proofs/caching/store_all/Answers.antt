@@ -5,7 +5,3 @@ use Rattle.shelf_set.proofs.caching.store_all.Goals as goal
 pub returns-in_err-document-clause-memory : goal.returns-in_err-document-clause-memory
 returns-in_err-document-clause-memory g c = none_stored c.from_residual.result
     (is_cache_doc c.args.layers.now) c.args.layers.now c.args.trees.now _ c.args.places.now
-
-pub returns-in_err-spelled-clause-memory : goal.returns-in_err-spelled-clause-memory
-returns-in_err-spelled-clause-memory g c = none_stored c.from_residual-in_err-spelled.result
-    (is_cache_doc c.args.layers.now) c.args.layers.now c.args.trees.now _ c.args.places.now

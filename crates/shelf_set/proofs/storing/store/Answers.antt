@@ -1,15 +1,21 @@
-use Rattle.shelf_set.proofs.StoreLemmas.{putting_none, put_more, stores_end}
+use Rattle.std.proofs.Common.{ap, arith, refl, sym}
+use Rattle.std.proofs.lemmas.List.{length-map}
+use Rattle.shelf_set.specs.Caching.{digest_of_row, spelled}
+use Rattle.shelf_set.proofs.CachingLemmas.{spelled_put}
+use Rattle.shelf_set.proofs.StoreLemmas.{putting_none, stores_end}
 use Rattle.shelf_set.proofs.storing.store.Goals as goal
 
-pub loop-tree-init : goal.loop-tree-init
-loop-tree-init g c = putting_none c.args.trees.now _
+pub loop-number-init : goal.loop-number-init
+loop-number-init g c = putting_none _ _
 
-pub loop-tree-preserved : goal.loop-tree-preserved
-loop-tree-preserved g c =
-    put_more c.args.trees.now _ c.tree-item.result _ _ c.put_tree.result c.in_ok-put_tree.field-0 _ _ _
-    c.loop-tree.invariant c.loop-tree-test.true c.tree-item.is
-    c.bytes.ensures c.as_slice.ensures c.in_ok-put_tree.was c.put_tree.ensures
+pub loop-number-preserved : goal.loop-number-preserved
+loop-number-preserved g c =
+    spelled_put c.args.layers.now c.args.trees.now _ c.index-layers-number.result c.index-trees-number.result _ _
+    c.put_tree.result c.in_ok-put_tree.field-0 _ _ _ c.loop-number.invariant c.requires c.loop-number-test.true
+    c.index-layers-number.is c.index-trees-number.is
+    (ap digest_of_row (sym c.index-layers-number.is)) refl c.in_ok-put_tree.was c.put_tree.ensures
 
 pub returns : goal.returns
-returns g c = stores_end c.args.trees.now c.args.document.now _ c.set_document.result _ _ _ c.loop-tree.invariant
-    c.loop-tree-test.false c.loop-tree.auto.tree-index-end c.set_document.ensures
+returns g c = stores_end _ c.args.document.now _ c.set_document.result _ _ _ c.loop-number.invariant
+    (omega (arith, c.loop-number-test.false, length-map c.args.trees.now spelled))
+    (omega (arith, c.loop-number.auto.number-end, length-map c.args.trees.now spelled)) c.set_document.ensures

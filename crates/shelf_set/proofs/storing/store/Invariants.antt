@@ -1,10 +1,12 @@
+use Rattle.std.proofs.Common.{map}
+use Rattle.shelf_set.specs.Caching.{spelled}
 use Rattle.shelf_set.specs.ShelfState.{state_of}
 use Rattle.shelf_set.specs.StoringEach.{Putting}
 use Rattle.shelf_set.proofs.storing.store.Given as goal
 
-abbrev pub invariant-loop-tree : goal.invariant-loop-tree
-invariant-loop-tree g l =
-    Putting l.trees l.tree-index
+abbrev pub invariant-loop-number : goal.invariant-loop-number
+invariant-loop-number g l =
+    Putting (map spelled l.trees) l.number
     (state_of ((goal.Shelf-dyn g (l.fn.shelf.vtable, l.fn.shelf.value)).held l.fn.shelf.value)
     ((goal.Shelf-dyn g (l.fn.shelf.vtable, l.fn.shelf.value)).rows l.fn.shelf.value)
     ((goal.Shelf-dyn g (l.fn.shelf.vtable, l.fn.shelf.value)).faults l.fn.shelf.value))

@@ -5,7 +5,7 @@ pub returns : goal.returns
 returns g c = (
   _,
   _,
-  replaced _ c.args.shelves.now.items c.args.at c.index_mut.result.now _ c.requires
+  replaced _ c.args.shelves.now.items c.args.at c.index_mut.result.now _ c.requires.within
       c.index_mut.ensures.value,
   c.store.ensures,
 )

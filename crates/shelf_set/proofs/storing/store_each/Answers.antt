@@ -4,7 +4,7 @@ use Rattle.shelf_set.proofs.storing.store_each.Goals as goal
 use Rattle.shelf_set.proofs.storing.store_each.Goals.{in-Ok, in-Err-Failed}
 
 pub loop-asked-init : goal.loop-asked-init
-loop-asked-init g c = begin c.args.trees.now c.args.document.now _ c.args.numbers.now.items c.requires
+loop-asked-init g c = begin _ c.args.document.now _ c.args.numbers.now.items c.requires.standing
 
 pub returns-in-Err-Memory : goal.returns-in-Err-Memory
 returns-in-Err-Memory g c =
