@@ -20,7 +20,7 @@ use layer_flags::Flags;
 use layer_paths::contents_path;
 use run_docs::{LayerDoc, read_layer};
 use std::alloc::Global;
-use tree_canon::{Digest, Tree, encode};
+use tree_canon::{Digest, Tree};
 use tree_store::{StoreFault, put, put_folder, read_tree};
 
 /// The contents of a layer: whether they are there, their digest, where they go into the image or into caches, and
@@ -120,8 +120,8 @@ fn keep_tree<W: World>(
         let digest = put(alloc, world, store, tree)?;
         Ok(digest)
     } else {
-        let bytes = encode(alloc, tree)?;
-        Ok(Digest::of(bytes.as_slice()))
+        let digest = Digest::of_tree(alloc, tree)?;
+        Ok(digest)
     }
 }
 
