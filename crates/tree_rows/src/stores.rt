@@ -71,8 +71,7 @@ fn put_spelling(answer: &mut Answer, tree: &Result<Tree, StoreFault>) {
 }
 
 fn digest_of(answer: &mut Answer, tree: &Tree) -> Option<Digest> {
-    let bytes = answer.made(encode(answer.alloc, tree))?;
-    Some(Digest::of(bytes.as_slice()))
+    answer.made(Digest::of_tree(answer.alloc, tree))
 }
 
 // A call on the tree of a row in the store.

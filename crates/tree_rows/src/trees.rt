@@ -35,13 +35,19 @@ fn spelled(alloc: Global, tree: &Tree) -> Result<Bytes, Memory> {
     encode(alloc, &tree.copy(alloc)?)
 }
 
+fn put_tree_digest(answer: &mut Answer, tree: &Tree) {
+    if let Some(digest) = answer.made(Digest::of_tree(answer.alloc, tree)) {
+        put_digest(answer, "tree ", &digest);
+    }
+}
+
 // Adds a tree that was read from bytes, or its digest, and whether they spell its copy.
 fn put_read(answer: &mut Answer, shown: &str, tree: &Tree, bytes: &[u8]) {
     let Some(again) = answer.made(spelled(answer.alloc, tree)) else {
         return;
     };
     match shown {
-        "digest" => put_digest(answer, "tree ", &Digest::of(again.as_slice())),
+        "digest" => put_tree_digest(answer, tree),
         _ => put_tree(answer, tree),
     }
     answer.put("\nspelled so again: ");
