@@ -1,7 +1,7 @@
 -- Which shelves a call leaves standing, of all calls of this crate.
-use Rattle.std.specs.Prelude.{ℕ, Bool, true, false, not, ◌≡◌, ◌≤◌, ◌++◌, List, length, map}
+use Rattle.std.specs.Prelude.{ℕ, Bool, not, ◌≡◌, ◌≤◌, ◌++◌, List, length, map}
 use Rattle.std.specs.List.{AllByRecursion, filter}
-use Rattle.cnb_world.specs.Calls.{Rose}
+pub use Rattle.tree_store.specs.ShelfState.{Counted}
 use Rattle.shelf_set.specs.ShelfState.{ShelfState}
 
 -- what every call asks for: the numbers are those of the first shelves
@@ -27,11 +27,6 @@ after_of t = t.after
 
 abbrev pub has_failed : Turn → Bool
 has_failed t = t.failed
-
--- a count of faults rose where the shelf failed, and else it stayed
-abbrev pub Counted : Bool → ℕ → ℕ → Type 0
-Counted true before now = Rose before now
-Counted false before now = now ≡ before
 
 abbrev pub IsCounted : Turn → Type 0
 IsCounted t = Counted t.failed t.before.faults t.after.faults

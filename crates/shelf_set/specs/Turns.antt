@@ -3,6 +3,7 @@ use Rattle.std.specs.Prelude.{ℕ, Bool, true, false, ◌≡◌, ◌+◌, ◌++�
 use Rattle.std.specs.List.{AllByRecursion}
 use Rattle.cnb_world.specs.declared.shelf.ShelfFault.{ShelfFault}
 use Rattle.cnb_world.specs.declared.shelf.ShelfFault.TheVariants as shelf
+pub use Rattle.tree_store.specs.ShelfState.{Replaces}
 use Rattle.shelf_set.specs.ShelfState.{ShelfState}
 use Rattle.shelf_set.specs.Dropping.{Turn, number_of, before_of, after_of, failed_of, left_of, IsCounted}
 
@@ -20,14 +21,6 @@ pub record MovesLast {X : Type 0} (old : List X) (at : ℕ) (new : List X) : Typ
   pub entry : old ≡ front ++ item ∷ back
   pub place : at ≡ length front
   pub exit : new ≡ front ++ (back ++ item ∷ [])
-
--- an item is replaced
-pub record Replaces {X : Type 0} (old : List X) (at : ℕ) (before after : X) (new : List X) : Type 0 where
-  pub front : List X
-  pub back : List X
-  pub entry : old ≡ front ++ before ∷ back
-  pub place : at ≡ length front
-  pub exit : new ≡ front ++ after ∷ back
 
 -- a shelf that failed is moved to the end, and the next one comes to its place; else the place goes on
 abbrev pub Settles : Bool → List ShelfState → List ℕ → ℕ → List ShelfState → List ℕ → ℕ → Type 0

@@ -4,24 +4,28 @@ use Rattle.std.proofs.Common.{inl, inr, List, [], ◌∷◌, length, Option, Som
 use Rattle.std.specs.List.{list_all}
 use Rattle.std.specs.Str.{bytes_eq}
 use Rattle.std.proofs.lemmas.Bool.{false_from_ne_true, leb-true}
-use Rattle.std.specs.Prelude.{nat_le, nat_lt, IfErr, IfOk, IfSome, IsTrue, OnOk, is_ok}
+use Rattle.std.specs.Prelude.{nat_le, nat_lt, IfErr, IfOk, IfSome, IsTrue, OnOk, drop, is_ok, is_some, take}
 use Rattle.std.specs.Option.{option_map}
 use Rattle.cnb_world.specs.Calls.{CountsFailed, CountsMisuse, MayMisuse}
 use Rattle.cnb_world.specs.Path.{is_part, is_part_byte, joined}
-use Rattle.cnb_world.specs.Tree.{Tree, is_file, is_root, is_under, is_within, item_at}
+use Rattle.cnb_world.specs.Tree.{Tree, bytes_of, is_file, is_root, is_under, is_within, item_at}
 use Rattle.cnb_world.specs.declared.world.FileFault.{FileFault}
+use Rattle.cnb_world.specs.declared.world.Item.TheVariants as item
 use Rattle.cnb_world.specs.declared.world.World as world
 use Rattle.steps.specs.Causes.{CountsFiles}
 use Rattle.steps.specs.Outside.{Seen, seen}
 use Rattle.steps.specs.Reading.{LeavesUnchanged}
 use Rattle.tree_canon.specs.declared.fault.Reason.{Reason}
-use Rattle.tree_store.specs.Ahead.{Ahead, BlamesEither, Did, Does, IsAhead, Lays, Leaves, Reading}
+use Rattle.tree_store.specs.Ahead.{Ahead, Did, Does, IsAhead, Lays, Reading}
 use Rattle.tree_store.specs.Answers.{BlamesAt, cause_of, is_free}
 use Rattle.tree_store.specs.Around.{IsMadeAbove, KeptAround, LeavesAround}
 use Rattle.tree_store.specs.Right.{AreFolders}
 use Rattle.tree_store.specs.declared.fault.StoreFault.{StoreFault}
 use Rattle.tree_store.specs.declared.fault.StoreFault.TheVariants.{OddFile, Limit, File, NoTree, Damaged, Clash, Memory}
-use Rattle.tree_store.specs.declared.kept_bytes.KeptBytes.{KeptBytes}
+use Rattle.tree_store.specs.Origin.{BlamesRead, Leaves, LeavesShelf, OriginState, ReadsHeld, ReadsPiece, faults_of}
+use Rattle.tree_store.specs.Origin.{found_by, found_in, held_of, held_under}
+use Rattle.tree_store.specs.ShelfState.{Counted}
+use Rattle.tree_store.specs.Source.{Source}
 use Rattle.tree_store.proofs.Around as around
 use Rattle.tree_store.proofs.Blames.{within_child, within_itself}
 use Rattle.tree_store.proofs.Places.{or_parts, part_form}
@@ -29,18 +33,25 @@ use Rattle.tree_store.proofs.Ways.{when_ok}
 
 -- ---- what lies ahead stays there, where something is laid that isn't at the file or above it
 
-pub ahead_kept : (source : KeptBytes) (path bytes : List ℕ) (o o1 : Option Tree)
-    → is_within path source.path ≡ false → KeptAround path o o1 → Ahead source o bytes → Ahead source o1 bytes
+pub ahead_kept : (source : Source) (path bytes : List ℕ) (o o1 : Option Tree)
+    → is_within path source.origin.path ≡ false → KeptAround path o o1 → Ahead source o bytes → Ahead source o1 bytes
 unfolding KeptAround Ahead
 ahead_kept source path bytes None o1 apart kept ahead = absurd ahead
 ahead_kept source path bytes (Some a) None apart kept ahead = absurd kept
-ahead_kept source path bytes (Some a) (Some b) apart kept ahead = by (kept source.path apart)
+ahead_kept source path bytes (Some a) (Some b) apart kept ahead = found (is_some source.origin.shelf) ahead
   where
-    by : (item_at b source.path ≡ item_at a source.path) ⊎ IsMadeAbove path source.path a b
-        → IsAhead source (item_at b source.path) bytes
-    by (inl same) = subst (λ found. IsAhead source found bytes) (sym same) ahead
-    by (inr made) = absurd (let no : IsTrue (is_file None) = subst
+    by : IsAhead source (item_at a source.origin.path) bytes
+        → (item_at b source.origin.path ≡ item_at a source.origin.path)
+        ⊎ IsMadeAbove path source.origin.path a b → IsAhead source (item_at b source.origin.path) bytes
+    by ahead (inl same) = subst (λ found. IsAhead source found bytes) (sym same) ahead
+    by ahead (inr made) = absurd (let no : IsTrue (is_file None) = subst
         (λ found. IsTrue (is_file found)) made.before ahead.file in cc)
+
+    found : (on_shelf : Bool)
+        → IsAhead source (found_by on_shelf source.origin.path (held_of source.origin.shelf) source.digest a) bytes
+        → IsAhead source (found_by on_shelf source.origin.path (held_of source.origin.shelf) source.digest b) bytes
+    found true ahead = ahead
+    found false ahead = by ahead (kept source.origin.path apart)
 
 -- ---- misuse where nothing is told
 
@@ -77,32 +88,102 @@ untold_may (Some files) allows a b h = by (allows files) h
     by true h = omega (arith, h)
     by false h = h
 
+pub may_same : (o : Option Tree) (allows : Tree → Bool) (a : ℕ) → MayMisuse (option_map allows o) a a
+may_same None allows a = refl
+may_same (Some files) allows a = by (allows files)
+  where
+    by : (v : Bool) → MayMisuse (Some v) a a
+    by true = refl
+    by false = omega arith
+
 -- ---- what calls leave
 
 counts_on : {B : Type 0} (r : Result B StoreFault) (a b c : ℕ) → b ≡ a → CountsFiles cause_of r b c
     → CountsFiles cause_of r a c
 counts_on r a b c same h = subst (λ n. CountsFiles cause_of r n c) same h
 
-blames_on : {B : Type 0} (r : Result B StoreFault) (path file other : List ℕ) → other ≡ file
-    → IfErr r (BlamesEither path other) → IfErr r (BlamesEither path file)
-blames_on r path file other same h = subst (λ f. IfErr r (BlamesEither path f)) same h
+read_on : {B : Type 0} (r : Result B StoreFault) (path : List ℕ) (s s1 : OriginState) → s1.path ≡ s.path
+    → is_some s1.shelf ≡ is_some s.shelf → IfErr r (BlamesRead path s1) → IfErr r (BlamesRead path s)
+read_on (Ok v) path s s1 same shelf h = tt
+read_on (Err (File blamed)) path s s1 same shelf (inl h) = inl h
+read_on (Err (File blamed)) path s s1 same shelf (inr (none, h)) = inr (sym shelf ∙ none, h ∙ same)
+read_on (Err (OddFile odd)) path s s1 same shelf h = tt
+read_on (Err (Limit kind)) path s s1 same shelf h = tt
+read_on (Err (NoTree digest)) path s s1 same shelf h = tt
+read_on (Err (Damaged asked found bad)) path s s1 same shelf h = tt
+read_on (Err (Clash digest)) path s s1 same shelf h = tt
+read_on (Err Memory) path s s1 same shelf h = tt
 
-pub leaves_on : {A B : Type 0} (path : List ℕ) (s0 s1 s2 : KeptBytes) (a b c : Seen) (v : A)
+calm_on : {B : Type 0} (r : Result B StoreFault) (a b c : Bool) → b ≡ a → OnOk r (c ≡ b) → OnOk r (c ≡ a)
+calm_on (Ok v) a b c e h = h ∙ e
+calm_on (Err fault) a b c e h = tt
+
+shelf_on : {A B : Type 0} (s0 s1 s2 : OriginState) (v : A) (r : Result B StoreFault) → LeavesShelf s0 (Ok v) s1
+    → LeavesShelf s1 r s2 → LeavesShelf s0 r s2
+shelf_on s0 s1 s2 v r first next = record {
+  others = next.others ∙ first.others;
+  stands = next.stands ∙ first.stands;
+  held = next.held ∙ first.held;
+  rows = next.rows ∙ first.rows;
+  calm = calm_on r s0.failed s1.failed s2.failed first.calm next.calm;
+  faults = λ none. subst (λ n. Counted s2.failed n (faults_of s2.shelf))
+      (still (first.calm ∙ none) (first.faults none)) (next.faults (first.calm ∙ none));
+}
+  where
+    still : s1.failed ≡ false → Counted s1.failed (faults_of s0.shelf) (faults_of s1.shelf)
+        → faults_of s1.shelf ≡ faults_of s0.shelf
+    still none counted = subst (λ v. Counted v (faults_of s0.shelf) (faults_of s1.shelf)) none counted
+
+-- another answer
+pub shelf_as : {A B : Type 0} (s s1 : OriginState) (r : Result A StoreFault) (q : Result B StoreFault)
+    → OnOk q (s1.failed ≡ s.failed) → LeavesShelf s r s1 → LeavesShelf s q s1
+shelf_as s s1 r q calm h = record {
+  others = h.others;
+  stands = h.stands;
+  held = h.held;
+  rows = h.rows;
+  calm = calm;
+  faults = h.faults;
+}
+
+-- no shelf is asked
+shelf_same : {A : Type 0} (s : OriginState) (r : Result A StoreFault) → LeavesShelf s r s
+shelf_same {A = A} s r = record {
+  others = refl;
+  stands = refl;
+  held = refl;
+  rows = refl;
+  calm = by r;
+  faults = λ none. subst (λ v. Counted v (faults_of s.shelf) (faults_of s.shelf)) (sym none) refl;
+}
+  where
+    by : (r : Result A StoreFault) → OnOk r (s.failed ≡ s.failed)
+    by (Ok v) = refl
+    by (Err fault) = tt
+
+never_failed : (a b : Bool) → b ≡ a → a ≡ false → b ≡ true → ⊥
+never_failed a b same none failed = let no : true ≡ false = sym failed ∙ same ∙ none in cc
+
+pub leaves_on : {A B : Type 0} (path : List ℕ) (s0 s1 s2 : OriginState) (a b c : Seen) (v : A)
     (r : Result B StoreFault) → Leaves path s0 a (Ok v) s1 b → Leaves path s1 b r s2 c → Leaves path s0 a r s2 c
 leaves_on path s0 s1 s2 a b c v r first next = record {
   stays = next.stays ∙ first.stays;
+  shelf = shelf_on s0 s1 s2 v r first.shelf next.shelf;
+  quiet = λ none failed. next.quiet (first.shelf.calm ∙ none) failed ∙ first.counts;
   around = around.onward path a b c first.around next.around;
   untold = untold_on path a.files b.files a.misused b.misused c.misused first.around.files first.untold next.untold;
   children = next.children ∙ first.children;
   counts = counts_on r _ _ _ first.counts next.counts;
-  blames = blames_on r path s0.path s1.path first.stays next.blames;
+  blames = read_on r path s0 s1 first.stays first.shelf.stands next.blames;
 }
 
 -- the first refusal ends them
-pub leaves_stop : {A B : Type 0} (path : List ℕ) (s0 s1 : KeptBytes) (a b : Seen) (fault : StoreFault)
+pub leaves_stop : {A B : Type 0} (path : List ℕ) (s0 s1 : OriginState) (a b : Seen) (fault : StoreFault)
     → Leaves {A = A} path s0 a (Err fault) s1 b → Leaves {A = B} path s0 a (Err fault) s1 b
-leaves_stop path s0 s1 a b fault h = record {
+leaves_stop {A = A} {B = B} path s0 s1 a b fault h = record {
   stays = h.stays;
+  shelf = shelf_as {A = A} {B = B} s0 s1 (Err fault) (Err fault) tt h.shelf;
+  quiet = h.quiet;
   around = h.around;
   untold = h.untold;
   children =
@@ -112,10 +193,12 @@ leaves_stop path s0 s1 a b fault h = record {
 }
 
 -- another value
-pub leaves_value : {A B : Type 0} (path : List ℕ) (s0 s1 : KeptBytes) (a b : Seen) (v : A) (w : B)
+pub leaves_value : {A B : Type 0} (path : List ℕ) (s0 s1 : OriginState) (a b : Seen) (v : A) (w : B)
     → Leaves path s0 a (Ok v) s1 b → Leaves path s0 a (Ok w) s1 b
 leaves_value path s0 s1 a b v w h = record {
   stays = h.stays;
+  shelf = shelf_as s0 s1 (Ok v) (Ok w) h.shelf.calm h.shelf;
+  quiet = h.quiet;
   around = h.around;
   untold = h.untold;
   children =
@@ -125,9 +208,11 @@ leaves_value path s0 s1 a b v w h = record {
 }
 
 -- no call
-pub leaves_ok : {A : Type 0} (path : List ℕ) (s : KeptBytes) (a : Seen) (v : A) → Leaves path s a (Ok v) s a
+pub leaves_ok : {A : Type 0} (path : List ℕ) (s : OriginState) (a : Seen) (v : A) → Leaves path s a (Ok v) s a
 leaves_ok path s a v = record {
   stays = refl;
+  shelf = shelf_same s (Ok v);
+  quiet = λ none failed. absurd (never_failed s.failed s.failed refl none failed);
   around = around.itself path a;
   untold = untold_same a.files
       a.misused a.misused refl;
@@ -136,10 +221,12 @@ leaves_ok path s a v = record {
   blames = tt;
 }
 
-pub leaves_damaged : {A : Type 0} (path : List ℕ) (s : KeptBytes) (a : Seen) (asked found : List ℕ)
+pub leaves_damaged : {A : Type 0} (path : List ℕ) (s : OriginState) (a : Seen) (asked found : List ℕ)
     (bad : Option Reason) → Leaves {A = A} path s a (Err (Damaged asked found bad)) s a
-leaves_damaged path s a asked found bad = record {
+leaves_damaged {A = A} path s a asked found bad = record {
   stays = refl;
+  shelf = shelf_same {A = A} s (Err (Damaged asked found bad));
+  quiet = λ none failed. absurd (never_failed s.failed s.failed refl none failed);
   around = around.itself path a;
   untold = untold_same a.files a.misused a.misused refl;
   children = refl;
@@ -147,9 +234,11 @@ leaves_damaged path s a asked found bad = record {
   blames = tt;
 }
 
-pub leaves_memory : {A : Type 0} (path : List ℕ) (s : KeptBytes) (a : Seen) → Leaves {A = A} path s a (Err Memory) s a
-leaves_memory path s a = record {
+pub leaves_memory : {A : Type 0} (path : List ℕ) (s : OriginState) (a : Seen) → Leaves {A = A} path s a (Err Memory) s a
+leaves_memory {A = A} path s a = record {
   stays = refl;
+  shelf = shelf_same {A = A} s (Err Memory);
+  quiet = λ none failed. absurd (never_failed s.failed s.failed refl none failed);
   around = around.itself path a;
   untold = untold_same a.files
       a.misused a.misused refl;
@@ -158,34 +247,41 @@ leaves_memory path s a = record {
   blames = tt;
 }
 
-pub blames_at : {A : Type 0} (path file : List ℕ) (r : Result A StoreFault) → IfErr r (BlamesAt path)
-    → IfErr r (BlamesEither path file)
-blames_at path file (Ok v) h = tt
-blames_at path file (Err (File blamed)) h = inl (ap (is_within path) h ∙ within_itself path)
-blames_at path file (Err (OddFile odd)) h = tt
-blames_at path file (Err (Limit kind)) h = tt
-blames_at path file (Err (NoTree digest)) h = tt
-blames_at path file (Err (Damaged asked found bad)) h = tt
-blames_at path file (Err (Clash digest)) h = tt
-blames_at path file (Err Memory) h = tt
+read_at : {A : Type 0} (path : List ℕ) (s : OriginState) (r : Result A StoreFault) → IfErr r (BlamesAt path)
+    → IfErr r (BlamesRead path s)
+read_at path s (Ok v) h = tt
+read_at path s (Err (File blamed)) h = inl (ap (is_within path) h ∙ within_itself path)
+read_at path s (Err (OddFile odd)) h = tt
+read_at path s (Err (Limit kind)) h = tt
+read_at path s (Err (NoTree digest)) h = tt
+read_at path s (Err (Damaged asked found bad)) h = tt
+read_at path s (Err (Clash digest)) h = tt
+read_at path s (Err Memory) h = tt
 
-pub blames_file : {A : Type 0} (path file : List ℕ) (r : Result A StoreFault) → IfErr r (BlamesAt file)
-    → IfErr r (BlamesEither path file)
-blames_file path file (Ok v) h = tt
-blames_file path file (Err (File blamed)) h = inr h
-blames_file path file (Err (OddFile odd)) h = tt
-blames_file path file (Err (Limit kind)) h = tt
-blames_file path file (Err (NoTree digest)) h = tt
-blames_file path file (Err (Damaged asked found bad)) h = tt
-blames_file path file (Err (Clash digest)) h = tt
-blames_file path file (Err Memory) h = tt
+read_file : {A : Type 0} (path : List ℕ) (s : OriginState) (r : Result A StoreFault) → is_some s.shelf ≡ false
+    → IfErr r (BlamesAt s.path) → IfErr r (BlamesRead path s)
+read_file path s (Ok v) none h = tt
+read_file path s (Err (File blamed)) none h = inr (none, h)
+read_file path s (Err (OddFile odd)) none h = tt
+read_file path s (Err (Limit kind)) none h = tt
+read_file path s (Err (NoTree digest)) none h = tt
+read_file path s (Err (Damaged asked found bad)) none h = tt
+read_file path s (Err (Clash digest)) none h = tt
+read_file path s (Err Memory) none h = tt
+
+read_short : {A : Type 0} (path : List ℕ) (s : OriginState) (r : Result A StoreFault)
+    → IfErr r (λ fault. fault ≡ Memory) → IfErr r (BlamesRead path s)
+read_short path s (Ok v) h = tt
+read_short path s (Err fault) h = subst (BlamesRead path s) (sym h) tt
 
 -- bytes that aren't the ones that were judged
-pub leaves_broken : {A B : Type 0} (path : List ℕ) (s0 s1 : KeptBytes) (a b : Seen) (v : A) (asked found : List ℕ)
+pub leaves_broken : {A B : Type 0} (path : List ℕ) (s0 s1 : OriginState) (a b : Seen) (v : A) (asked found : List ℕ)
     (bad : Option Reason) → Leaves path s0 a (Ok v) s1 b → Leaves {A = B} path s0 a
     (Err (Damaged asked found bad)) s1 b
-leaves_broken path s0 s1 a b v asked found bad h = record {
+leaves_broken {B = B} path s0 s1 a b v asked found bad h = record {
   stays = h.stays;
+  shelf = shelf_as {B = B} s0 s1 (Ok v) (Err (Damaged asked found bad)) tt h.shelf;
+  quiet = h.quiet;
   around = h.around;
   untold = h.untold;
   children = h.children;
@@ -195,10 +291,12 @@ leaves_broken path s0 s1 a b v asked found bad h = record {
 }
 
 -- memory ran out behind calls that went well
-pub leaves_short : {A B : Type 0} (path : List ℕ) (s0 s1 : KeptBytes) (a b : Seen) (v : A)
+pub leaves_short : {A B : Type 0} (path : List ℕ) (s0 s1 : OriginState) (a b : Seen) (v : A)
     → Leaves path s0 a (Ok v) s1 b → Leaves {A = B} path s0 a (Err Memory) s1 b
-leaves_short path s0 s1 a b v h = record {
+leaves_short {B = B} path s0 s1 a b v h = record {
   stays = h.stays;
+  shelf = shelf_as {B = B} s0 s1 (Ok v) (Err Memory) tt h.shelf;
+  quiet = h.quiet;
   around = h.around;
   untold = h.untold;
   children =
@@ -211,49 +309,130 @@ leaves_short path s0 s1 a b v h = record {
     by e = omega (arith, e)
 
 -- no call on files
-pub leaves_local : {A : Type 0} (path : List ℕ) (s s1 : KeptBytes) (a : Seen) (r : Result A StoreFault)
-    → s1.path ≡ s.path → ((n : ℕ) → CountsFiles cause_of r n n) → IfErr r (BlamesEither path s.path)
-    → Leaves path s a r s1 a
-leaves_local path s s1 a r stays counts blames = record {
-  stays = stays;
+pub leaves_local : {A : Type 0} (path : List ℕ) (s s1 : OriginState) (a : Seen) (r : Result A StoreFault)
+    → s1 ≡ s → ((n : ℕ) → CountsFiles cause_of r n n) → IfErr r (BlamesRead path s) → Leaves path s a r s1 a
+leaves_local path s s1 a r same counts blames = subst (λ x. Leaves path s a r x a) (sym same) (record {
+  stays = refl;
+  shelf = shelf_same s r;
+  quiet = λ none failed. refl;
   around = around.itself path a;
   untold = untold_same a.files a.misused a.misused refl;
   children = refl;
   counts = counts a.file_faults;
   blames = blames;
-}
+})
 
--- a piece of the file was read
-pub leaves_read : {W A : Type 0} (ghosts : world.Ghosts W) (path : List ℕ) (s s1 : KeptBytes)
-    (r : Result A StoreFault) (old new : W) → s1.path ≡ s.path
-    → LeavesUnchanged cause_of r (seen ghosts old) (seen ghosts new) → IfErr r (BlamesAt s.path)
+-- ---- a piece is read
+
+never_less : (o : Option Bool) (a b : ℕ) → MayMisuse o a b → a ≤ b
+never_less None a b h = omega (arith, h)
+never_less (Some true) a b h = omega (arith, h)
+never_less (Some false) a b h = h
+
+-- of the file
+pub piece_file : {W : Type 0} (ghosts : world.Ghosts W) (s : OriginState) (digest : List ℕ) (at : ℕ)
+    (r : Result (List ℕ) StoreFault) (old new : W)
+    → is_some s.shelf ≡ false
+    → IfSome (ghosts.tree old) (λ files. IfOk r (λ piece. piece
+    ≡ take 65536 (drop at (bytes_of (item_at files s.path)))))
+    → IfErr r (λ fault. IsTrue (is_free fault)) → IfErr r (BlamesAt s.path)
+    → LeavesUnchanged cause_of r (seen ghosts old) (seen ghosts new)
     → MayMisuse (option_map (λ t. is_file (item_at t s.path)) (ghosts.tree old)) (ghosts.misused old)
     (ghosts.misused new)
-    → Leaves path s (seen ghosts old) r s1 (seen ghosts new)
-leaves_read ghosts path s s1 r old new stays left blames misused = record {
-  stays = stays;
-  around = record {
-    files = around.kept_itself path (ghosts.tree old)
-        (ghosts.tree new) left.files;
-    runs = left.runs;
-    misused = never
-        (option_map (λ t. is_file (item_at t s.path)) (ghosts.tree old)) misused;
+    → ReadsPiece s digest at (seen ghosts old) r s (seen ghosts new)
+piece_file ghosts s digest at r old new none told free blames left misused = record {
+  leaves = λ path. record {
+    stays = refl;
+    shelf = shelf_same s r;
+    quiet = λ none failed. absurd (never_failed s.failed s.failed refl none failed);
+    around = record {
+      files = around.kept_itself path (ghosts.tree old) (ghosts.tree new) left.files;
+      runs = left.runs;
+      misused = never_less (option_map (λ t. is_file (item_at t s.path)) (ghosts.tree old)) (ghosts.misused old)
+          (ghosts.misused new) misused;
+    };
+    untold = untold_may (ghosts.tree old) (λ t. is_file (item_at t s.path)) (ghosts.misused old)
+        (ghosts.misused new) misused;
+    children = left.children;
+    counts = left.counts;
+    blames = read_file path s r none blames;
   };
-  untold = untold_may (ghosts.tree old) (λ t. is_file (item_at t s.path)) (ghosts.misused old)
-      (ghosts.misused new) misused;
-  children = left.children;
-  counts = left.counts;
-  blames = blames_file path s.path r blames;
+  files = left.files;
+  told = read (ghosts.tree old) told;
+  right = subst (λ v. MayMisuse (option_map (λ t. is_file (found_by v s.path (held_of s.shelf) digest t))
+      (ghosts.tree old)) (ghosts.misused old) (ghosts.misused new)) (sym none) misused;
+  free = free;
 }
   where
-    never : (o : Option Bool) → MayMisuse o (ghosts.misused old) (ghosts.misused new)
-        → ghosts.misused old ≤ ghosts.misused new
-    never None h = omega (arith, h)
-    never (Some true) h = omega (arith, h)
-    never (Some false) h = h
+    read : (o : Option Tree) → IfSome o (λ files. IfOk r (λ piece. piece
+        ≡ take 65536 (drop at (bytes_of (item_at files s.path)))))
+        → IfSome o (λ files. IsTrue (is_file (found_in s digest files)) → IfOk r (λ piece. piece
+        ≡ take 65536 (drop at (bytes_of (found_in s digest files)))))
+    read None told = tt
+    read (Some files) told = λ file. subst (λ v. IfOk r (λ piece. piece
+        ≡ take 65536 (drop at (bytes_of (found_by v s.path (held_of s.shelf) digest files))))) (sym none) told
+
+-- of what the shelf has
+pub piece_held : (s s1 : OriginState) (digest : List ℕ) (at : ℕ) (r : Result (List ℕ) StoreFault) (a : Seen)
+    → is_some s.shelf ≡ true
+    → ReadsHeld s digest at r s1 → ReadsPiece s digest at a r s1 a
+piece_held s s1 digest at r a some h = record {
+  leaves = λ path. record {
+    stays = h.path;
+    shelf = h.shelf;
+    quiet = λ none failed. refl;
+    around = around.itself path a;
+    untold = untold_same a.files a.misused a.misused refl;
+    children = refl;
+    counts = counts r h.memory;
+    blames = read_short path s r h.memory;
+  };
+  files = refl;
+  told = read a.files;
+  right = may_same a.files (λ files. is_file (found_in s digest files)) a.misused;
+  free = free r h.memory;
+}
+  where
+    counts : (r : Result (List ℕ) StoreFault) → IfErr r (λ fault. fault ≡ Memory)
+        → CountsFiles cause_of r a.file_faults a.file_faults
+    counts (Ok v) m = refl
+    counts (Err fault) m = subst (λ f. CountsFiles {A = List ℕ} cause_of (Err f) a.file_faults a.file_faults) (sym m)
+        (let same : a.file_faults ≤ a.file_faults = omega arith in same)
+
+    free : (r : Result (List ℕ) StoreFault) → IfErr r (λ fault. fault ≡ Memory)
+        → IfErr r (λ fault. IsTrue (is_free fault))
+    free (Ok v) m = tt
+    free (Err fault) m = subst (λ f. IsTrue (is_free f)) (sym m) refl
+
+    has : (found : Option (List ℕ)) → held_under (held_of s.shelf) digest ≡ found
+        → IsTrue (is_file (option_map (λ bytes. item.File false bytes) found)) → IfOk r (λ piece. piece
+        ≡ take 65536 (drop at (bytes_of (option_map (λ bytes. item.File false bytes) found))))
+    has None is file = absurd (cc)
+    has (Some bytes) is file = h.told bytes is
+
+    read : (o : Option Tree) → IfSome o (λ files. IsTrue (is_file (found_in s digest files)) → IfOk r (λ piece. piece
+        ≡ take 65536 (drop at (bytes_of (found_in s digest files)))))
+    read None = tt
+    read (Some files) = subst (λ v. IsTrue (is_file (found_by v s.path (held_of s.shelf) digest files))
+        → IfOk r (λ piece. piece ≡ take 65536 (drop at (bytes_of (found_by v s.path (held_of s.shelf) digest files)))))
+        (sym some) (has (held_under (held_of s.shelf) digest) refl)
+
+-- memory ran out
+pub piece_short : (s : OriginState) (digest : List ℕ) (at : ℕ) (a : Seen) → ReadsPiece s digest at a (Err Memory) s a
+piece_short s digest at a = record {
+  leaves = λ path. leaves_memory path s a;
+  files = refl;
+  told = by a.files;
+  right = may_same a.files (λ files. is_file (found_in s digest files)) a.misused;
+  free = refl;
+}
+  where
+    by : (o : Option Tree) → IfSome o (λ files. IsTrue (is_file (found_in s digest files)) → Unit {0})
+    by None = tt
+    by (Some files) = λ file. tt
 
 -- a call on the path
-pub leaves_called : {W : Type 0} (ghosts : world.Ghosts W) (path : List ℕ) (s : KeptBytes)
+pub leaves_called : {W : Type 0} (ghosts : world.Ghosts W) (path : List ℕ) (s : OriginState)
     (answer : Result (Unit {0}) FileFault) (result : Result (Unit {0}) StoreFault) (old new : W)
     → CountsFailed answer (ghosts.file_faults old) (ghosts.file_faults new)
     → ((before now : ℕ) → CountsFailed answer before now → CountsFiles cause_of result before now)
@@ -263,38 +442,42 @@ pub leaves_called : {W : Type 0} (ghosts : world.Ghosts W) (path : List ℕ) (s 
     → Leaves path s (seen ghosts old) result s (seen ghosts new)
 leaves_called ghosts path s answer result old new counted counts blames children kept untold = record {
   stays = refl;
+  shelf = shelf_same s result;
+  quiet = λ none failed. absurd (never_failed s.failed s.failed refl none failed);
   around = kept;
   untold = untold;
   children = children;
   counts = counts _ _ counted;
-  blames = blames_at path s.path result blames;
+  blames = read_at path s result blames;
 }
 
-pub blames_wider : {A : Type 0} (folder name path file : List ℕ) (r : Result A StoreFault)
-    → path ≡ joined folder name → 0 < length name → IfErr r (BlamesEither path file)
-    → IfErr r (BlamesEither folder file)
-blames_wider folder name path file (Ok v) is some h = tt
-blames_wider folder name path file (Err (File blamed)) is some (inl h) = inl
+read_wider : {A : Type 0} (folder name path : List ℕ) (s : OriginState) (r : Result A StoreFault)
+    → path ≡ joined folder name → 0 < length name → IfErr r (BlamesRead path s)
+    → IfErr r (BlamesRead folder s)
+read_wider folder name path s (Ok v) is some h = tt
+read_wider folder name path s (Err (File blamed)) is some (inl h) = inl
     (within_child folder name blamed some (ap (λ p. is_within p blamed) (sym is) ∙ h))
-blames_wider folder name path file (Err (File blamed)) is some (inr h) = inr h
-blames_wider folder name path file (Err (OddFile odd)) is some h = tt
-blames_wider folder name path file (Err (Limit kind)) is some h = tt
-blames_wider folder name path file (Err (NoTree digest)) is some h = tt
-blames_wider folder name path file (Err (Damaged asked found bad)) is some h = tt
-blames_wider folder name path file (Err (Clash digest)) is some h = tt
-blames_wider folder name path file (Err Memory) is some h = tt
+read_wider folder name path s (Err (File blamed)) is some (inr h) = inr h
+read_wider folder name path s (Err (OddFile odd)) is some h = tt
+read_wider folder name path s (Err (Limit kind)) is some h = tt
+read_wider folder name path s (Err (NoTree digest)) is some h = tt
+read_wider folder name path s (Err (Damaged asked found bad)) is some h = tt
+read_wider folder name path s (Err (Clash digest)) is some h = tt
+read_wider folder name path s (Err Memory) is some h = tt
 
 -- what is left around a part of a folder is left around the folder
-pub leaves_wider : {A : Type 0} (folder name path : List ℕ) (s0 s1 : KeptBytes) (a b : Seen)
+pub leaves_wider : {A : Type 0} (folder name path : List ℕ) (s0 s1 : OriginState) (a b : Seen)
     (r : Result A StoreFault) → path ≡ joined folder name → IsTrue (is_part name) → Leaves path s0 a r s1 b
     → Leaves folder s0 a r s1 b
 leaves_wider folder name path s0 s1 a b r is part h = record {
   stays = h.stays;
+  shelf = h.shelf;
+  quiet = h.quiet;
   around = around.part_within folder name path a b is part h.around;
   untold = h.untold;
   children = h.children;
   counts = h.counts;
-  blames = blames_wider folder name path s0.path r is (part_form name part).0 h.blames;
+  blames = read_wider folder name path s0 r is (part_form name part).0 h.blames;
 }
 
 -- ---- what they do
@@ -305,7 +488,7 @@ map_twice None a b c1 c2 e f = f ∙ ap (option_map c2) e
 map_twice (Some files) a b c1 c2 e f = f ∙ ap (option_map c2) e
 
 pub does_on : {A B : Type 0} (P : A → Type 0) (Q : B → Type 0) (whole mid rest : List ℕ) (c1 c2 : Tree → Tree)
-    (w0 w1 w2 : List (List ℕ)) (s0 s1 s2 : KeptBytes) (a b c : Seen) (v : A) (r : Result B StoreFault)
+    (w0 w1 w2 : List (List ℕ)) (s0 s1 s2 : Source) (a b c : Seen) (v : A) (r : Result B StoreFault)
     → Does P whole mid c1 w0 w1 s0 a (Ok v) s1 b → (P v → Does Q mid rest c2 w1 w2 s1 b r s2 c)
     → Does Q whole rest (λ files. c2 (c1 files)) w0 w2 s0 a r s2 c
 does_on {B = B} P Q whole mid rest c1 c2 w0 w1 w2 s0 s1 s2 a b c v r first next = record
@@ -331,7 +514,7 @@ does_on {B = B} P Q whole mid rest c1 c2 w0 w1 w2 s0 s1 s2 a b c v r first next 
     by one = both one ((next one.value).so one.ahead one.folders)
 
 pub does_stop : {A B : Type 0} (P : A → Type 0) (Q : B → Type 0) (whole mid rest : List ℕ) (c1 c2 : Tree → Tree)
-    (w0 w1 w2 : List (List ℕ)) (s0 s1 : KeptBytes) (a b : Seen) (fault : StoreFault)
+    (w0 w1 w2 : List (List ℕ)) (s0 s1 : Source) (a b : Seen) (fault : StoreFault)
     → Does P whole mid c1 w0 w1 s0 a (Err fault) s1 b → Does Q whole rest c2 w0 w2 s0 a (Err fault) s1 b
 does_stop P Q whole mid rest c1 c2 w0 w1 w2 s0 s1 a b fault first = record
     { so = λ ahead folders. by (first.so ahead folders) }
@@ -341,7 +524,7 @@ does_stop P Q whole mid rest c1 c2 w0 w1 w2 s0 s1 a b fault first = record
 
 -- the same change told in another way
 pub does_as : {A : Type 0} (Q : A → Type 0) (whole rest : List ℕ) (c1 c2 : Tree → Tree) (w0 w1 : List (List ℕ))
-    (s0 s1 : KeptBytes) (a b : Seen) (r : Result A StoreFault)
+    (s0 s1 : Source) (a b : Seen) (r : Result A StoreFault)
     → ((files : Tree) → c1 files ≡ c2 files) → Does Q whole rest c1 w0 w1 s0 a r s1 b
     → Does Q whole rest c2 w0 w1 s0 a r s1 b
 does_as {A = A} Q whole rest c1 c2 w0 w1 s0 s1 a b r same h = record { so = λ ahead folders. by (h.so ahead folders) }
@@ -366,12 +549,12 @@ does_as {A = A} Q whole rest c1 c2 w0 w1 s0 s1 a b r same h = record { so = λ a
     }
 
 pub does_bytes : {A : Type 0} (Q : A → Type 0) (whole other rest : List ℕ) (c : Tree → Tree)
-    (w0 w1 : List (List ℕ)) (s0 s1 : KeptBytes) (a b : Seen) (r : Result A StoreFault)
+    (w0 w1 : List (List ℕ)) (s0 s1 : Source) (a b : Seen) (r : Result A StoreFault)
     → whole ≡ other → Does Q whole rest c w0 w1 s0 a r s1 b → Does Q other rest c w0 w1 s0 a r s1 b
 does_bytes Q whole other rest c w0 w1 s0 s1 a b r same h = subst (λ bytes. Does Q bytes rest c w0 w1 s0 a r s1 b) same h
 
 -- nothing ahead, nothing done
-pub does_nothing : (bytes : List ℕ) (folders : List (List ℕ)) (s : KeptBytes) (a : Seen)
+pub does_nothing : (bytes : List ℕ) (folders : List (List ℕ)) (s : Source) (a : Seen)
     → Lays bytes bytes (λ files. files) folders folders s a (Ok tt) s a
 does_nothing bytes folders s a = record {
   so = λ ahead are. record
@@ -383,7 +566,7 @@ does_nothing bytes folders s a = record {
     itself (Some files) = refl
 
 pub does_memory : {A : Type 0} (Q : A → Type 0) (whole rest : List ℕ) (c : Tree → Tree) (w0 w1 : List (List ℕ))
-    (s : KeptBytes) (a : Seen) → Does Q whole rest c w0 w1 s a (Err Memory) s a
+    (s : Source) (a : Seen) → Does Q whole rest c w0 w1 s a (Err Memory) s a
 does_memory Q whole rest c w0 w1 s a = record {
   so = λ ahead folders. record {
     value = tt;
@@ -398,7 +581,7 @@ does_memory Q whole rest c w0 w1 s a = record {
 
 -- a refusal that comes anyway
 pub does_failed : {A : Type 0} (Q : A → Type 0) (whole rest : List ℕ) (c : Tree → Tree) (w0 w1 : List (List ℕ))
-    (s s1 : KeptBytes) (a b : Seen) (fault : StoreFault) → (Ahead s a.files whole → b.misused ≡ a.misused)
+    (s s1 : Source) (a b : Seen) (fault : StoreFault) → (Ahead s a.files whole → b.misused ≡ a.misused)
     → IsTrue (is_free fault) → Does Q whole rest c w0 w1 s a (Err fault) s1 b
 does_failed Q whole rest c w0 w1 s s1 a b fault right free = record {
   so = λ ahead folders. record {
@@ -414,12 +597,12 @@ does_failed Q whole rest c w0 w1 s s1 a b fault right free = record {
 
 -- a refusal that can't come
 pub does_never : {A : Type 0} (Q : A → Type 0) (whole rest : List ℕ) (c : Tree → Tree) (w0 w1 : List (List ℕ))
-    (s s1 : KeptBytes) (a b : Seen) (r : Result A StoreFault) → (Ahead s a.files whole → ⊥)
+    (s s1 : Source) (a b : Seen) (r : Result A StoreFault) → (Ahead s a.files whole → ⊥)
     → Does Q whole rest c w0 w1 s a r s1 b
 does_never Q whole rest c w0 w1 s s1 a b r never = record { so = λ ahead folders. absurd (never ahead) }
 
 -- no call on files
-pub does_local : {A : Type 0} (Q : A → Type 0) (whole rest : List ℕ) (paths : List (List ℕ)) (s s1 : KeptBytes)
+pub does_local : {A : Type 0} (Q : A → Type 0) (whole rest : List ℕ) (paths : List (List ℕ)) (s s1 : Source)
     (a : Seen) (r : Result A StoreFault) → (Ahead s a.files whole → IfOk r Q)
     → (Ahead s a.files whole → OnOk r (Ahead s1 a.files rest))
     → (Ahead s a.files whole → IfErr r (λ fault. IsTrue (is_free fault))) → Reading Q whole rest paths s a r s1 a
@@ -452,7 +635,7 @@ does_local Q whole rest paths s s1 a (Err fault) value moves free = record {
 
 -- a value was read
 pub does_read : {A : Type 0} (Q : A → Type 0) (v : A) (whole rest : List ℕ) (paths : List (List ℕ))
-    (s s1 : KeptBytes) (a b : Seen) → b.files ≡ a.files → (Ahead s a.files whole → Q v)
+    (s s1 : Source) (a b : Seen) → b.files ≡ a.files → (Ahead s a.files whole → Q v)
     → (Ahead s a.files whole → Ahead s1 b.files rest) → (Ahead s a.files whole → b.misused ≡ a.misused)
     → Reading Q whole rest paths s a (Ok v) s1 b
 does_read Q v whole rest paths s s1 a b same value moves right = record {
@@ -473,7 +656,7 @@ does_read Q v whole rest paths s s1 a b same value moves right = record {
 
 -- another value of the same bytes
 pub does_value : {A B : Type 0} (P : A → Type 0) (Q : B → Type 0) (v : A) (w : B) (whole rest : List ℕ)
-    (c : Tree → Tree) (w0 w1 : List (List ℕ)) (s s1 : KeptBytes) (a b : Seen) → (P v → Q w)
+    (c : Tree → Tree) (w0 w1 : List (List ℕ)) (s s1 : Source) (a b : Seen) → (P v → Q w)
     → Does P whole rest c w0 w1 s a (Ok v) s1 b → Does Q whole rest c w0 w1 s a (Ok w) s1 b
 does_value P Q v w whole rest c w0 w1 s s1 a b of h = record { so = λ ahead folders. by (h.so ahead folders) }
   where
@@ -489,9 +672,9 @@ does_value P Q v w whole rest c w0 w1 s s1 a b of h = record { so = λ ahead fol
     }
 
 -- a call on a path that isn't at the file or above it
-pub does_called : (path bytes : List ℕ) (s : KeptBytes) (change : Tree → Tree) (w0 w1 : List (List ℕ))
+pub does_called : (path bytes : List ℕ) (s : Source) (change : Tree → Tree) (w0 w1 : List (List ℕ))
     (answer : Result (Unit {0}) FileFault) (result : Result (Unit {0}) StoreFault) (a b : Seen)
-    → is_within path s.path ≡ false → OnOk answer (b.files ≡ option_map change a.files)
+    → is_within path s.origin.path ≡ false → OnOk answer (b.files ≡ option_map change a.files)
     → OnOk result (IsTrue (is_ok answer)) → IfErr result (λ fault. IsTrue (is_free fault))
     → LeavesAround path a b → (AreFolders w0 a.files → b.misused ≡ a.misused)
     → (b.files ≡ option_map change a.files → AreFolders w0 a.files → AreFolders w1 b.files)
@@ -525,27 +708,27 @@ does_called path bytes s change w0 w1 answer (Err fault) a b apart changed ok fr
 -- ---- the same with what can be seen from their facts left out
 
 pub reads_on : {A B : Type 0} (P : A → Type 0) (Q : B → Type 0) {whole mid rest : List ℕ} {paths : List (List ℕ)}
-    {s0 s1 s2 : KeptBytes} {a b c : Seen} {v : A} {r : Result B StoreFault}
+    {s0 s1 s2 : Source} {a b c : Seen} {v : A} {r : Result B StoreFault}
     → Reading P whole mid paths s0 a (Ok v) s1 b → (P v → Reading Q mid rest paths s1 b r s2 c)
     → Reading Q whole rest paths s0 a r s2 c
 reads_on P Q {whole} {mid} {rest} {paths} {s0} {s1} {s2} {a} {b} {c} {v} {r} first next = does_on P Q whole mid
     rest (λ files. files) (λ files. files) paths paths paths s0 s1 s2 a b c v r first next
 
 pub reads_stop : {A B : Type 0} (P : A → Type 0) (Q : B → Type 0) {whole mid rest : List ℕ} {c1 c2 : Tree → Tree}
-    {w0 w1 w2 : List (List ℕ)} {s0 s1 : KeptBytes} {a b : Seen} {fault : StoreFault}
+    {w0 w1 w2 : List (List ℕ)} {s0 s1 : Source} {a b : Seen} {fault : StoreFault}
     → Does P whole mid c1 w0 w1 s0 a (Err fault) s1 b → Does Q whole rest c2 w0 w2 s0 a (Err fault) s1 b
 reads_stop P Q {whole} {mid} {rest} {c1} {c2} {w0} {w1} {w2} {s0} {s1} {a} {b} {fault} first = does_stop P Q whole
     mid rest c1 c2 w0 w1 w2 s0 s1 a b fault first
 
 -- a value was read, and then something is laid
 pub lays_behind : {A : Type 0} (P : A → Type 0) {whole mid rest : List ℕ} {c : Tree → Tree}
-    {w0 w1 : List (List ℕ)} {s0 s1 s2 : KeptBytes} {a b d : Seen} {v : A} {r : Result (Unit {0}) StoreFault}
+    {w0 w1 : List (List ℕ)} {s0 s1 s2 : Source} {a b d : Seen} {v : A} {r : Result (Unit {0}) StoreFault}
     → Reading P whole mid w0 s0 a (Ok v) s1 b → (P v → Lays mid rest c w0 w1 s1 b r s2 d)
     → Lays whole rest c w0 w1 s0 a r s2 d
 lays_behind P {whole} {mid} {rest} {c} {w0} {w1} {s0} {s1} {s2} {a} {b} {d} {v} {r} first next = does_on P
     (λ done. Unit {0}) whole mid rest (λ files. files) c w0 w0 w1 s0 s1 s2 a b d v r first next
 
-pub leaves_then : {A B : Type 0} {path : List ℕ} {s0 s1 s2 : KeptBytes} {a b c : Seen} {v : A}
+pub leaves_then : {A B : Type 0} {path : List ℕ} {s0 s1 s2 : OriginState} {a b c : Seen} {v : A}
     {r : Result B StoreFault} → Leaves path s0 a (Ok v) s1 b → Leaves path s1 b r s2 c → Leaves path s0 a r s2 c
 leaves_then {A} {B} {path} {s0} {s1} {s2} {a} {b} {c} {v} {r} first next = leaves_on path s0 s1 s2 a b c v r first next
 
@@ -563,7 +746,7 @@ unfolding AreFolders
 none_are None = tt
 none_are (Some files) = λ q h. absurd (cc)
 
-pub leaves_laid : {W : Type 0} (ghosts : world.Ghosts W) (path : List ℕ) (s : KeptBytes)
+pub leaves_laid : {W : Type 0} (ghosts : world.Ghosts W) (path : List ℕ) (s : OriginState)
     (answer : Result (Unit {0}) FileFault) (result : Result (Unit {0}) StoreFault) (old new : W)
     (ways : List (List ℕ))
     → CountsFailed answer (ghosts.file_faults old) (ghosts.file_faults new)
@@ -577,32 +760,32 @@ leaves_laid ghosts path s answer result old new ways counted counts blames child
     (untold_where (ghosts.tree old) ways (ghosts.misused old) (ghosts.misused new) right kept.misused)
 
 -- something is laid, and then something else
-pub lays_on : {whole mid rest : List ℕ} {c1 c2 : Tree → Tree} {w0 w1 w2 : List (List ℕ)} {s0 s1 s2 : KeptBytes}
+pub lays_on : {whole mid rest : List ℕ} {c1 c2 : Tree → Tree} {w0 w1 w2 : List (List ℕ)} {s0 s1 s2 : Source}
     {a b d : Seen} {r : Result (Unit {0}) StoreFault}
     → Lays whole mid c1 w0 w1 s0 a (Ok tt) s1 b → Lays mid rest c2 w1 w2 s1 b r s2 d
     → Lays whole rest (λ files. c2 (c1 files)) w0 w2 s0 a r s2 d
 lays_on {whole} {mid} {rest} {c1} {c2} {w0} {w1} {w2} {s0} {s1} {s2} {a} {b} {d} {r} first next = does_on
     (λ done. Unit {0}) (λ done. Unit {0}) whole mid rest c1 c2 w0 w1 w2 s0 s1 s2 a b d tt r first (λ done. next)
 
-pub lays_stop : {whole mid rest : List ℕ} {c1 c2 : Tree → Tree} {w0 w1 w2 : List (List ℕ)} {s0 s1 : KeptBytes}
+pub lays_stop : {whole mid rest : List ℕ} {c1 c2 : Tree → Tree} {w0 w1 w2 : List (List ℕ)} {s0 s1 : Source}
     {a b : Seen} {fault : StoreFault}
     → Lays whole mid c1 w0 w1 s0 a (Err fault) s1 b → Lays whole rest c2 w0 w2 s0 a (Err fault) s1 b
 lays_stop first = reads_stop (λ done. Unit {0}) (λ done. Unit {0}) first
 
-pub lays_as : {whole rest : List ℕ} {c1 c2 : Tree → Tree} {w0 w1 : List (List ℕ)} {s0 s1 : KeptBytes} {a b : Seen}
+pub lays_as : {whole rest : List ℕ} {c1 c2 : Tree → Tree} {w0 w1 : List (List ℕ)} {s0 s1 : Source} {a b : Seen}
     {r : Result (Unit {0}) StoreFault}
     → ((files : Tree) → c1 files ≡ c2 files) → Lays whole rest c1 w0 w1 s0 a r s1 b
     → Lays whole rest c2 w0 w1 s0 a r s1 b
 lays_as {whole} {rest} {c1} {c2} {w0} {w1} {s0} {s1} {a} {b} {r} same h = does_as
     (λ done. Unit {0}) whole rest c1 c2 w0 w1 s0 s1 a b r same h
 
-pub lays_bytes : {whole other rest : List ℕ} {c : Tree → Tree} {w0 w1 : List (List ℕ)} {s0 s1 : KeptBytes}
+pub lays_bytes : {whole other rest : List ℕ} {c : Tree → Tree} {w0 w1 : List (List ℕ)} {s0 s1 : Source}
     {a b : Seen} {r : Result (Unit {0}) StoreFault}
     → whole ≡ other → Lays whole rest c w0 w1 s0 a r s1 b → Lays other rest c w0 w1 s0 a r s1 b
 lays_bytes {whole} {other} {rest} {c} {w0} {w1} {s0} {s1} {a} {b} {r} same h = does_bytes
     (λ done. Unit {0}) whole other rest c w0 w1 s0 s1 a b r same h
 
-pub lays_never : {whole rest : List ℕ} {c : Tree → Tree} {w0 w1 : List (List ℕ)} {s s1 : KeptBytes} {a b : Seen}
+pub lays_never : {whole rest : List ℕ} {c : Tree → Tree} {w0 w1 : List (List ℕ)} {s s1 : Source} {a b : Seen}
     {r : Result (Unit {0}) StoreFault} → ⊥ → Lays whole rest c w0 w1 s a r s1 b
 lays_never h = absurd h
 
@@ -624,7 +807,7 @@ part_size name part = leb-true (length name) 255
     second false b c d e h = absurd (cc)
 
 -- the same with other folders before
-pub lays_from : {whole rest : List ℕ} {c : Tree → Tree} {w w0 w1 : List (List ℕ)} {s0 s1 : KeptBytes} {a b : Seen}
+pub lays_from : {whole rest : List ℕ} {c : Tree → Tree} {w w0 w1 : List (List ℕ)} {s0 s1 : Source} {a b : Seen}
     {r : Result (Unit {0}) StoreFault}
     → (AreFolders w a.files → AreFolders w0 a.files) → Lays whole rest c w0 w1 s0 a r s1 b
     → Lays whole rest c w w1 s0 a r s1 b

@@ -1,6 +1,6 @@
 -- Which path a refusal carries.
 use Rattle.std.proofs.Common.{◌≡◌, ℕ, ◌<◌, Bool, true, false, cond, List, [], ◌∷◌, ◌++◌, ◌||◌, refl, sym, ap, ◌∙◌}
-use Rattle.std.proofs.Common.{arith, length, nat_eq, append_assoc, Option, Some, Result, Ok, Err}
+use Rattle.std.proofs.Common.{arith, length, nat_eq, append_assoc, Option, Some, Result, Ok, Err, inl, inr}
 use Rattle.std.specs.Prelude.{IfErr, IsTrue}
 use Rattle.std.specs.List.{starts_with}
 use Rattle.std.specs.Str.{bytes_eq}
@@ -15,7 +15,7 @@ use Rattle.steps.specs.Causes.{CountsFiles, IsReadCause, NamesOne, Only}
 use Rattle.tree_canon.specs.Names.{is_name}
 use Rattle.tree_store.specs.declared.fault.StoreFault.{StoreFault}
 use Rattle.tree_store.specs.declared.fault.StoreFault.TheVariants.{OddFile, Limit, File, NoTree, Damaged, Clash, Memory}
-use Rattle.tree_store.specs.Answers.{AtOrBelow, Blames, BlamesAt, BlamesWithin, cause_of}
+use Rattle.tree_store.specs.Answers.{AtOrBelow, Blames, BlamesAt, BlamesEither, BlamesWithin, cause_of}
 use Rattle.tree_store.proofs.Places.{child_not_root, longer_front, name_form, or_right, part_form, starts_itself}
 
 pub within_itself : (path : List ℕ) → is_within path path ≡ true
@@ -123,3 +123,41 @@ names_none T (Err (NoTree digest)) last h = tt
 names_none T (Err (Damaged asked found bad)) last h = tt
 names_none T (Err (Clash digest)) last h = tt
 names_none T (Err Memory) last h = tt
+
+-- ---- a path, one below it, or a file
+
+pub blames_at : {A : Type 0} (path file : List ℕ) (r : Result A StoreFault) → IfErr r (BlamesAt path)
+    → IfErr r (BlamesEither path file)
+blames_at path file (Ok v) h = tt
+blames_at path file (Err (File blamed)) h = inl (ap (is_within path) h ∙ within_itself path)
+blames_at path file (Err (OddFile odd)) h = tt
+blames_at path file (Err (Limit kind)) h = tt
+blames_at path file (Err (NoTree digest)) h = tt
+blames_at path file (Err (Damaged asked found bad)) h = tt
+blames_at path file (Err (Clash digest)) h = tt
+blames_at path file (Err Memory) h = tt
+
+pub blames_file : {A : Type 0} (path file : List ℕ) (r : Result A StoreFault) → IfErr r (BlamesAt file)
+    → IfErr r (BlamesEither path file)
+blames_file path file (Ok v) h = tt
+blames_file path file (Err (File blamed)) h = inr h
+blames_file path file (Err (OddFile odd)) h = tt
+blames_file path file (Err (Limit kind)) h = tt
+blames_file path file (Err (NoTree digest)) h = tt
+blames_file path file (Err (Damaged asked found bad)) h = tt
+blames_file path file (Err (Clash digest)) h = tt
+blames_file path file (Err Memory) h = tt
+
+pub blames_wider : {A : Type 0} (folder name path file : List ℕ) (r : Result A StoreFault)
+    → path ≡ joined folder name → 0 < length name → IfErr r (BlamesEither path file)
+    → IfErr r (BlamesEither folder file)
+blames_wider folder name path file (Ok v) is some h = tt
+blames_wider folder name path file (Err (File blamed)) is some (inl h) = inl
+    (within_child folder name blamed some (ap (λ p. is_within p blamed) (sym is) ∙ h))
+blames_wider folder name path file (Err (File blamed)) is some (inr h) = inr h
+blames_wider folder name path file (Err (OddFile odd)) is some h = tt
+blames_wider folder name path file (Err (Limit kind)) is some h = tt
+blames_wider folder name path file (Err (NoTree digest)) is some h = tt
+blames_wider folder name path file (Err (Damaged asked found bad)) is some h = tt
+blames_wider folder name path file (Err (Clash digest)) is some h = tt
+blames_wider folder name path file (Err Memory) is some h = tt

@@ -27,7 +27,7 @@ use Rattle.tree_store.specs.Around.{KeptAround, LeavesAround}
 use Rattle.tree_store.specs.Laying.{entries_laid, entry_laid, node_laid}
 use Rattle.tree_store.specs.Right.{AreFolders, way_into, way_to}
 use Rattle.tree_store.specs.declared.fault.StoreFault.{StoreFault}
-use Rattle.tree_store.specs.declared.kept_bytes.KeptBytes.{KeptBytes}
+use Rattle.tree_store.specs.Source.{Source}
 use Rattle.tree_store.proofs.Ahead.{does_nothing, lays_as, lays_behind, lays_bytes, lays_on, none_are}
 use Rattle.tree_store.proofs.Fields.{ahead_few}
 use Rattle.tree_store.proofs.Fit.{FitsAt}
@@ -82,7 +82,7 @@ folder_count all depth fit = ltb-true (length all) (2 ^ 32)
 -- ---- a node by its first byte
 
 pub node_lays : (node : Node) (rest path : List ℕ) (depth : ℕ) (ways : List (List ℕ)) (v : ℕ)
-    (s0 s1 s2 : KeptBytes) (a b d : Seen) (r : Result (Unit {0}) StoreFault) → fits node depth ≡ true
+    (s0 s1 s2 : Source) (a b d : Seen) (r : Result (Unit {0}) StoreFault) → fits node depth ≡ true
     → ((byte : ℕ) (behind : List ℕ) → Reading (λ read. read ≡ byte) (byte ∷ behind) behind ways s0 a (Ok v) s1 b)
     → ((all : List Named) → v ≡ 68 → fits (Folder all) depth ≡ true
     → Lays (to_be_bytes w32 (length all) ++ (entries_bytes all ++ rest)) rest
@@ -115,7 +115,7 @@ node_lays node rest path depth ways v s0 s1 s2 a b d r fit read folder file link
         (λ tag. link target tag (target_of target depth (ap (λ n. fits n depth) (sym is) ∙ fit)))))
 
 -- the same where the first byte isn't read
-pub node_stops : (node : Node) (rest path : List ℕ) (ways : List (List ℕ)) (s0 s1 : KeptBytes) (a b : Seen)
+pub node_stops : (node : Node) (rest path : List ℕ) (ways : List (List ℕ)) (s0 s1 : Source) (a b : Seen)
     (fault : StoreFault)
     → ((byte : ℕ) (behind : List ℕ) → Reading (λ read. read ≡ byte) (byte ∷ behind) behind ways s0 a (Err fault) s1 b)
     → Lays (node_bytes node ++ rest) rest (node_laid node path) ways [] s0 a (Err fault) s1 b
@@ -149,7 +149,7 @@ node_stops node rest path ways s0 s1 a b fault read = by (cased node)
 
 -- ---- numbers that are read
 
-pub lays_few : {whole rest : List ℕ} {c : Tree → Tree} {w0 w1 : List (List ℕ)} {s0 s1 : KeptBytes} {a b : Seen}
+pub lays_few : {whole rest : List ℕ} {c : Tree → Tree} {w0 w1 : List (List ℕ)} {s0 s1 : Source} {a b : Seen}
     {r : Result (Unit {0}) StoreFault}
     → (length whole ≤ limit → Lays whole rest c w0 w1 s0 a r s1 b) → Lays whole rest c w0 w1 s0 a r s1 b
 lays_few {whole} {rest} {c} {w0} {w1} {s0} {s1} {a} {b} {r} h = record
@@ -182,7 +182,7 @@ count_is all depth head slice count fit same value read = sym
 
 -- ---- folders that aren't asked for any more
 
-pub lays_away : {whole rest : List ℕ} {c : Tree → Tree} {w0 w1 : List (List ℕ)} {s0 s1 : KeptBytes} {a b : Seen}
+pub lays_away : {whole rest : List ℕ} {c : Tree → Tree} {w0 w1 : List (List ℕ)} {s0 s1 : Source} {a b : Seen}
     {r : Result (Unit {0}) StoreFault}
     → Lays whole rest c w0 w1 s0 a r s1 b → Lays whole rest c w0 [] s0 a r s1 b
 lays_away {whole} {rest} {c} {w0} {w1} {s0} {s1} {a} {b} {r} h = record { so = λ ahead are. by r (h.so ahead are) }
@@ -210,17 +210,17 @@ lays_away {whole} {rest} {c} {w0} {w1} {s0} {s1} {a} {b} {r} h = record { so = �
 -- ---- entries, one after another
 
 -- so many entries are left; laying them ends the laying of all
-pub record EntriesLeft (path : List ℕ) (depth : ℕ) (all : List Named) (rest : List ℕ) (left : ℕ) (s0 : KeptBytes)
-    (a : Seen) (s1 : KeptBytes) (b : Seen) : Type 0 where
+pub record EntriesLeft (path : List ℕ) (depth : ℕ) (all : List Named) (rest : List ℕ) (left : ℕ) (s0 : Source)
+    (a : Seen) (s1 : Source) (b : Seen) : Type 0 where
   pub more : List Named
   pub count : length more ≡ left
   pub fit : FitsAt depth more
-  pub ends : (r : Result (Unit {0}) StoreFault) (s2 : KeptBytes) (d : Seen)
+  pub ends : (r : Result (Unit {0}) StoreFault) (s2 : Source) (d : Seen)
       → Lays (entries_bytes more ++ rest) rest (entries_laid more path) (way_into path)
       (way_into path) s1 b r s2 d
       → Lays (entries_bytes all ++ rest) rest (entries_laid all path) (way_into path) (way_into path) s0 a r s2 d
 
-pub entries_begun : (path : List ℕ) (depth : ℕ) (all : List Named) (rest : List ℕ) (left : ℕ) (s : KeptBytes)
+pub entries_begun : (path : List ℕ) (depth : ℕ) (all : List Named) (rest : List ℕ) (left : ℕ) (s : Source)
     (a : Seen) → length all ≡ left → entries_fit None all depth ≡ true
     → EntriesLeft path depth all rest left s a s a
 entries_begun path depth all rest left s a count fit = record
@@ -258,7 +258,7 @@ next_bytes more e es rest is = sym (ap (λ m. entries_bytes m ++ rest) is
 
 -- laid, it leaves one less
 pub entries_more : (path : List ℕ) (depth : ℕ) (all : List Named) (rest : List ℕ) (left : ℕ)
-    (s0 s1 s2 : KeptBytes) (a b d : Seen) → (h : EntriesLeft path depth all rest left s0 a s1 b)
+    (s0 s1 s2 : Source) (a b d : Seen) → (h : EntriesLeft path depth all rest left s0 a s1 b)
     → (n : NextEntry depth h.more)
     → Lays (entry_bytes n.entry ++ (entries_bytes n.others ++ rest)) (entries_bytes n.others ++ rest)
     (entry_laid n.entry path) (way_into path) (way_into path) s1 b (Ok tt) s2 d
@@ -274,7 +274,7 @@ entries_more path depth all rest left s0 s1 s2 a b d h n laid = record {
 
 -- refused, it ends them
 pub entries_stop : (path : List ℕ) (depth : ℕ) (all : List Named) (rest : List ℕ) (left : ℕ)
-    (s0 s1 s2 : KeptBytes) (a b d : Seen) (fault : StoreFault)
+    (s0 s1 s2 : Source) (a b d : Seen) (fault : StoreFault)
     → (h : EntriesLeft path depth all rest left s0 a s1 b) → (n : NextEntry depth h.more)
     → Lays (entry_bytes n.entry ++ (entries_bytes n.others ++ rest)) (entries_bytes n.others ++ rest)
     (entry_laid n.entry path) (way_into path) (way_into path) s1 b (Err fault) s2 d
@@ -301,7 +301,7 @@ entries_stop path depth all rest left s0 s1 s2 a b d fault h n laid = h.ends (Er
           right = one.right;
         }
 
-pub entries_done : (path : List ℕ) (depth : ℕ) (all : List Named) (rest : List ℕ) (left : ℕ) (s0 s1 : KeptBytes)
+pub entries_done : (path : List ℕ) (depth : ℕ) (all : List Named) (rest : List ℕ) (left : ℕ) (s0 s1 : Source)
     (a b : Seen) → left ≡ 0 → EntriesLeft path depth all rest left s0 a s1 b
     → Lays (entries_bytes all ++ rest) rest (entries_laid all path) (way_into path) (way_into path) s0 a
     (Ok tt) s1 b
@@ -319,7 +319,7 @@ entry_ahead e rest = sym (ap (λ l. l ++ rest) (entry_bytes_is e)
     ∙ append_assoc (name_bytes e.name) (node_bytes e.node) rest)
 
 -- the node of an entry, laid at its path
-pub entry_child : (folder path : List ℕ) (e : Named) (whole rest : List ℕ) (s1 s2 : KeptBytes) (b d : Seen)
+pub entry_child : (folder path : List ℕ) (e : Named) (whole rest : List ℕ) (s1 s2 : Source) (b d : Seen)
     (r : Result (Unit {0}) StoreFault) → path ≡ joined folder e.name → IsTrue (is_path folder)
     → is_name e.name ≡ true → LeavesAround path b d
     → Lays whole rest (node_laid e.node path) (way_to path) [] s1 b r s2 d

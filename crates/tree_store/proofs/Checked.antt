@@ -23,7 +23,7 @@ use Rattle.tree_canon.specs.declared.node.Node.TheVariants.{Link}
 use Rattle.tree_canon.specs.Division.{Spells}
 use Rattle.tree_canon.specs.Feeding.{Fed, Ends}
 use Rattle.tree_canon.specs.Scans.{Scans, ScanFeeds, ScanEnds}
-use Rattle.tree_store.specs.declared.checking.Checking.{Checking}
+use Rattle.tree_store.specs.declared.checking.TreeCheck.{TreeCheck}
 use Rattle.tree_store.specs.declared.fault.StoreFault.{StoreFault}
 use Rattle.tree_store.specs.declared.fault.StoreFault.TheVariants.{Damaged}
 use Rattle.tree_store.specs.Answers.{BlamesAt, cause_of}
@@ -39,7 +39,7 @@ use Rattle.tree_store.proofs.Kept.{Taken, contents}
 
 -- ---- one piece
 
-pub checked_on : (old new : Checking) (bytes piece : List ℕ)
+pub checked_on : (old new : TreeCheck) (bytes piece : List ℕ)
     → (Holds256 old.hasher bytes → Holds256 new.hasher (bytes ++ piece))
     → ((fed : Fed) → Scans old.scan fed → ScanFeeds fed piece (Ok tt) new.scan)
     → HasChecked old bytes → HasChecked new (bytes ++ piece)
@@ -53,7 +53,7 @@ checked_on old new bytes piece hash feeds h =
           h.is;
     }
 
-pub checked_broken : (old new : Checking) (bytes piece : List ℕ) (at : ℕ) (reason : Reason)
+pub checked_broken : (old new : TreeCheck) (bytes piece : List ℕ) (at : ℕ) (reason : Reason)
     → (Holds256 old.hasher bytes → Holds256 new.hasher (bytes ++ piece))
     → ((fed : Fed) → Scans old.scan fed → ScanFeeds fed piece (Err (faults.Bad at reason)) new.scan)
     → HasChecked old bytes → HasChecked new (bytes ++ piece)
@@ -78,14 +78,14 @@ refused : (fed : Fed) (fault : DecodeFault) → ScanEnds fed (Err fault) → End
 refused (Ok fed) fault h = h
 refused (Err other) fault h = let same : fault ≡ other = cc in ap Err same
 
-pub ends_well : (checking : Checking) (digest bytes found : List ℕ) → HasChecked checking bytes
+pub ends_well : (checking : TreeCheck) (digest bytes found : List ℕ) → HasChecked checking bytes
     → found ≡ sha256 bytes → IsTrue true ↔ (found ≡ digest)
     → ((fed : Fed) → Scans checking.scan fed → ScanEnds fed (Ok tt)) → ChecksOf digest bytes (Ok tt)
 ends_well checking digest bytes found h is same ends =
     let s = spelled h.fed bytes h.is (ends h.fed h.scanned) in
     (s.0, (sym is ∙ same.0 refl, s.1))
 
-pub ends_badly : (checking : Checking) (digest bytes found : List ℕ) (at : ℕ) (reason : Reason)
+pub ends_badly : (checking : TreeCheck) (digest bytes found : List ℕ) (at : ℕ) (reason : Reason)
     → HasChecked checking bytes → found ≡ sha256 bytes → IsTrue true ↔ (found ≡ digest)
     → ((fed : Fed) → Scans checking.scan fed → ScanEnds fed (Err (faults.Bad at reason)))
     → ChecksOf digest bytes (Err (Damaged digest found (Some reason)))
@@ -104,7 +104,7 @@ in_file : (digest bytes : List ℕ) (exec : Bool) (result : Result Unit StoreFau
 in_file digest bytes exec (Ok done) h = h
 in_file digest bytes exec (Err fault) h = h
 
-pub kept_checks : (o : Option Tree) (path digest : List ℕ) (number : ℕ) (checking : Checking)
+pub kept_checks : (o : Option Tree) (path digest : List ℕ) (number : ℕ) (checking : TreeCheck)
     (result : Result Unit StoreFault) → IfSome o (λ files. length (contents files path) ≤ number * 65536)
     → IfSome o (λ files. IsTrue (is_file (item_at files path)))
     → Taken o path number (HasChecked checking) → ((bytes : List ℕ) → HasChecked checking bytes
@@ -128,7 +128,7 @@ kept_checks o path digest number checking result few file t ends = by o few file
     by (Some files) few file told = one (item_at files path) file few told
 
 -- a tree whose spelling was taken
-pub checked_digest : (o : Option Tree) (path digest : List ℕ) (number : ℕ) (checking : Checking)
+pub checked_digest : (o : Option Tree) (path digest : List ℕ) (number : ℕ) (checking : TreeCheck)
     (result : Result Unit StoreFault) → Taken o path number (HasChecked checking)
     → ((bytes : List ℕ) → HasChecked checking bytes → ChecksOf digest bytes result) → OnOk result (HasTree digest)
 checked_digest o path digest number checking (Ok done) t ends = by (ends t.bytes t.taken)

@@ -18,7 +18,7 @@ use Rattle.tree_store.specs.Around.{LeavesAround}
 use Rattle.tree_store.specs.Laying.{file_laid, node_laid}
 use Rattle.tree_store.specs.Right.{way_to}
 use Rattle.tree_store.specs.declared.fault.StoreFault.{StoreFault}
-use Rattle.tree_store.specs.declared.kept_bytes.KeptBytes.{KeptBytes}
+use Rattle.tree_store.specs.Source.{Source}
 use Rattle.tree_store.proofs.Ahead.{ahead_kept, lays_as, none_are}
 use Rattle.tree_store.proofs.Laid.{laid_file}
 use Rattle.tree_store.proofs.Pieces.{appended-set}
@@ -26,15 +26,15 @@ use Rattle.tree_store.proofs.Right.{right}
 use Rattle.tree_store.proofs.Ways.{when_ok}
 
 -- so many bytes of a file are left, and the others were laid
-pub record ContentsLeft (exec : Bool) (path bytes rest : List ℕ) (left : ℕ) (s0 : KeptBytes) (a : Seen)
-    (s1 : KeptBytes) (b : Seen) : Type 0 where
+pub record ContentsLeft (exec : Bool) (path bytes rest : List ℕ) (left : ℕ) (s0 : Source) (a : Seen)
+    (s1 : Source) (b : Seen) : Type 0 where
   pub written : List ℕ
   pub more : List ℕ
   pub is : bytes ≡ written ++ more
   pub count : length more ≡ left
   pub lays : Lays (bytes ++ rest) (more ++ rest) (file_laid exec written path) (way_to path) [] s0 a (Ok tt) s1 b
 
-pub contents_begun : (exec : Bool) (path bytes rest : List ℕ) (s0 s1 : KeptBytes) (a b : Seen)
+pub contents_begun : (exec : Bool) (path bytes rest : List ℕ) (s0 s1 : Source) (a b : Seen)
     → Lays (bytes ++ rest) (bytes ++ rest) (node_laid (File exec []) path) (way_to path) [] s0 a (Ok tt) s1 b
     → ContentsLeft exec path bytes rest (length bytes) s0 a s1 b
 contents_begun exec path bytes rest s0 s1 a b h = record {
@@ -75,9 +75,9 @@ one_more exec written piece path (Some files) a b c e f g = g
 
 -- one more piece is read and added to the file
 pub piece_laid : (exec : Bool) (path whole written field more rest : List ℕ) (ways : List (List ℕ))
-    (s0 s1 s2 : KeptBytes) (a b c d : Seen) (piece value : List ℕ) (answer : Result (Unit {0}) FileFault)
+    (s0 s1 s2 : Source) (a b c d : Seen) (piece value : List ℕ) (answer : Result (Unit {0}) FileFault)
     (result : Result (Unit {0}) StoreFault)
-    → is_root path ≡ false → is_within path s2.path ≡ false
+    → is_root path ≡ false → is_within path s2.origin.path ≡ false
     → Lays whole (field ++ (more ++ rest)) (file_laid exec written path) ways [] s0 a (Ok tt) s1 b
     → Reading (λ read. read ≡ field) (field ++ (more ++ rest)) (more ++ rest) [] s1 b (Ok value) s2 c
     → piece ≡ value → OnOk answer (d.files ≡ option_map (appended path piece) c.files)
@@ -129,7 +129,7 @@ split bytes rest size = ap (λ b. b ++ rest) (sym (take-append-drop size bytes))
     ∙ append_assoc (take size bytes) (drop size bytes) rest
 
 -- what the next piece is read from
-pub piece_ahead : (exec : Bool) (path bytes rest : List ℕ) (left size : ℕ) (s0 s1 : KeptBytes) (a b : Seen)
+pub piece_ahead : (exec : Bool) (path bytes rest : List ℕ) (left size : ℕ) (s0 s1 : Source) (a b : Seen)
     → (h : ContentsLeft exec path bytes rest left s0 a s1 b)
     → Lays (bytes ++ rest) (take size h.more ++ (drop size h.more ++ rest)) (file_laid exec h.written path)
     (way_to path) [] s0 a (Ok tt) s1 b
@@ -140,7 +140,7 @@ piece_ahead exec path bytes rest left size s0 s1 a b h = subst
 pub piece_size : (more : List ℕ) (left size : ℕ) → length more ≡ left → size ≤ left → length (take size more) ≡ size
 piece_size more left size is le = omega (arith, length-take size more)
 
-pub contents_more : (exec : Bool) (path bytes rest : List ℕ) (left size : ℕ) (s0 s1 s2 : KeptBytes) (a b d : Seen)
+pub contents_more : (exec : Bool) (path bytes rest : List ℕ) (left size : ℕ) (s0 s1 s2 : Source) (a b d : Seen)
     → (h : ContentsLeft exec path bytes rest left s0 a s1 b) → size ≤ left
     → Lays (bytes ++ rest) (drop size h.more ++ rest) (file_laid exec (h.written ++ take size h.more) path)
     (way_to path) [] s0 a (Ok tt) s2 d → ContentsLeft exec path bytes rest (left - size) s0 a s2 d
@@ -154,7 +154,7 @@ contents_more exec path bytes rest left size s0 s1 s2 a b d h le laid = record {
 }
 
 -- all were laid
-pub contents_done : (exec : Bool) (path bytes rest : List ℕ) (left : ℕ) (s0 s1 : KeptBytes) (a b : Seen)
+pub contents_done : (exec : Bool) (path bytes rest : List ℕ) (left : ℕ) (s0 s1 : Source) (a b : Seen)
     → left ≡ 0 → ContentsLeft exec path bytes rest left s0 a s1 b
     → Lays (bytes ++ rest) rest (node_laid (File exec bytes) path) (way_to path) [] s0 a (Ok tt) s1 b
 contents_done exec path bytes rest left s0 s1 a b none h = lays_as

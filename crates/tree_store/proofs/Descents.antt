@@ -37,7 +37,7 @@ use Rattle.tree_store.specs.Writing.{IsTreeOf, LeavesNew, Refuses, new_path, siz
 use Rattle.tree_store.specs.declared.fault.StoreFault.{StoreFault}
 use Rattle.tree_store.specs.declared.fault.StoreFault.TheVariants.{Limit}
 use Rattle.tree_store.specs.declared.writing.Writer.{Writer}
-use Rattle.tree_store.proofs.Ahead.{blames_at}
+use Rattle.tree_store.proofs.Blames.{blames_at}
 use Rattle.tree_store.proofs.Apart.{again, apart_child, item_kept, still}
 use Rattle.tree_store.proofs.Places.{longer_child, part_form}
 use Rattle.cnb_world.proofs.Listing.{names_listed}

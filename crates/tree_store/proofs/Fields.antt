@@ -2,7 +2,7 @@
 use Rattle.std.proofs.Common.{◌≡◌, ◌≤◌, ◌+◌, ◌-◌, ◌∙◌, ◌==◌, refl, sym, ap, subst, arith, ℕ, zero, suc, Bool, true}
 use Rattle.std.proofs.Common.{false, not, ◌&&◌, List, [], ◌∷◌, ◌++◌, append_assoc, length, take, drop, length-append}
 use Rattle.std.proofs.Common.{Option, Some, None}
-use Rattle.std.specs.Prelude.{IfSome, IsTrue, nat_le, nat_lt}
+use Rattle.std.specs.Prelude.{IfSome, IsTrue, is_some, nat_le, nat_lt}
 use Rattle.std.specs.List.{list_all}
 use Rattle.std.specs.Option.{option_map}
 use Rattle.std.specs.Str.{bytes_eq, is_utf8}
@@ -14,12 +14,13 @@ use Rattle.sha2.specs.Sha256.{sha256}
 use Rattle.sha2.specs.declared.Sha256.{Sha256}
 use Rattle.cnb_world.specs.Calls.{MayMisuse}
 use Rattle.cnb_world.specs.Path.{is_part, is_part_byte}
-use Rattle.cnb_world.specs.Tree.{Tree, bytes_of, is_file, item_at}
+use Rattle.cnb_world.specs.Tree.{Tree, bytes_of, is_file}
 use Rattle.cnb_world.specs.declared.world.Item.{Item}
 use Rattle.tree_canon.specs.Names.{is_name, is_text, is_plain, is_dots}
 use Rattle.tree_canon.specs.Spelling.{limit}
 use Rattle.tree_store.specs.Ahead.{Ahead, IsAhead}
-use Rattle.tree_store.specs.declared.kept_bytes.KeptBytes.{KeptBytes}
+use Rattle.tree_store.specs.Origin.{OriginState, found_by, found_in, held_of}
+use Rattle.tree_store.specs.Source.{Source}
 
 -- ---- lists
 
@@ -46,7 +47,7 @@ take_within (suc n) (suc m) (x ∷ xs) le = ap (λ l. x ∷ l) (take_within n m 
 
 -- ---- a piece that is read
 
-filled : (source after : KeptBytes) (found : Option Item) (bytes : List ℕ) → IsAhead source found bytes
+filled : (source after : Source) (found : Option Item) (bytes : List ℕ) → IsAhead source found bytes
     → after.digest ≡ source.digest → after.hasher ≡ source.hasher → after.at ≡ source.at → after.used ≡ 0
     → after.piece ≡ take 65536 (drop source.at (bytes_of found)) → IsAhead after found bytes
 filled source after found bytes h digest hasher at used piece = record {
@@ -66,30 +67,45 @@ filled source after found bytes h digest hasher at used piece = record {
     whole = first ∙ sym (take_own 65536 bytes) ∙ ap (λ l. take (length l) bytes) (sym first)
         ∙ ap (λ n. take n bytes) (let e : length after.piece ≡ length after.piece - 0 = omega arith in e)
 
-pub ahead_filled : (source after : KeptBytes) (o o1 : Option Tree) (bytes : List ℕ) → o1 ≡ o
-    → IfSome o (λ files. after.piece ≡ take 65536 (drop source.at (bytes_of (item_at files source.path))))
-    → after.path ≡ source.path → after.digest ≡ source.digest → after.hasher ≡ source.hasher
+-- what is read is the same
+pub found_same : (s s1 : OriginState) (digest : List ℕ) (files : Tree) → s1.path ≡ s.path
+    → is_some s1.shelf ≡ is_some s.shelf → held_of s1.shelf ≡ held_of s.shelf
+    → found_in s1 digest files ≡ found_in s digest files
+found_same s s1 digest files path stands held =
+    ap (λ v. found_by v s1.path (held_of s1.shelf) digest files) stands
+    ∙ ap (λ p. found_by (is_some s.shelf) p (held_of s1.shelf) digest files) path
+    ∙ ap (λ h. found_by (is_some s.shelf) s.path h digest files) held
+
+pub ahead_filled : (source after : Source) (o o1 : Option Tree) (bytes piece : List ℕ) → o1 ≡ o
+    → IfSome o (λ files. IsTrue (is_file (found_in source.origin source.digest files))
+    → piece ≡ take 65536 (drop source.at (bytes_of (found_in source.origin source.digest files)))) → after.piece ≡ piece
+    → after.origin.path ≡ source.origin.path → is_some after.origin.shelf ≡ is_some source.origin.shelf
+    → held_of after.origin.shelf ≡ held_of source.origin.shelf → after.digest ≡ source.digest
+    → after.hasher ≡ source.hasher
     → after.at ≡ source.at → after.used ≡ 0 → Ahead source o bytes → Ahead after o1 bytes
 unfolding Ahead
-ahead_filled source after None o1 bytes same read path digest hasher at used h = absurd h
-ahead_filled source after (Some files) o1 bytes same read path digest hasher at used h = subst
+ahead_filled source after None o1 bytes piece same read is path stands held digest hasher at used h = absurd h
+ahead_filled source after (Some files) o1 bytes piece same read is path stands held digest hasher at used h = subst
     (λ x. Ahead after x bytes) (sym same)
-    (subst (λ p. IsAhead after (item_at files p) bytes) (sym path)
-    (filled source after (item_at files source.path) bytes h digest hasher at used read))
+    (subst (λ found. IsAhead after found bytes) (sym (ap (λ d. found_in after.origin d files) digest
+    ∙ found_same source.origin after.origin source.digest files path stands held))
+    (filled source after (found_in source.origin source.digest files) bytes h digest hasher at used (is ∙ read h.file)))
 
 -- a piece has all the bytes that are wanted, where so many lie ahead
-pub piece_long : (source : KeptBytes) (o : Option Tree) (piece bytes : List ℕ) (len : ℕ) → len ≤ 65536
-    → len ≤ length bytes → IfSome o (λ files. piece ≡ take 65536
-    (drop source.at (bytes_of (item_at files source.path)))) → Ahead source o bytes → len ≤ length piece
+pub piece_long : (source : Source) (o : Option Tree) (piece bytes : List ℕ) (len : ℕ) → len ≤ 65536
+    → len ≤ length bytes → IfSome o (λ files. IsTrue (is_file (found_in source.origin source.digest files))
+    → piece ≡ take 65536
+    (drop source.at (bytes_of (found_in source.origin source.digest files)))) → Ahead source o bytes
+    → len ≤ length piece
 unfolding Ahead
 piece_long source None piece bytes len few long read h = absurd h
 piece_long source (Some files) piece bytes len few long read h =
-    let is : piece ≡ take 65536 bytes = read ∙ ap (take 65536) (sym h.is) in
+    let is : piece ≡ take 65536 bytes = read h.file ∙ ap (take 65536) (sym h.is) in
     omega (arith, ap length is, length-take 65536 bytes)
 
 -- ---- a field that is cut off
 
-taken : (source : KeptBytes) (found : Option Item) (field rest : List ℕ)
+taken : (source : Source) (found : Option Item) (field rest : List ℕ)
     → source.used + length field ≤ length source.piece → IsAhead source found (field ++ rest)
     → take (length field) (drop source.used source.piece) ≡ field
 taken source found field rest held h =
@@ -97,15 +113,15 @@ taken source found field rest held h =
     ∙ take_within (length field) (length source.piece - source.used) (field ++ rest) (omega arith)
     ∙ take_first field rest
 
-pub ahead_taken : (source : KeptBytes) (o : Option Tree) (field rest : List ℕ) (len : ℕ) → length field ≡ len
+pub ahead_taken : (source : Source) (o : Option Tree) (field rest : List ℕ) (len : ℕ) → length field ≡ len
     → source.used + len ≤ length source.piece → Ahead source o (field ++ rest)
     → take len (drop source.used source.piece) ≡ field
 unfolding Ahead
 ahead_taken source None field rest len is held h = absurd h
 ahead_taken source (Some files) field rest len is held h = ap (λ n. take n (drop source.used source.piece))
-    (sym is) ∙ taken source (item_at files source.path) field rest (omega arith) h
+    (sym is) ∙ taken source (found_in source.origin source.digest files) field rest (omega arith) h
 
-moved : (source after : KeptBytes) (found : Option Item) (field rest : List ℕ)
+moved : (source after : Source) (found : Option Item) (field rest : List ℕ)
     → source.used + length field ≤ length source.piece → IsAhead source found (field ++ rest)
     → after.digest ≡ source.digest → ((bytes : List ℕ) → Holds256 source.hasher bytes
     → Holds256 after.hasher (bytes ++ field)) → after.piece ≡ source.piece → after.at ≡ source.at + length field
@@ -129,34 +145,29 @@ moved source after found field rest held h digest hashes piece at used = record 
   whole = ap sha256 (append_assoc h.taken field rest) ∙ h.whole ∙ sym digest;
 }
 
-pub ahead_moved : (source after : KeptBytes) (o : Option Tree) (field rest : List ℕ) (len : ℕ)
-    → length field ≡ len → source.used + len ≤ length source.piece → after.path ≡ source.path
+pub ahead_moved : (source after : Source) (o : Option Tree) (field rest : List ℕ) (len : ℕ)
+    → length field ≡ len → source.used + len ≤ length source.piece → after.origin ≡ source.origin
     → after.digest ≡ source.digest → ((bytes : List ℕ) → Holds256 source.hasher bytes
     → Holds256 after.hasher (bytes ++ field)) → after.piece ≡ source.piece → after.at ≡ source.at + len
     → after.used ≡ source.used + len → Ahead source o (field ++ rest) → Ahead after o rest
 unfolding Ahead
-ahead_moved source after None field rest len is held path digest hashes piece at used h = absurd h
-ahead_moved source after (Some files) field rest len is held path digest hashes piece at used h =
-    subst (λ p. IsAhead after (item_at files p) rest) (sym path)
-    (moved source after (item_at files source.path) field rest (omega arith) h digest hashes piece
+ahead_moved source after None field rest len is held same digest hashes piece at used h = absurd h
+ahead_moved source after (Some files) field rest len is held same digest hashes piece at used h =
+    subst (λ found. IsAhead after found rest)
+    (sym (ap (λ d. found_in after.origin d files) digest ∙ ap (λ s. found_in s source.digest files) same))
+    (moved source after (found_in source.origin source.digest files) field rest (omega arith) h digest hashes piece
     (at ∙ ap (λ n. source.at + n) (sym is)) (used ∙ ap (λ n. source.used + n) (sym is)))
 
 -- no file is longer than the most that a spelling has
-pub ahead_few : (source : KeptBytes) (o : Option Tree) (bytes : List ℕ) → Ahead source o bytes
+pub ahead_few : (source : Source) (o : Option Tree) (bytes : List ℕ) → Ahead source o bytes
     → source.at + length bytes ≤ limit
 unfolding Ahead
 ahead_few source None bytes h = absurd h
 ahead_few source (Some files) bytes h = h.few
 
--- a file stands at the path
-pub ahead_file : (source : KeptBytes) (o : Option Tree) (bytes : List ℕ) → Ahead source o bytes
-    → IfSome o (λ files. IsTrue (is_file (item_at files source.path)))
-unfolding Ahead
-ahead_file source None bytes h = absurd h
-ahead_file source (Some files) bytes h = h.file
-
-pub read_right : (source : KeptBytes) (o : Option Tree) (bytes : List ℕ) (a b : ℕ) → Ahead source o bytes
-    → MayMisuse (option_map (λ t. is_file (item_at t source.path)) o) a b → b ≡ a
+-- a call on the file is right, if one is made
+pub read_right : (source : Source) (o : Option Tree) (bytes : List ℕ) (a b : ℕ) → Ahead source o bytes
+    → MayMisuse (option_map (λ t. is_file (found_in source.origin source.digest t)) o) a b → b ≡ a
 unfolding Ahead
 read_right source None bytes a b h m = absurd h
 read_right source (Some files) bytes a b h m = subst (λ v. MayMisuse (Some v) a b) h.file m

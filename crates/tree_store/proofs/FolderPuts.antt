@@ -15,8 +15,7 @@ use Rattle.steps.proofs.EndLaws.{files_link, files_rest}
 use Rattle.steps.proofs.ReadingLaws.{where_map}
 use Rattle.tree_canon.specs.Spelling.{spelling_of}
 use Rattle.tree_canon.specs.declared.node.Node.{Node}
-use Rattle.tree_store.specs.Ahead.{BlamesEither}
-use Rattle.tree_store.specs.Answers.{BlamesWithin, cause_of, is_free}
+use Rattle.tree_store.specs.Answers.{BlamesEither, BlamesWithin, cause_of, is_free}
 use Rattle.tree_store.specs.Around.{KeptAround}
 use Rattle.tree_store.specs.Reading.{tree_in}
 use Rattle.tree_store.specs.Steps.{BlamesFolder, LeavesFolder, PutsRead, can_name, can_put_folder, folder_put}

@@ -30,7 +30,7 @@ use Rattle.tree_store.specs.Laying.{entry_laid, file_laid, file_set}
 use Rattle.tree_store.specs.Overlay.{Given, folder_at, items_of, items_of_entry}
 use Rattle.tree_store.specs.Partly.{IsOldOrPart, IsPartOf, LaidPartly}
 use Rattle.tree_store.specs.Right.{AreFolders, way_into, way_to}
-use Rattle.tree_store.specs.declared.kept_bytes.KeptBytes.{KeptBytes}
+use Rattle.tree_store.specs.Source.{Source}
 use Rattle.tree_store.proofs.Apart.{above_begins}
 use Rattle.tree_store.proofs.Cases.{AFile, AFolder, ALink, Cased, NextEntry, cased, next_bytes, target_of}
 use Rattle.tree_store.proofs.Contents.{ContentsLeft, one_more}
@@ -99,7 +99,7 @@ same_map (Some files) o1 e = e
 
 -- a value was read before
 pub part_behind : {A : Type 0} (P : A → Type 0) {whole mid folder : List ℕ} {given : List Given}
-    {ways : List (List ℕ)} {s0 s1 : KeptBytes} {a b d : Seen} {v : A}
+    {ways : List (List ℕ)} {s0 s1 : Source} {a b d : Seen} {v : A}
     → Reading P whole mid ways s0 a (Ok v) s1 b → (P v → LaysPartly folder given mid ways s1 b d)
     → LaysPartly folder given whole ways s0 a d
 part_behind P {whole} {mid} {folder} {given} {ways} {s0} {s1} {a} {b} {d} {v} first next = record
@@ -111,7 +111,7 @@ part_behind P {whole} {mid} {folder} {given} {ways} {s0} {s1} {a} {b} {d} {v} fi
 
 -- something was laid before
 pub part_after : {whole mid path folder : List ℕ} {few all : List Given} {c : Tree → Tree} {w0 w1 : List (List ℕ)}
-    {s0 s1 : KeptBytes} {a b d : Seen}
+    {s0 s1 : Source} {a b d : Seen}
     → Lays whole mid c w0 w1 s0 a (Ok tt) s1 b → LaysPartly path few mid w1 s1 b d
     → (LaidPartly path few b.files d.files → LaidPartly folder all a.files d.files)
     → LaysPartly folder all whole w0 s0 a d
@@ -121,13 +121,13 @@ part_after {whole} {mid} {path} {folder} {few} {all} {c} {w0} {w1} {s0} {s1} {a}
     by : Did {A = Unit {0}} (λ done. Unit {0}) mid c w1 a (Ok tt) s1 b → LaidPartly folder all a.files d.files
     by one = turn (next.so one.ahead one.folders)
 
-pub part_bytes : {whole other folder : List ℕ} {given : List Given} {ways : List (List ℕ)} {s : KeptBytes}
+pub part_bytes : {whole other folder : List ℕ} {given : List Given} {ways : List (List ℕ)} {s : Source}
     {a d : Seen} → whole ≡ other → LaysPartly folder given whole ways s a d
     → LaysPartly folder given other ways s a d
 part_bytes {whole} {other} {folder} {given} {ways} {s} {a} {d} same h = record
     { so = λ ahead are. h.so (subst (Ahead s a.files) (sym same) ahead) are }
 
-pub part_few : {whole folder : List ℕ} {given : List Given} {ways : List (List ℕ)} {s : KeptBytes} {a d : Seen}
+pub part_few : {whole folder : List ℕ} {given : List Given} {ways : List (List ℕ)} {s : Source} {a d : Seen}
     → (length whole ≤ limit → LaysPartly folder given whole ways s a d) → LaysPartly folder given whole ways s a d
 part_few {whole} {folder} {given} {ways} {s} {a} {d} h = record { so = λ ahead are. (h (few ahead)).so ahead are }
   where
@@ -135,14 +135,14 @@ part_few {whole} {folder} {given} {ways} {s} {a} {d} h = record { so = λ ahead 
     few ahead = let sum : s.at + length whole ≤ limit = ahead_few s a.files whole ahead in omega (arith, sum)
 
 -- with other folders before
-pub part_from : {whole folder : List ℕ} {given : List Given} {w w0 : List (List ℕ)} {s : KeptBytes} {a d : Seen}
+pub part_from : {whole folder : List ℕ} {given : List Given} {w w0 : List (List ℕ)} {s : Source} {a d : Seen}
     → (AreFolders w a.files → AreFolders w0 a.files) → LaysPartly folder given whole w0 s a d
     → LaysPartly folder given whole w s a d
 part_from before h = record { so = λ ahead are. h.so ahead (before are) }
 
 -- ---- a node by its first byte
 
-pub node_parts : (node : Node) (rest path : List ℕ) (depth : ℕ) (ways : List (List ℕ)) (v : ℕ) (s0 s1 : KeptBytes)
+pub node_parts : (node : Node) (rest path : List ℕ) (depth : ℕ) (ways : List (List ℕ)) (v : ℕ) (s0 s1 : Source)
     (a b d : Seen) → fits node depth ≡ true
     → ((byte : ℕ) (behind : List ℕ) → Reading (λ read. read ≡ byte) (byte ∷ behind) behind ways s0 a (Ok v) s1 b)
     → ((all : List Named) → v ≡ 68 → fits (Folder all) depth ≡ true
@@ -229,7 +229,7 @@ laid_partly path exec bytes count o o1 is = partly_then path ((path, item.File e
     twice (Some files) = refl
 
 -- the pieces that were laid
-pub contents_partly : (exec : Bool) (path bytes rest : List ℕ) (left : ℕ) (s0 s1 : KeptBytes) (a b : Seen)
+pub contents_partly : (exec : Bool) (path bytes rest : List ℕ) (left : ℕ) (s0 s1 : Source) (a b : Seen)
     → ContentsLeft exec path bytes rest left s0 a s1 b → LaysPartly path ((path, item.File exec bytes) ∷ [])
     (bytes ++ rest) (way_to path) s0 a b
 contents_partly exec path bytes rest left s0 s1 a b h = record { so = λ ahead are. by (h.lays.so ahead are) }
@@ -244,7 +244,7 @@ contents_partly exec path bytes rest left s0 s1 a b h = record { so = λ ahead a
 
 -- one more piece, of which the first bytes alone may have been added
 pub contents_cut : (exec : Bool) (path bytes whole written more rest : List ℕ) (size : ℕ) (ways : List (List ℕ))
-    (s0 s1 s2 : KeptBytes) (a b c d : Seen) (piece value : List ℕ) (answer : Result (Unit {0}) FileFault)
+    (s0 s1 s2 : Source) (a b c d : Seen) (piece value : List ℕ) (answer : Result (Unit {0}) FileFault)
     → bytes ≡ written ++ more → Lays whole (take size more ++ (drop size more ++ rest))
     (file_laid exec written path) ways [] s0 a (Ok tt) s1 b
     → Reading (λ read. read ≡ take size more) (take size more ++ (drop size more ++ rest))
@@ -316,8 +316,8 @@ entry_among (x ∷ xs) e others path = λ one has. Contains-append_right (items_
     (items_in (xs ++ e ∷ others) path) one (entry_among xs e others path one has)
 
 -- some entries were laid, and so many are left
-pub record EntriesBegun (path : List ℕ) (depth : ℕ) (all : List Named) (rest : List ℕ) (left : ℕ) (s0 : KeptBytes)
-    (a : Seen) (s1 : KeptBytes) (b : Seen) : Type 0 where
+pub record EntriesBegun (path : List ℕ) (depth : ℕ) (all : List Named) (rest : List ℕ) (left : ℕ) (s0 : Source)
+    (a : Seen) (s1 : Source) (b : Seen) : Type 0 where
   pub front : List Named
   pub more : List Named
   pub is : all ≡ front ++ more
@@ -327,7 +327,7 @@ pub record EntriesBegun (path : List ℕ) (depth : ℕ) (all : List Named) (rest
       → Ahead s1 b.files (entries_bytes more ++ rest) × AreFolders (way_into path) b.files
   pub partly : LaysPartly path (items_of (Folder all) path) (entries_bytes all ++ rest) (way_into path) s0 a b
 
-pub begun_first : (path : List ℕ) (depth : ℕ) (all : List Named) (rest : List ℕ) (left : ℕ) (s : KeptBytes)
+pub begun_first : (path : List ℕ) (depth : ℕ) (all : List Named) (rest : List ℕ) (left : ℕ) (s : Source)
     (a : Seen) → length all ≡ left → entries_fit None all depth ≡ true
     → EntriesBegun path depth all rest left s a s a
 begun_first path depth all rest left s a count fit = record {
@@ -341,7 +341,7 @@ begun_first path depth all rest left s a count fit = record {
 }
 
 -- an entry of which a part stands
-pub begun_part : (path : List ℕ) (depth : ℕ) (all : List Named) (rest : List ℕ) (left : ℕ) (s0 s1 : KeptBytes)
+pub begun_part : (path : List ℕ) (depth : ℕ) (all : List Named) (rest : List ℕ) (left : ℕ) (s0 s1 : Source)
     (a b d : Seen) → (h : EntriesBegun path depth all rest left s0 a s1 b) → (n : NextEntry depth h.more)
     → LaysPartly path (folder_at path ++ items_of n.entry.node (joined path n.entry.name))
     (entry_bytes n.entry ++ (entries_bytes n.others ++ rest)) (way_into path) s1 b d
@@ -369,7 +369,7 @@ begun_part path depth all rest left s0 s1 a b d h n part = record {
             (subst (λ es. Contains {X = Given} (items_in es path) one) (sym there)
             (entry_among h.front n.entry n.others path one at)))
 
-pub begun_next : (path : List ℕ) (depth : ℕ) (all : List Named) (rest : List ℕ) (left : ℕ) (s0 s1 s2 : KeptBytes)
+pub begun_next : (path : List ℕ) (depth : ℕ) (all : List Named) (rest : List ℕ) (left : ℕ) (s0 s1 s2 : Source)
     (a b d : Seen) → (h : EntriesBegun path depth all rest left s0 a s1 b) → (n : NextEntry depth h.more)
     → Lays (entry_bytes n.entry ++ (entries_bytes n.others ++ rest)) (entries_bytes n.others ++ rest)
     (entry_laid n.entry path) (way_into path) (way_into path) s1 b (Ok tt) s2 d
@@ -394,7 +394,7 @@ begun_next path depth all rest left s0 s1 s2 a b d h n laid part = record {
     by one = (one.ahead, one.folders)
 
 -- the node of an entry, at its path
-pub entry_parts : (folder path : List ℕ) (e : Named) (whole : List ℕ) (s : KeptBytes) (b d : Seen)
+pub entry_parts : (folder path : List ℕ) (e : Named) (whole : List ℕ) (s : Source) (b d : Seen)
     → path ≡ joined folder e.name → IsTrue (is_path folder) → is_name e.name ≡ true → LeavesAround path b d
     → LaysPartly path (items_of e.node path) whole (way_to path) s b d
     → LaysPartly folder (folder_at folder ++ items_of e.node (joined folder e.name)) whole

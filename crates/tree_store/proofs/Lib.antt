@@ -6,11 +6,13 @@ pub mod Blames
 pub mod CallSteps
 pub mod Cases
 pub mod Checked
+pub mod Cleared
 pub mod Contents
 pub mod CountLaws
 pub mod Entries
 pub mod Fit
 pub mod Fitting
+pub mod HeldLaid
 pub mod Kept
 pub mod Laid
 pub mod Matching
@@ -33,4 +35,5 @@ pub mod Apart
 pub mod Written
 pub mod Descents
 pub mod Settled
+pub mod Shelves
 pub mod FolderPuts

@@ -277,7 +277,7 @@ item_retained files keep q = ap (cond (is_root q) (Some item.Folder))
     (get-retain_keys files keep q (λ x tied. ap keep
     (sym (slice_cmp-IsAntisymmetric nat_cmp-IsAntisymmetric q x tied))))
 
-kept_or_gone : (files : Tree) (keep : List ℕ → Bool) (q : List ℕ)
+pub kept_or_gone : (files : Tree) (keep : List ℕ → Bool) (q : List ℕ)
     → (item_at (retain_keys files keep) q ≡ item_at files q) ⊎ (item_at (retain_keys files keep) q ≡ None)
 kept_or_gone files keep q = by (is_root q) (keep q) (item_retained files keep q)
   where

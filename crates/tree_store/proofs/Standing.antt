@@ -34,7 +34,7 @@ front_split (c ∷ r) s = ap (λ v. cond v (c ∷ front_of (r ++ 47 ∷ s)) [])
     ∙ ap (λ f. c ∷ f) (front_split r s)
 
 -- the folder of what is below a path is that path or below it
-parent_below : (r s : List ℕ) → bytes_eq r [] ≡ false → (parent_of (r ++ 47 ∷ s) ≡ r)
+pub parent_below : (r s : List ℕ) → bytes_eq r [] ≡ false → (parent_of (r ++ 47 ∷ s) ≡ r)
     ⊎ (starts_with nat_eq (parent_of (r ++ 47 ∷ s)) (r ++ 47 ∷ []) ≡ true)
 parent_below [] s some = absurd (cc)
 parent_below (c ∷ r) s some = by (list_any (λ b. b == 47) s) (front_split (c ∷ r) s)
@@ -46,7 +46,8 @@ parent_below (c ∷ r) s some = by (list_any (λ b. b == 47) s) (front_split (c 
         (e ∙ sym (append_assoc (c ∷ r) (47 ∷ []) (front_of s))) ∙ starts_itself ((c ∷ r) ++ 47 ∷ []) (front_of s))
     by false e = inl (ap (λ f. cond (bytes_eq f []) (47 ∷ []) f) (e ∙ append-nil (c ∷ r)))
 
-below_is : (r q : List ℕ) → starts_with nat_eq q (r ++ 47 ∷ []) ≡ true → q ≡ r ++ 47 ∷ drop (length (r ++ 47 ∷ [])) q
+pub below_is : (r q : List ℕ) → starts_with nat_eq q (r ++ 47 ∷ []) ≡ true
+    → q ≡ r ++ 47 ∷ drop (length (r ++ 47 ∷ [])) q
 below_is r q h = starts_split q (r ++ 47 ∷ []) h ∙ append_assoc r (47 ∷ []) (drop (length (r ++ 47 ∷ [])) q)
 
 abbrev pub InFolders : Tree → Type 0

@@ -2,7 +2,7 @@
 use Rattle.std.proofs.Common.{◌≡◌, ◌≤◌, ◌-◌, ◌∙◌, refl, sym, ap, subst, arith, ℕ, Bool, true, false, ◌⊎◌, inl, inr}
 use Rattle.std.proofs.Common.{List, [], ◌∷◌, ◌++◌, length, length-append, take, drop, Option, Some, None, Result, Ok}
 use Rattle.std.proofs.Common.{Err}
-use Rattle.std.specs.Prelude.{IfErr, IfSome, IsTrue, OnOk}
+use Rattle.std.specs.Prelude.{IfErr, IfSome, IsTrue, OnOk, is_some}
 use Rattle.std.specs.List.{list_all}
 use Rattle.std.specs.Option.{option_map}
 use Rattle.std.proofs.Math.Seq.{drop-nil}
@@ -25,8 +25,8 @@ use Rattle.steps.proofs.StepLemmas.{ended, went}
 use Rattle.tree_canon.specs.Fits.{fits}
 use Rattle.tree_canon.specs.Spelling.{limit, magic, node_bytes}
 use Rattle.tree_canon.specs.declared.node.Node.{Node}
-use Rattle.tree_store.specs.Ahead.{Ahead, BlamesEither, Did, HasDigest, IsAhead, Lays, LaysTree, Leaves}
-use Rattle.tree_store.specs.Answers.{BlamesAt, cause_of, is_free}
+use Rattle.tree_store.specs.Ahead.{Ahead, Did, HasDigest, IsAhead, Lays, LaysTree}
+use Rattle.tree_store.specs.Answers.{BlamesAt, BlamesEither, cause_of, is_free}
 use Rattle.tree_store.specs.Around.{KeptAround, LeavesAround}
 use Rattle.tree_store.specs.Checking.{Checks}
 use Rattle.tree_store.specs.Laying.{folder_laid, laid_under, node_laid, tree_steps}
@@ -37,7 +37,9 @@ use Rattle.tree_store.specs.Steps.{IsCauseWithin, IsKeptCause, can_lay, gets_tre
 use Rattle.tree_store.specs.Store.{Gets, tree_path}
 use Rattle.tree_store.specs.declared.fault.StoreFault.{StoreFault}
 use Rattle.tree_store.specs.declared.fault.StoreFault.TheVariants.{OddFile, Limit, File, NoTree, Damaged, Clash, Memory}
-use Rattle.tree_store.specs.declared.kept_bytes.KeptBytes.{KeptBytes}
+use Rattle.tree_store.specs.Origin.{BlamesRead, Leaves, OriginState, found_by, held_of}
+use Rattle.tree_store.specs.Source.{Source}
+use Rattle.tree_store.proofs.Ahead.{shelf_as}
 use Rattle.tree_store.proofs.CallSteps.{got}
 use Rattle.tree_store.proofs.CountLaws.{counted}
 use Rattle.tree_store.proofs.Checked.{got_some}
@@ -92,22 +94,21 @@ on_ok (Ok done) P h = h
 on_ok (Err fault) P h = tt
 
 -- the folder was made, and the node is laid at its place
-pub tree_kept : (root place : List ℕ) (node : Node) (source after : KeptBytes) (old mid new : Seen)
+pub tree_kept : (root place : List ℕ) (node : Node) (source after : Source) (old mid new : Seen)
     (answer : Result (Unit {0}) FileFault) (result : Result (Unit {0}) StoreFault)
     → is_root root ≡ false → fits node 0 ≡ true → mid.files ≡ option_map (folder_made root) old.files
     → CountsMisuse (option_map (λ files. can_make_folder files root) old.files) answer old.misused mid.misused
     → IfSome old.files IsTree → IfSome mid.files IsTree
     → IsTrue (list_all is_part (parts_of place)) → LeavesAround root mid new → Ahead source mid.files (node_bytes node)
     → Lays (node_bytes node ++ []) [] (laid_under node (parts_of place) root)
-    (way_to root) [] source mid result after new → LaysTree root place node old result after new
+    (way_to root) [] source mid result after new → LaysTree root place node old result new
 tree_kept root place node source after old mid new answer result plain fit made counts tree tree1 names around
     ahead lays = by (lays.so (subst (Ahead source mid.files) (sym (append-nil (node_bytes node))) ahead)
     (way_made root old.files mid.files made tree1))
   where
     by : Did {A = Unit {0}} (λ done. Unit {0}) [] (laid_under node (parts_of place) root) [] mid result after new
-        → LaysTree root place node old result after new
+        → LaysTree root place node old result new
     by did = record {
-      ended = did.ahead;
       files = laid_where result old.files new.files root place node node refl fit
           (made_where result old.files mid.files new.files root place node made did.files) (on_ok result _ names)
           (told_placed old.files result node (parts_of place) root plain) tree;
@@ -116,12 +117,21 @@ tree_kept root place node source after old mid new answer result plain fit made 
           around.misused (λ can. did.right);
     }
 
-pub tree_stopped : (root place : List ℕ) (node : Node) (after : KeptBytes) (old new : Seen)
+-- then the reader is at the end
+pub tree_ended : (root place : List ℕ) (node : Node) (source after : Source) (old mid new : Seen)
+    (result : Result (Unit {0}) StoreFault) → mid.files ≡ option_map (folder_made root) old.files
+    → IfSome mid.files IsTree → Ahead source mid.files (node_bytes node)
+    → Lays (node_bytes node ++ []) [] (laid_under node (parts_of place) root)
+    (way_to root) [] source mid result after new → OnOk result (Ahead after new.files [])
+tree_ended root place node source after old mid new result made tree ahead lays =
+    (lays.so (subst (Ahead source mid.files) (sym (append-nil (node_bytes node))) ahead)
+    (way_made root old.files mid.files made tree)).ahead
+
+pub tree_stopped : (root place : List ℕ) (node : Node) (old new : Seen)
     (answer : Result (Unit {0}) FileFault) (fault : StoreFault) → IsTrue (is_free fault)
     → CountsMisuse (option_map (λ files. can_make_folder files root) old.files) answer old.misused new.misused
-    → LaysTree root place node old (Err fault) after new
-tree_stopped root place node after old new answer fault free counts = record {
-  ended = tt;
+    → LaysTree root place node old (Err fault) new
+tree_stopped root place node old new answer fault free counts = record {
   files = tt;
   free = free;
   allows = made_right old.files root place node answer old.misused
@@ -131,13 +141,13 @@ tree_stopped root place node after old new answer fault free counts = record {
 -- ---- the file that was judged
 
 -- a reader that was made for the file of a digest
-pub record IsBegun (source : KeptBytes) (digest : List ℕ) : Type 0 where
+pub record IsBegun (source : Source) (digest : List ℕ) : Type 0 where
   pub named : source.digest ≡ digest
   pub hashed : Holds256 source.hasher magic
   pub at : source.at ≡ 5
   pub piece : source.piece ≡ []
 
-file_ahead : (source : KeptBytes) (digest : List ℕ) (found : Option Item) (tree : Node) → IsBegun source digest
+pub file_ahead : (source : Source) (digest : List ℕ) (found : Option Item) (tree : Node) → IsBegun source digest
     → Gets digest found (Ok tree) → IsAhead source found (node_bytes tree)
 file_ahead source digest None tree begun gets = absurd gets
 file_ahead source digest (Some item.Folder) tree begun gets = absurd gets
@@ -164,14 +174,17 @@ file_fits digest (Some item.Odd) tree gets = absurd gets
 file_fits digest (Some (item.File exec bytes)) tree gets = gets.1.fit
 
 -- nothing is told, or the bytes of a tree lie ahead
-told : (source : KeptBytes) (path digest : List ℕ) (o : Option Tree) (tree : Node) → source.path ≡ path
-    → IsBegun source digest → IfSome o (λ files. Gets digest (item_at files path) (Ok tree)) → (o ≡ None)
+told : (source : Source) (path digest : List ℕ) (o : Option Tree) (tree : Node) → source.origin.path ≡ path
+    → is_some source.origin.shelf ≡ false → IsBegun source digest
+    → IfSome o (λ files. Gets digest (item_at files path) (Ok tree)) → (o ≡ None)
     ⊎ (Ahead source o (node_bytes tree) × (fits tree 0 ≡ true))
 unfolding Ahead
-told source path digest None tree is begun gets = inl refl
-told source path digest (Some files) tree is begun gets = inr (
-  subst (λ p. IsAhead source (item_at files p) (node_bytes tree)) (sym is)
-      (file_ahead source digest (item_at files path) tree begun gets),
+told source path digest None tree is none begun gets = inl refl
+told source path digest (Some files) tree is none begun gets = inr (
+  subst (λ v. IsAhead source (found_by v source.origin.path (held_of source.origin.shelf) source.digest files)
+      (node_bytes tree))
+      (sym none) (subst (λ p. IsAhead source (item_at files p) (node_bytes tree)) (sym is)
+      (file_ahead source digest (item_at files path) tree begun gets)),
   file_fits digest
       (item_at files path) tree gets,
 )
@@ -208,27 +221,39 @@ untold_cause root file o (NoTree digest) none blames = none
 untold_cause root file o (Damaged asked found bad) none blames = none
 untold_cause root file o (Clash digest) none blames = none
 
-kept_step : (store digest root place : List ℕ) (tree : Node) (source after : KeptBytes) (old new : Seen)
+-- where a file is read
+either_of : (root file : List ℕ) (source : OriginState) (fault : StoreFault) → source.path ≡ file
+    → BlamesRead root source fault → BlamesEither root file fault
+either_of root file source (File blamed) is (inl h) = inl h
+either_of root file source (File blamed) is (inr (none, h)) = inr (h ∙ is)
+either_of root file source Memory is h = tt
+either_of root file source (OddFile odd) is h = tt
+either_of root file source (Limit kind) is h = tt
+either_of root file source (NoTree digest) is h = tt
+either_of root file source (Damaged asked found bad) is h = tt
+either_of root file source (Clash digest) is h = tt
+
+kept_step : (store digest root place : List ℕ) (tree : Node) (source : Source) (after : OriginState) (old new : Seen)
     (result : Result (Unit {0}) StoreFault)
-    → source.path ≡ tree_path store digest → IsBegun source digest
+    → source.origin.path ≡ tree_path store digest → is_some source.origin.shelf ≡ false → IsBegun source digest
     → IfSome old.files (λ files. Gets digest (item_at files (tree_path store digest)) (Ok tree))
-    → Leaves root source old result after new → ((node : Node) → fits node 0 ≡ true
-    → Ahead source old.files (node_bytes node) → LaysTree root place node old result after new)
+    → Leaves root source.origin old result after new → ((node : Node) → fits node 0 ≡ true
+    → Ahead source old.files (node_bytes node) → LaysTree root place node old result new)
     → ((node : Node) → fits node 0 ≡ true → Ahead source old.files (node_bytes node)
     → LaidPartly root (items_placed root place node) old.files new.files)
     → lays_kept store digest root place tree old result new
 unfolding lays_kept
-kept_step store digest root place tree source after old new result is begun gets leaves lays parts = by result
-    leaves (told source (tree_path store digest) digest old.files tree is begun gets) (lays tree)
+kept_step store digest root place tree source after old new result is none begun gets leaves lays parts = by result
+    leaves (told source (tree_path store digest) digest old.files tree is none begun gets) (lays tree)
   where
-    counts : (result : Result (Unit {0}) StoreFault) → Leaves root source old result after new
+    counts : (result : Result (Unit {0}) StoreFault) → Leaves root source.origin old result after new
         → FileCounts (ended_by cause_of result) old new
     counts result leaves = counted result old new leaves.counts leaves.children
 
-    by : (result : Result (Unit {0}) StoreFault) → Leaves root source old result after new → (old.files ≡ None)
+    by : (result : Result (Unit {0}) StoreFault) → Leaves root source.origin old result after new → (old.files ≡ None)
         ⊎ (Ahead source old.files (node_bytes tree) × (fits tree 0 ≡ true))
         → (fits tree 0 ≡ true → Ahead source old.files (node_bytes tree)
-        → LaysTree root place tree old result after new)
+        → LaysTree root place tree old result new)
         → lays_kept store digest root place tree old result new
     by (Ok done) leaves (inl none) lays = (
       none_files root old.files new.files
@@ -242,7 +267,7 @@ kept_step store digest root place tree source after old new result is begun gets
         in (laid.files, leaves.around, laid.allows, counts (Ok done) leaves)
     by (Err fault) leaves (inl none) lays = (
       untold_cause root (tree_path store digest) old.files fault none
-          (subst (λ f. BlamesEither root f fault) is leaves.blames),
+          (either_of root (tree_path store digest) source.origin fault is leaves.blames),
       leaves.around,
       none_allowed old.files
           (can_lay root place tree) old.misused new.misused none leaves.untold,
@@ -254,7 +279,7 @@ kept_step store digest root place tree source after old new result is begun gets
     by (Err fault) leaves (inr (ahead, fit)) lays = let laid = lays fit ahead
         in (
           free_cause root (tree_path store digest) old.files fault laid.free
-              (subst (λ f. BlamesEither root f fault) is leaves.blames),
+              (either_of root (tree_path store digest) source.origin fault is leaves.blames),
           leaves.around,
           laid.allows,
           counts
@@ -264,41 +289,45 @@ kept_step store digest root place tree source after old new result is begun gets
 
 -- ---- the digest of what was laid
 
-ends_never : (after : KeptBytes) (o : Option Tree) (fault : StoreFault) → Ahead after o []
+ends_never : (after : Source) (o : Option Tree) (fault : StoreFault) → Ahead after o []
     → ((bytes : List ℕ) → Holds256 after.hasher bytes → HasDigest after.digest bytes (Err fault)) → ⊥
 unfolding Ahead
 ends_never after None fault ahead has = ahead
 ends_never after (Some files) fault ahead has = let other = has ahead.taken ahead.hashed
     in other.0 (ap sha256 (sym (append-nil ahead.taken)) ∙ ahead.whole)
 
-pub lays_ended : (root place : List ℕ) (node : Node) (after : KeptBytes) (old new : Seen)
+pub lays_ended : (root place : List ℕ) (node : Node) (after : Source) (old new : Seen)
     (result : Result (Unit {0}) StoreFault)
     → ((bytes : List ℕ) → Holds256 after.hasher bytes → HasDigest after.digest bytes result)
-    → LaysTree root place node old (Ok tt) after new → LaysTree root place node old result after new
-lays_ended root place node after old new (Ok done) has laid = laid
-lays_ended root place node after old new (Err fault) has laid = absurd (ends_never after new.files fault laid.ended has)
+    → Ahead after new.files [] → LaysTree root place node old (Ok tt) new → LaysTree root place node old result new
+lays_ended root place node after old new (Ok done) has ended laid = laid
+lays_ended root place node after old new (Err fault) has ended laid = absurd
+    (ends_never after new.files fault ended has)
 
-pub leaves_ended : (path : List ℕ) (source after : KeptBytes) (old new : Seen)
+pub leaves_ended : (path : List ℕ) (source after : OriginState) (old new : Seen)
     (result : Result (Unit {0}) StoreFault) → IfErr result (λ fault. cause_of fault ≡ Decided)
     → Leaves {A = Unit {0}} path source old (Ok tt) after new → Leaves path source old result after new
 leaves_ended path source after old new (Ok done) decided leaves = leaves
 leaves_ended path source after old new (Err fault) decided leaves = record {
   stays = leaves.stays;
+  shelf = shelf_as source after (Ok tt) (Err fault) tt leaves.shelf;
+  quiet = leaves.quiet;
   around = leaves.around;
   untold = leaves.untold;
   children = leaves.children;
   counts = subst (λ cause. FilesBy cause old.file_faults new.file_faults) (sym decided) leaves.counts;
-  blames = blames_none path source.path fault decided;
+  blames = blames_none path source fault decided;
 }
   where
-    blames_none : (path file : List ℕ) (fault : StoreFault) → cause_of fault ≡ Decided → BlamesEither path file fault
-    blames_none path file (File blamed) decided = absurd (cc)
-    blames_none path file Memory decided = tt
-    blames_none path file (OddFile odd) decided = tt
-    blames_none path file (Limit kind) decided = tt
-    blames_none path file (NoTree digest) decided = tt
-    blames_none path file (Damaged asked found bad) decided = tt
-    blames_none path file (Clash digest) decided = tt
+    blames_none : (path : List ℕ) (source : OriginState) (fault : StoreFault) → cause_of fault ≡ Decided
+        → BlamesRead path source fault
+    blames_none path source (File blamed) decided = absurd (cc)
+    blames_none path source Memory decided = tt
+    blames_none path source (OddFile odd) decided = tt
+    blames_none path source (Limit kind) decided = tt
+    blames_none path source (NoTree digest) decided = tt
+    blames_none path source (Damaged asked found bad) decided = tt
+    blames_none path source (Clash digest) decided = tt
 
 -- ---- the whole step
 
@@ -317,27 +346,27 @@ not_judged ghosts store digest root place fault old new answer blames left allow
     (counted {A = Node} (Err fault) (seen ghosts old) (seen ghosts new) left.counts left.children))
 
 pub judged_and_laid : {W : Type 0} (ghosts : world.Ghosts W) (store digest root place : List ℕ) (done : Unit {0})
-    (source after : KeptBytes) (old mid new : W) (result : Result (Unit {0}) StoreFault)
+    (source : Source) (after : OriginState) (old mid new : W) (result : Result (Unit {0}) StoreFault)
     → IfSome (ghosts.tree old) (λ files. Checks digest (item_at files (tree_path store digest)) (Ok done))
     → LeavesUnchanged cause_of (Ok done) (seen ghosts old) (seen ghosts mid)
     → MayMisuse (option_map (λ files. is_file_or_absent (item_at files (tree_path store digest)))
     (ghosts.tree old)) (ghosts.misused old) (ghosts.misused mid)
-    → source.path ≡ tree_path store digest → IsBegun source digest
-    → Leaves root source (seen ghosts mid) result after (seen ghosts new)
+    → source.origin.path ≡ tree_path store digest → is_some source.origin.shelf ≡ false → IsBegun source digest
+    → Leaves root source.origin (seen ghosts mid) result after (seen ghosts new)
     → ((node : Node) → fits node 0 ≡ true → Ahead source (ghosts.tree mid) (node_bytes node)
-    → LaysTree root place node (seen ghosts mid) result after (seen ghosts new))
+    → LaysTree root place node (seen ghosts mid) result (seen ghosts new))
     → ((node : Node) → fits node 0 ≡ true → Ahead source (ghosts.tree mid) (node_bytes node)
     → LaidPartly root (items_placed root place node) (ghosts.tree mid) (ghosts.tree new))
     → lays_stored store digest root place (seen ghosts old) result (seen ghosts new)
 unfolding lays_stored
-judged_and_laid ghosts store digest root place done source after old mid new result answer left allows is begun
+judged_and_laid ghosts store digest root place done source after old mid new result answer left allows is none begun
     leaves lays parts =
     let tree = got_some (ghosts.tree old) (tree_path store digest) digest answer in
     went (gets_tree store digest) (lays_kept store digest root place) (seen ghosts old) (seen ghosts mid)
     (seen ghosts new) tree.0 result
     (got ghosts store digest (Ok tree.0) old mid tree.1 tt tt left.files left.runs allows
     (counted (Ok tree.0) (seen ghosts old) (seen ghosts mid) left.counts left.children))
-    (kept_step store digest root place tree.0 source after (seen ghosts mid) (seen ghosts new) result is begun
+    (kept_step store digest root place tree.0 source after (seen ghosts mid) (seen ghosts new) result is none begun
     (subst (λ o. IfSome o (λ files. Gets digest (item_at files (tree_path store digest)) (Ok tree.0)))
     (sym left.files) tree.1) leaves lays parts)
 

@@ -21,8 +21,7 @@ use Rattle.std.proofs.lemmas.Bool.{and_from, and_parts}
 use Rattle.steps.specs.Causes.{CountsFiles, Decided, FilesBy, IsReadCause}
 use Rattle.steps.specs.Outside.{Seen, seen}
 use Rattle.steps.specs.Reading.{LeavesUnchanged}
-use Rattle.tree_store.specs.Ahead.{BlamesEither}
-use Rattle.tree_store.specs.Answers.{BlamesAt, BlamesWithin, cause_of, is_odd_file}
+use Rattle.tree_store.specs.Answers.{BlamesAt, BlamesEither, BlamesWithin, cause_of, is_odd_file}
 use Rattle.tree_store.specs.Around.{KeptAround, LeavesAround}
 use Rattle.tree_store.specs.Reading.{room}
 use Rattle.tree_canon.specs.Spelling.{limit}
@@ -33,10 +32,9 @@ use Rattle.tree_store.specs.Writing.{trees_of}
 use Rattle.tree_store.specs.declared.fault.StoreFault.{StoreFault}
 use Rattle.tree_store.specs.declared.fault.StoreFault.TheVariants.{OddFile, Limit, File, NoTree, Damaged, Clash, Memory}
 use Rattle.tree_store.specs.declared.writing.Writer.{Writer}
-use Rattle.tree_store.proofs.Ahead.{blames_file, blames_wider}
 use Rattle.tree_store.proofs.Around as around
 use Rattle.tree_store.proofs.Apart.{keeps_made_above}
-use Rattle.tree_store.proofs.Blames.{at_within, names_none, part_within}
+use Rattle.tree_store.proofs.Blames.{at_within, blames_file, blames_wider, names_none, part_within}
 use Rattle.tree_store.proofs.Kept.{may_begin}
 use Rattle.tree_store.proofs.NewPlace.{place_itself, place_on}
 use Rattle.tree_store.proofs.Pieces.{appended-set}

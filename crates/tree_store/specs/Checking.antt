@@ -7,7 +7,7 @@ use Rattle.tree_canon.specs.Scans.{Scans}
 use Rattle.tree_canon.specs.declared.node.Node.{Node}
 use Rattle.tree_canon.specs.Judging.{IsFed}
 use Rattle.tree_store.specs.Store.{Gets, GetsOf}
-use Rattle.tree_store.specs.declared.checking.Checking.{Checking}
+use Rattle.tree_store.specs.declared.checking.TreeCheck.{TreeCheck}
 use Rattle.tree_store.specs.declared.fault.StoreFault.{StoreFault}
 
 -- that getting the tree of these bytes answers one, or the same refusal
@@ -21,7 +21,7 @@ Checks digest found (Ok done) = (root : Node) × Gets digest found (Ok root)
 Checks digest found (Err fault) = Gets digest found (Err fault)
 
 -- the bytes were hashed and scanned
-pub record HasChecked (checking : Checking) (bytes : List ℕ) : Type 0 where
+pub record HasChecked (checking : TreeCheck) (bytes : List ℕ) : Type 0 where
   pub hashed : Holds256 checking.hasher bytes
   pub fed : Fed
   pub scanned : Scans checking.scan fed

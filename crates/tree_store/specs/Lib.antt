@@ -4,12 +4,16 @@ pub mod Around
 pub mod Checking
 pub mod Comparing
 pub mod Digests
+pub mod Held
 pub mod Laying
 pub mod Matching
+pub mod Origin
 pub mod Overlay
 pub mod Partly
 pub mod Reading
 pub mod Right
+pub mod ShelfState
+pub mod Source
 pub mod Steps
 pub mod Store
 pub mod Writing

@@ -22,23 +22,24 @@ use tree_canon::{DecodeFault, Digest, Reason, Scan};
 
 /// Takes the bytes of a tree's file in pieces. It makes no tree of them, and keeps nothing of a file's contents.
 #[derive(Drop)]
-struct Checking {
+pub struct TreeCheck {
     hasher: Sha256,
     scan: Scan,
 }
 
-impl Checking {
-    fn new(alloc: Global) -> Result<Checking, Memory>
+impl TreeCheck {
+    /// No bytes yet.
+    pub fn new(alloc: Global) -> Result<TreeCheck, Memory>
         ensures { IfOk result (λ checking. HasChecked checking []) }
     {
-        Ok(Checking {
+        Ok(TreeCheck {
             hasher: Sha256::new(),
             scan: Scan::new(alloc)?,
         })
     }
 
     /// Takes the next bytes.
-    fn take(&mut self, piece: &[u8]) -> Result<(), Memory>
+    pub fn take(&mut self, piece: &[u8]) -> Result<(), Memory>
         ensures { OnOk result ((bytes : Seq ℕ) → HasChecked self.old bytes → HasChecked self.new (bytes ++ piece.now)) }
     {
         self.hasher.update(piece);
@@ -50,12 +51,12 @@ impl Checking {
     }
 
     /// Whether all bytes are the spelling of a tree of this digest. Their own digest is judged first.
-    fn end(self, digest: &Digest) -> Result<(), StoreFault>
+    pub fn end(self, digest: &Digest) -> Result<(), StoreFault>
         ensures checks { (bytes : Seq ℕ) → HasChecked self bytes → ChecksOf digest.now bytes result }
         ensures blames { (path : Seq ℕ) → IfErr result (BlamesAt path) }
         ensures counts { (n : ℕ) → CountsFiles cause_of result n n }
     {
-        let Checking { hasher, scan } = self;
+        let TreeCheck { hasher, scan } = self;
         let found = Digest::from_bytes(hasher.finalize());
         if !found.same(digest) {
             return Err(damaged(digest, found, None));
@@ -97,7 +98,7 @@ fn check_kept<W: World>(
         (W.misused world.old)
         (W.misused world.new) }
 {
-    let mut checking = Checking::new(alloc)?;
+    let mut checking = TreeCheck::new(alloc)?;
     for number in 0..len / PIECE + 1 {
         let piece = read_piece(alloc, world, path, number * PIECE)?;
         checking.take(piece.as_slice())?;

@@ -13,6 +13,7 @@ use crate::kept_bytes::KeptBytes;
 use crate::laying::write_tree;
 use crate::laying_kept::{is_within, lay_kept};
 use crate::naming::{cleared, put_or_clear};
+use crate::origin::TreeFile;
 use crate::putting::put_tree;
 use crate::reading::read_tree;
 use crate::store::{get, tree_file};
@@ -144,9 +145,8 @@ fn lay_judged<W: World>(
         (seen W.World world.old) result (seen W.World world.new) }
 {
     check_file(alloc, world, store, digest)?;
-    let mut source = KeptBytes::new(alloc, path, digest);
-    lay_kept(alloc, world, &mut source, root, place)?;
-    source.end()
+    let mut source = KeptBytes::new(alloc, TreeFile { path }, digest);
+    lay_kept(alloc, world, &mut source, root, place)
 }
 
 /// Lays a stored tree at a place under a folder, by the rule of `write_tree`. The tree's file is read twice, in pieces

@@ -1,4 +1,4 @@
-// The bytes of a tree's file, which are read in their order.
+// The bytes of a tree, which are read in their order.
 ghost use Rattle.std.specs.Prelude.{◌≡◌, ◌≤◌, ◌↔◌, ◌+◌, ◌++◌, ◌∷◌, [], ℕ, List as Seq, Option, IfErr, IfOk, IsTrue};
 ghost use Rattle.std.specs.Prelude.{OnOk, Some, length, true};
 ghost use Rattle.std.specs.Int.{from_be_bytes, to_be_bytes, w16, w32, w64};
@@ -10,15 +10,17 @@ ghost use Rattle.tree_canon.specs.Rules.{first_byte};
 ghost use Rattle.tree_canon.specs.Spelling.{magic, name_bytes};
 ghost use Rattle.steps.specs.Outside.{seen};
 ghost use Rattle.steps.specs.Causes.{CountsFiles, Decided};
-ghost use Rattle.tree_store.specs.Ahead.{Ahead, BlamesEither, HasDigest, Leaves, Reading};
+ghost use Rattle.tree_store.specs.Ahead.{Ahead, HasDigest, Reading};
 ghost use Rattle.tree_store.specs.Answers.{cause_of, is_free};
+ghost use Rattle.tree_store.specs.Origin.{BlamesRead, Leaves, OriginState};
+ghost use Rattle.tree_store.specs.Source.{source_seen};
 
 use crate::fault::StoreFault;
-use crate::store::read_piece;
-use cnb_world::{Bytes, Path, Text, World, is_part};
+use crate::origin::Origin;
+use cnb_world::{Bytes, Text, World, is_part};
 use sha2::{Digest as _, Sha256};
 use std::alloc::Global;
-use std::str;
+use std::{mem, str};
 use tree_canon::{Digest, Reason};
 
 /// The most bytes of a spelling.
@@ -63,10 +65,10 @@ pub(crate) fn u64_of(field: &[u8]) -> u64
     }
 }
 
-/// Reads the bytes of a tree's file one field after another. It holds a piece of them, and hashes those that were taken.
+/// Reads the bytes of a tree one field after another. It holds a piece of them, and hashes those that were taken.
 #[derive(Drop)]
-pub(crate) struct KeptBytes {
-    path: Path,
+pub(crate) struct KeptBytes<O> {
+    origin: O,
     digest: Digest,
     hasher: Sha256,
     at: u64,
@@ -74,10 +76,10 @@ pub(crate) struct KeptBytes {
     used: usize,
 }
 
-impl KeptBytes {
-    /// The bytes of the root node, which stand behind the first five of the file.
-    pub(crate) fn new(alloc: Global, path: Path, digest: &Digest) -> KeptBytes
-        ensures path { result.path ≡ path }
+impl<O: Origin> KeptBytes<O> {
+    /// The bytes of the root node, which stand behind the first five of the tree's.
+    pub(crate) fn new(alloc: Global, origin: O, digest: &Digest) -> KeptBytes<O>
+        ensures origin { result.origin ≡ origin }
         ensures digest { result.digest ≡ digest.now }
         ensures at { result.at ≡ 5 }
         ensures piece { result.piece ≡ [] }
@@ -86,7 +88,7 @@ impl KeptBytes {
         let mut hasher = Sha256::new();
         hasher.update(b"CNBT\x01");
         KeptBytes {
-            path,
+            origin,
             digest: *digest,
             hasher,
             at: 5,
@@ -95,29 +97,38 @@ impl KeptBytes {
         }
     }
 
-    /// Sees that the bytes that were taken have the digest. Where they don't, the file was changed since it was judged.
-    pub(crate) fn end(self) -> Result<(), StoreFault>
-        ensures digest { (bytes : Seq ℕ) → Holds256 self.hasher bytes → HasDigest self.digest bytes result }
+    /// Sees that the bytes that were taken have the digest. Where they don't, they were changed since they were judged.
+    pub(crate) fn end(&mut self) -> Result<(), StoreFault>
+        ensures digest { (bytes : Seq ℕ) → Holds256 self.old.hasher bytes → HasDigest self.old.digest bytes result }
         ensures decided { IfErr result (λ fault. cause_of fault ≡ Decided) }
+        ensures stays { self.new.origin ≡ self.old.origin }
     {
-        let KeptBytes {
-            path: _,
-            digest,
-            hasher,
-            at: _,
-            piece: _,
-            used: _,
-        } = self;
+        let hasher = mem::replace(&mut self.hasher, Sha256::new());
         let found = Digest::from_bytes(hasher.finalize());
-        if found.same(&digest) {
+        if found.same(&self.digest) {
             Ok(())
         } else {
             Err(StoreFault::Damaged {
-                asked: digest,
+                asked: self.digest,
                 found,
                 bad: None,
             })
         }
+    }
+
+    /// What was read from.
+    pub(crate) fn into_origin(self) -> O
+        ensures { result ≡ self.origin }
+    {
+        let KeptBytes {
+            origin,
+            digest: _,
+            hasher: _,
+            at: _,
+            piece: _,
+            used: _,
+        } = self;
+        origin
     }
 
     /// The refusal of bytes that are no longer the ones that were judged.
@@ -142,16 +153,18 @@ impl KeptBytes {
     fn fill<W: World>(&mut self, alloc: Global, world: &mut W, len: usize) -> Result<(), StoreFault>
         requires { len ≤ 65536 }
         ensures leaves { (path : Seq ℕ)
-            → Leaves path self.old (seen W.World world.old) result self.new (seen W.World world.new) }
+            → Leaves path (O.state self.old.origin) (seen W.World world.old)
+            result (O.state self.new.origin) (seen W.World world.new) }
         ensures reads { (bytes : Seq ℕ) (folders : Seq (Seq ℕ)) → len ≤ length bytes
             → Reading (λ done. Unit {0}) bytes bytes folders
-            self.old (seen W.World world.old) result self.new (seen W.World world.new) }
+            (source_seen O.state self.old) (seen W.World world.old)
+            result (source_seen O.state self.new) (seen W.World world.new) }
         ensures held { OnOk result (self.new.used + len ≤ length self.new.piece) }
     {
         if self.holds(len) {
             return Ok(());
         }
-        self.piece = read_piece(alloc, world, &self.path, self.at)?;
+        self.piece = self.origin.piece(alloc, world, &self.digest, self.at)?;
         self.used = 0;
         if self.holds(len) {
             Ok(())
@@ -165,14 +178,15 @@ impl KeptBytes {
         requires len { len ≤ 65536 }
         requires held { self.old.used + len ≤ length self.old.piece }
         ensures value { (files : Option Tree) (field rest : Seq ℕ) → length field ≡ len
-            → Ahead self.old files (field ++ rest) → IfOk result (λ read. read ≡ field) }
+            → Ahead (source_seen O.state self.old) files (field ++ rest) → IfOk result (λ read. read ≡ field) }
         ensures ahead { (files : Option Tree) (field rest : Seq ℕ) → length field ≡ len
-            → Ahead self.old files (field ++ rest) → OnOk result (Ahead self.new files rest) }
-        ensures free { (files : Option Tree) (bytes : Seq ℕ) → Ahead self.old files bytes
+            → Ahead (source_seen O.state self.old) files (field ++ rest)
+            → OnOk result (Ahead (source_seen O.state self.new) files rest) }
+        ensures free { (files : Option Tree) (bytes : Seq ℕ) → Ahead (source_seen O.state self.old) files bytes
             → IfErr result (λ fault. IsTrue (is_free fault)) }
         ensures length { IfOk result (λ read. length read ≡ len) }
-        ensures stays { self.new.path ≡ self.old.path }
-        ensures blames { (path file : Seq ℕ) → IfErr result (BlamesEither path file) }
+        ensures stays { self.new.origin ≡ self.old.origin }
+        ensures blames { (path : Seq ℕ) (origin : OriginState) → IfErr result (BlamesRead path origin) }
         ensures counts { (n : ℕ) → CountsFiles cause_of result n n }
     {
         if self.at > MAX_LENGTH {
@@ -196,10 +210,12 @@ impl KeptBytes {
     ) -> Result<Bytes, StoreFault>
         requires { len ≤ 65536 }
         ensures leaves { (path : Seq ℕ)
-            → Leaves path self.old (seen W.World world.old) result self.new (seen W.World world.new) }
+            → Leaves path (O.state self.old.origin) (seen W.World world.old)
+            result (O.state self.new.origin) (seen W.World world.new) }
         ensures reads { (field rest : Seq ℕ) (folders : Seq (Seq ℕ)) → length field ≡ len
             → Reading (λ read. read ≡ field) (field ++ rest) rest folders
-            self.old (seen W.World world.old) result self.new (seen W.World world.new) }
+            (source_seen O.state self.old) (seen W.World world.old)
+            result (source_seen O.state self.new) (seen W.World world.new) }
         ensures length { IfOk result (λ read. length read ≡ len) }
     {
         self.fill(alloc, world, len)?;
@@ -209,10 +225,12 @@ impl KeptBytes {
     /// The next byte.
     pub(crate) fn byte<W: World>(&mut self, alloc: Global, world: &mut W) -> Result<u8, StoreFault>
         ensures leaves { (path : Seq ℕ)
-            → Leaves path self.old (seen W.World world.old) result self.new (seen W.World world.new) }
+            → Leaves path (O.state self.old.origin) (seen W.World world.old)
+            result (O.state self.new.origin) (seen W.World world.new) }
         ensures reads { (b : ℕ) (rest : Seq ℕ) (folders : Seq (Seq ℕ))
             → Reading (λ read. read ≡ b) (b ∷ rest) rest folders
-            self.old (seen W.World world.old) result self.new (seen W.World world.new) }
+            (source_seen O.state self.old) (seen W.World world.old)
+            result (source_seen O.state self.new) (seen W.World world.new) }
     {
         let field = self.field(alloc, world, 1)?;
         Ok(first_byte(field.as_slice()))
@@ -227,11 +245,13 @@ impl KeptBytes {
     ) -> Result<Text, StoreFault>
         requires { most ≤ 4096 }
         ensures leaves { (path : Seq ℕ)
-            → Leaves path self.old (seen W.World world.old) result self.new (seen W.World world.new) }
+            → Leaves path (O.state self.old.origin) (seen W.World world.old)
+            result (O.state self.new.origin) (seen W.World world.new) }
         ensures reads { (text rest : Seq ℕ) (folders : Seq (Seq ℕ)) → is_text most text ≡ true
             → Reading (λ read. read ≡ text)
             (to_be_bytes w16 (length text) ++ (text ++ rest)) rest folders
-            self.old (seen W.World world.old) result self.new (seen W.World world.new) }
+            (source_seen O.state self.old) (seen W.World world.old)
+            result (source_seen O.state self.new) (seen W.World world.new) }
     {
         let head = self.field(alloc, world, 2)?;
         let size = u16_of(head.as_slice()) as usize;
@@ -252,11 +272,13 @@ impl KeptBytes {
         world: &mut W,
     ) -> Result<Text, StoreFault>
         ensures leaves { (path : Seq ℕ)
-            → Leaves path self.old (seen W.World world.old) result self.new (seen W.World world.new) }
+            → Leaves path (O.state self.old.origin) (seen W.World world.old)
+            result (O.state self.new.origin) (seen W.World world.new) }
         ensures reads { (name rest : Seq ℕ) (folders : Seq (Seq ℕ)) → is_name name ≡ true
             → Reading (λ read. read ≡ name)
             (name_bytes name ++ rest) rest folders
-            self.old (seen W.World world.old) result self.new (seen W.World world.new) }
+            (source_seen O.state self.old) (seen W.World world.old)
+            result (source_seen O.state self.new) (seen W.World world.new) }
         ensures part { IfOk result (λ name. IsTrue (is_part name)) }
     {
         let name = self.text(alloc, world, 255)?;

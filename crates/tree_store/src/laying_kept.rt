@@ -1,5 +1,6 @@
-// Laying a tree as the bytes of its file are read.
-ghost use Rattle.std.specs.Prelude.{◌≡◌, ◌<◌, ◌≤◌, ◌+◌, ◌-◌, ◌*◌, ◌++◌, ◌∷◌, [], ℕ, Bool, List as Seq, IsTrue, length};
+// Laying a tree as its bytes are read.
+ghost use Rattle.std.specs.Prelude.{◌≡◌, ◌<◌, ◌≤◌, ◌+◌, ◌-◌, ◌*◌, ◌++◌, ◌∷◌, [], ℕ, Bool, List as Seq, IsTrue, OnOk};
+ghost use Rattle.std.specs.Prelude.{length};
 ghost use Rattle.std.specs.Prelude.{if◌then◌else◌, true, false, None};
 ghost use Rattle.std.specs.Int.{to_be_bytes, w16, w32, w64};
 ghost use Rattle.std.specs.List.{list_all};
@@ -13,15 +14,18 @@ ghost use Rattle.tree_canon.specs.Fits.{fits, entries_fit};
 ghost use Rattle.tree_canon.specs.Names.{is_name, is_target};
 ghost use Rattle.tree_canon.specs.Spelling.{node_bytes, entry_bytes, entries_bytes};
 ghost use Rattle.steps.specs.Outside.{seen};
-ghost use Rattle.tree_store.specs.Ahead.{Ahead, Lays, LaysPartly, LaysTree, Leaves};
+ghost use Rattle.tree_store.specs.Ahead.{Ahead, Lays, LaysPartly, LaysTree};
 ghost use Rattle.tree_store.specs.Laying.{entries_laid, entry_laid, laid_under, node_laid};
+ghost use Rattle.tree_store.specs.Origin.{Leaves};
 ghost use Rattle.tree_store.specs.Overlay.{folder_at, items_of, items_under, parts_of, way_parts};
 ghost use Rattle.tree_store.specs.Partly.{LaidPartly, items_placed};
 ghost use Rattle.tree_store.specs.Right.{way_into, way_to};
+ghost use Rattle.tree_store.specs.Source.{source_seen};
 
 use crate::fault::{StoreFault, or_blame};
 use crate::kept_bytes::{KeptBytes, u32_of, u64_of};
 use crate::laying::{lay_file, lay_folder, lay_link, next_part, way_to};
+use crate::origin::Origin;
 use cnb_world::{Path, World};
 use std::alloc::Global;
 use tree_canon::{Reason, is_target};
@@ -58,21 +62,23 @@ fn is_slashed(rest: &[u8]) -> bool
 }
 
 // A link in place of what stands at a path.
-fn lay_kept_link<W: World>(
+fn lay_kept_link<W: World, O: Origin>(
     alloc: Global,
     world: &mut W,
-    source: &mut KeptBytes,
+    source: &mut KeptBytes<O>,
     path: &Path,
 ) -> Result<(), StoreFault>
-    requires apart { is_within path.now source.old.path ≡ false }
-    ensures leaves { Leaves path.now source.old (seen W.World world.old) result source.new (seen W.World world.new) }
+    requires apart { is_within path.now (O.state source.old.origin).path ≡ false }
+    ensures leaves { Leaves path.now (O.state source.old.origin) (seen W.World world.old)
+        result (O.state source.new.origin) (seen W.World world.new) }
     ensures lays { (target rest : Seq ℕ) → is_target target ≡ true
         → Lays (to_be_bytes w16 (length target) ++ (target ++ rest)) rest (node_laid (Link target) path.now)
-        (way_to path.now) [] source.old (seen W.World world.old) result source.new (seen W.World world.new) }
+        (way_to path.now) [] (source_seen O.state source.old) (seen W.World world.old)
+        result (source_seen O.state source.new) (seen W.World world.new) }
     ensures partly { (target rest : Seq ℕ) → is_target target ≡ true
         → LaysPartly path.now (items_of (Link target) path.now)
         (to_be_bytes w16 (length target) ++ (target ++ rest)) (way_to path.now)
-        source.old (seen W.World world.old) (seen W.World world.new) }
+        (source_seen O.state source.old) (seen W.World world.old) (seen W.World world.new) }
 {
     let target = source.text(alloc, world, 4096)?;
     if !is_target(target.as_str().as_bytes()) {
@@ -96,22 +102,24 @@ fn next_size(left: u64) -> usize
 }
 
 // A file of the next bytes, so many, in place of what stands at a path.
-fn lay_kept_contents<W: World>(
+fn lay_kept_contents<W: World, O: Origin>(
     alloc: Global,
     world: &mut W,
-    source: &mut KeptBytes,
+    source: &mut KeptBytes<O>,
     path: &Path,
     exec: bool,
     len: u64,
 ) -> Result<(), StoreFault>
-    requires apart { is_within path.now source.old.path ≡ false }
-    ensures leaves { Leaves path.now source.old (seen W.World world.old) result source.new (seen W.World world.new) }
+    requires apart { is_within path.now (O.state source.old.origin).path ≡ false }
+    ensures leaves { Leaves path.now (O.state source.old.origin) (seen W.World world.old)
+        result (O.state source.new.origin) (seen W.World world.new) }
     ensures lays { (bytes rest : Seq ℕ) → length bytes ≡ len → Lays (bytes ++ rest) rest
         (node_laid (File exec bytes) path.now) (way_to path.now) []
-        source.old (seen W.World world.old) result source.new (seen W.World world.new) }
+        (source_seen O.state source.old) (seen W.World world.old)
+        result (source_seen O.state source.new) (seen W.World world.new) }
     ensures partly { (bytes rest : Seq ℕ) → length bytes ≡ len
         → LaysPartly path.now (items_of (File exec bytes) path.now) (bytes ++ rest) (way_to path.now)
-        source.old (seen W.World world.old) (seen W.World world.new) }
+        (source_seen O.state source.old) (seen W.World world.old) (seen W.World world.new) }
 {
     or_blame(alloc, path, lay_file(world, path, exec, &[]))?;
     let mut left = len;
@@ -125,22 +133,24 @@ fn lay_kept_contents<W: World>(
 }
 
 // A file in place of what stands at a path.
-fn lay_kept_file<W: World>(
+fn lay_kept_file<W: World, O: Origin>(
     alloc: Global,
     world: &mut W,
-    source: &mut KeptBytes,
+    source: &mut KeptBytes<O>,
     path: &Path,
 ) -> Result<(), StoreFault>
-    requires apart { is_within path.now source.old.path ≡ false }
-    ensures leaves { Leaves path.now source.old (seen W.World world.old) result source.new (seen W.World world.new) }
+    requires apart { is_within path.now (O.state source.old.origin).path ≡ false }
+    ensures leaves { Leaves path.now (O.state source.old.origin) (seen W.World world.old)
+        result (O.state source.new.origin) (seen W.World world.new) }
     ensures lays { (exec : Bool) (bytes rest : Seq ℕ) → Lays
         ((if exec then 1 else 0) ∷ (to_be_bytes w64 (length bytes) ++ (bytes ++ rest))) rest
         (node_laid (File exec bytes) path.now) (way_to path.now) []
-        source.old (seen W.World world.old) result source.new (seen W.World world.new) }
+        (source_seen O.state source.old) (seen W.World world.old)
+        result (source_seen O.state source.new) (seen W.World world.new) }
     ensures partly { (exec : Bool) (bytes rest : Seq ℕ)
         → LaysPartly path.now (items_of (File exec bytes) path.now)
         ((if exec then 1 else 0) ∷ (to_be_bytes w64 (length bytes) ++ (bytes ++ rest))) (way_to path.now)
-        source.old (seen W.World world.old) (seen W.World world.new) }
+        (source_seen O.state source.old) (seen W.World world.old) (seen W.World world.new) }
 {
     let bit = source.byte(alloc, world)?;
     if bit > 1 {
@@ -152,23 +162,25 @@ fn lay_kept_file<W: World>(
 }
 
 #[cycle(lay_kept)]
-fn lay_kept_node<W: World>(
+fn lay_kept_node<W: World, O: Origin>(
     alloc: Global,
     world: &mut W,
-    source: &mut KeptBytes,
+    source: &mut KeptBytes<O>,
     path: &Path,
     depth: usize,
 ) -> Result<(), StoreFault>
-    requires apart { is_within path.now source.old.path ≡ false }
+    requires apart { is_within path.now (O.state source.old.origin).path ≡ false }
     requires deep { depth ≤ 64 }
     requires short { length path.now + 256 * (64 - depth) ≤ 32768 }
-    ensures leaves { Leaves path.now source.old (seen W.World world.old) result source.new (seen W.World world.new) }
+    ensures leaves { Leaves path.now (O.state source.old.origin) (seen W.World world.old)
+        result (O.state source.new.origin) (seen W.World world.new) }
     ensures lays { (node : Node) (rest : Seq ℕ) → fits node depth ≡ true
         → Lays (node_bytes node ++ rest) rest (node_laid node path.now) (way_to path.now) []
-        source.old (seen W.World world.old) result source.new (seen W.World world.new) }
+        (source_seen O.state source.old) (seen W.World world.old)
+        result (source_seen O.state source.new) (seen W.World world.new) }
     ensures partly { (node : Node) (rest : Seq ℕ) → fits node depth ≡ true
         → LaysPartly path.now (items_of node path.now) (node_bytes node ++ rest) (way_to path.now)
-        source.old (seen W.World world.old) (seen W.World world.new) }
+        (source_seen O.state source.old) (seen W.World world.old) (seen W.World world.new) }
 {
     match source.byte(alloc, world)? {
         b'D' => lay_kept_folder(alloc, world, source, path, depth),
@@ -179,24 +191,26 @@ fn lay_kept_node<W: World>(
 }
 
 #[cycle(lay_kept)]
-fn lay_kept_folder<W: World>(
+fn lay_kept_folder<W: World, O: Origin>(
     alloc: Global,
     world: &mut W,
-    source: &mut KeptBytes,
+    source: &mut KeptBytes<O>,
     path: &Path,
     depth: usize,
 ) -> Result<(), StoreFault>
-    requires apart { is_within path.now source.old.path ≡ false }
+    requires apart { is_within path.now (O.state source.old.origin).path ≡ false }
     requires deep { depth ≤ 64 }
     requires short { length path.now + 256 * (64 - depth) ≤ 32768 }
-    ensures leaves { Leaves path.now source.old (seen W.World world.old) result source.new (seen W.World world.new) }
+    ensures leaves { Leaves path.now (O.state source.old.origin) (seen W.World world.old)
+        result (O.state source.new.origin) (seen W.World world.new) }
     ensures lays { (all : Seq Named) (rest : Seq ℕ) → fits (Folder all) depth ≡ true
         → Lays (to_be_bytes w32 (length all) ++ (entries_bytes all ++ rest)) rest (node_laid (Folder all) path.now)
-        (way_to path.now) [] source.old (seen W.World world.old) result source.new (seen W.World world.new) }
+        (way_to path.now) [] (source_seen O.state source.old) (seen W.World world.old)
+        result (source_seen O.state source.new) (seen W.World world.new) }
     ensures partly { (all : Seq Named) (rest : Seq ℕ) → fits (Folder all) depth ≡ true
         → LaysPartly path.now (items_of (Folder all) path.now)
         (to_be_bytes w32 (length all) ++ (entries_bytes all ++ rest)) (way_to path.now)
-        source.old (seen W.World world.old) (seen W.World world.new) }
+        (source_seen O.state source.old) (seen W.World world.old) (seen W.World world.new) }
 {
     let head = source.field(alloc, world, 4)?;
     let count = u32_of(head.as_slice());
@@ -205,24 +219,26 @@ fn lay_kept_folder<W: World>(
 }
 
 #[cycle(lay_kept)]
-fn lay_kept_entries<W: World>(
+fn lay_kept_entries<W: World, O: Origin>(
     alloc: Global,
     world: &mut W,
-    source: &mut KeptBytes,
+    source: &mut KeptBytes<O>,
     path: &Path,
     count: u32,
     depth: usize,
 ) -> Result<(), StoreFault>
-    requires apart { is_within path.now source.old.path ≡ false }
+    requires apart { is_within path.now (O.state source.old.origin).path ≡ false }
     requires deep { depth ≤ 65 }
     requires short { length path.now + 256 * (65 - depth) ≤ 32768 }
-    ensures leaves { Leaves path.now source.old (seen W.World world.old) result source.new (seen W.World world.new) }
+    ensures leaves { Leaves path.now (O.state source.old.origin) (seen W.World world.old)
+        result (O.state source.new.origin) (seen W.World world.new) }
     ensures lays { (all : Seq Named) (rest : Seq ℕ) → length all ≡ count → entries_fit None all depth ≡ true
         → Lays (entries_bytes all ++ rest) rest (entries_laid all path.now) (way_into path.now) (way_into path.now)
-        source.old (seen W.World world.old) result source.new (seen W.World world.new) }
+        (source_seen O.state source.old) (seen W.World world.old)
+        result (source_seen O.state source.new) (seen W.World world.new) }
     ensures partly { (all : Seq Named) (rest : Seq ℕ) → length all ≡ count → entries_fit None all depth ≡ true
         → LaysPartly path.now (items_of (Folder all) path.now) (entries_bytes all ++ rest) (way_into path.now)
-        source.old (seen W.World world.old) (seen W.World world.new) }
+        (source_seen O.state source.old) (seen W.World world.old) (seen W.World world.new) }
 {
     let mut left = count;
     while left > 0 {
@@ -233,25 +249,27 @@ fn lay_kept_entries<W: World>(
 }
 
 #[cycle(lay_kept)]
-fn lay_kept_entry<W: World>(
+fn lay_kept_entry<W: World, O: Origin>(
     alloc: Global,
     world: &mut W,
-    source: &mut KeptBytes,
+    source: &mut KeptBytes<O>,
     folder: &Path,
     depth: usize,
 ) -> Result<(), StoreFault>
-    requires apart { is_within folder.now source.old.path ≡ false }
+    requires apart { is_within folder.now (O.state source.old.origin).path ≡ false }
     requires deep { depth ≤ 65 }
     requires short { length folder.now + 256 * (65 - depth) ≤ 32768 }
-    ensures leaves { Leaves folder.now source.old (seen W.World world.old) result source.new (seen W.World world.new) }
+    ensures leaves { Leaves folder.now (O.state source.old.origin) (seen W.World world.old)
+        result (O.state source.new.origin) (seen W.World world.new) }
     ensures lays { (entry : Named) (rest : Seq ℕ) → is_name entry.name ≡ true → fits entry.node depth ≡ true
         → Lays (entry_bytes entry ++ rest) rest (entry_laid entry folder.now)
         (way_into folder.now) (way_into folder.now)
-        source.old (seen W.World world.old) result source.new (seen W.World world.new) }
+        (source_seen O.state source.old) (seen W.World world.old)
+        result (source_seen O.state source.new) (seen W.World world.new) }
     ensures partly { (entry : Named) (rest : Seq ℕ) → is_name entry.name ≡ true → fits entry.node depth ≡ true
         → LaysPartly folder.now (folder_at folder.now ++ items_of entry.node (joined folder.now entry.name))
         (entry_bytes entry ++ rest) (way_into folder.now)
-        source.old (seen W.World world.old) (seen W.World world.new) }
+        (source_seen O.state source.old) (seen W.World world.old) (seen W.World world.new) }
 {
     if depth > MAX_DEPTH {
         return Err(source.broken(Reason::Deep));
@@ -264,23 +282,25 @@ fn lay_kept_entry<W: World>(
 }
 
 // A node at the end of a way below a folder, with folders on it.
-fn lay_kept_under<W: World>(
+fn lay_kept_under<W: World, O: Origin>(
     alloc: Global,
     world: &mut W,
-    source: &mut KeptBytes,
+    source: &mut KeptBytes<O>,
     folder: &Path,
     way: &str,
 ) -> Result<(), StoreFault>
-    requires apart { is_within folder.now source.old.path ≡ false }
+    requires apart { is_within folder.now (O.state source.old.origin).path ≡ false }
     requires parts { IsTrue (list_all is_part (way_parts way.now)) }
     requires short { length folder.now + length way.now ≤ 16383 }
-    ensures leaves { Leaves folder.now source.old (seen W.World world.old) result source.new (seen W.World world.new) }
+    ensures leaves { Leaves folder.now (O.state source.old.origin) (seen W.World world.old)
+        result (O.state source.new.origin) (seen W.World world.new) }
     ensures lays { (node : Node) (rest : Seq ℕ) → fits node 0 ≡ true
         → Lays (node_bytes node ++ rest) rest (laid_under node (way_parts way.now) folder.now) (way_to folder.now) []
-        source.old (seen W.World world.old) result source.new (seen W.World world.new) }
+        (source_seen O.state source.old) (seen W.World world.old)
+        result (source_seen O.state source.new) (seen W.World world.new) }
     ensures partly { (node : Node) (rest : Seq ℕ) → fits node 0 ≡ true
         → LaysPartly folder.now (items_under node (way_parts way.now) folder.now) (node_bytes node ++ rest)
-        (way_to folder.now) source.old (seen W.World world.old) (seen W.World world.new) }
+        (way_to folder.now) (source_seen O.state source.old) (seen W.World world.old) (seen W.World world.new) }
 {
     // The proof takes from this call what each path keeps to.
     let _folder = folder.as_str();
@@ -298,24 +318,26 @@ fn lay_kept_under<W: World>(
 }
 
 // A node at a place under a folder.
-fn lay_kept_at<W: World>(
+fn lay_kept_at<W: World, O: Origin>(
     alloc: Global,
     world: &mut W,
-    source: &mut KeptBytes,
+    source: &mut KeptBytes<O>,
     root: &Path,
     place: &Path,
 ) -> Result<(), StoreFault>
-    requires apart { is_within root.now source.old.path ≡ false }
+    requires apart { is_within root.now (O.state source.old.origin).path ≡ false }
     requires root { length root.now ≤ 8192 }
     requires place { length place.now ≤ 8192 }
-    ensures leaves { Leaves root.now source.old (seen W.World world.old) result source.new (seen W.World world.new) }
+    ensures leaves { Leaves root.now (O.state source.old.origin) (seen W.World world.old)
+        result (O.state source.new.origin) (seen W.World world.new) }
     ensures lays { (node : Node) (rest : Seq ℕ) → fits node 0 ≡ true
         → Lays (node_bytes node ++ rest) rest (laid_under node (parts_of place.now) root.now) (way_to root.now) []
-        source.old (seen W.World world.old) result source.new (seen W.World world.new) }
+        (source_seen O.state source.old) (seen W.World world.old)
+        result (source_seen O.state source.new) (seen W.World world.new) }
     ensures names { IsTrue (list_all is_part (parts_of place.now)) }
     ensures partly { (node : Node) (rest : Seq ℕ) → fits node 0 ≡ true
         → LaysPartly root.now (items_under node (parts_of place.now) root.now) (node_bytes node ++ rest)
-        (way_to root.now) source.old (seen W.World world.old) (seen W.World world.new) }
+        (way_to root.now) (source_seen O.state source.old) (seen W.World world.old) (seen W.World world.new) }
 {
     match way_to(place) {
         Some(way) => lay_kept_under(alloc, world, source, root, way),
@@ -323,23 +345,54 @@ fn lay_kept_at<W: World>(
     }
 }
 
-/// Lays the tree whose bytes lie ahead at a place under a folder, which is made.
-pub(crate) fn lay_kept<W: World>(
+// Lays the tree whose bytes lie ahead at a place under a folder, which is made.
+fn lay_ahead<W: World, O: Origin>(
     alloc: Global,
     world: &mut W,
-    source: &mut KeptBytes,
+    source: &mut KeptBytes<O>,
     root: &Path,
     place: &Path,
 ) -> Result<(), StoreFault>
-    requires apart { is_within root.now source.old.path ≡ false }
+    requires apart { is_within root.now (O.state source.old.origin).path ≡ false }
     requires root { length root.now ≤ 8192 }
     requires place { length place.now ≤ 8192 }
-    ensures leaves { Leaves root.now source.old (seen W.World world.old) result source.new (seen W.World world.new) }
-    ensures lays { (tree : Node) → fits tree 0 ≡ true → Ahead source.old (W.tree world.old) (node_bytes tree)
-        → LaysTree root.now place.now tree (seen W.World world.old) result source.new (seen W.World world.new) }
-    ensures partly { (tree : Node) → fits tree 0 ≡ true → Ahead source.old (W.tree world.old) (node_bytes tree)
+    ensures leaves { Leaves root.now (O.state source.old.origin) (seen W.World world.old)
+        result (O.state source.new.origin) (seen W.World world.new) }
+    ensures lays { (tree : Node) → fits tree 0 ≡ true
+        → Ahead (source_seen O.state source.old) (W.tree world.old) (node_bytes tree)
+        → LaysTree root.now place.now tree (seen W.World world.old) result (seen W.World world.new) }
+    ensures ended { (tree : Node) → fits tree 0 ≡ true
+        → Ahead (source_seen O.state source.old) (W.tree world.old) (node_bytes tree)
+        → OnOk result (Ahead (source_seen O.state source.new) (W.tree world.new) []) }
+    ensures partly { (tree : Node) → fits tree 0 ≡ true
+        → Ahead (source_seen O.state source.old) (W.tree world.old) (node_bytes tree)
         → LaidPartly root.now (items_placed root.now place.now tree) (W.tree world.old) (W.tree world.new) }
 {
     or_blame(alloc, root, world.make_folder(root))?;
     lay_kept_at(alloc, world, source, root, place)
+}
+
+/// Lays the tree whose bytes lie ahead at a place under a folder, which is made, and then sees that all its bytes have
+/// the digest.
+pub(crate) fn lay_kept<W: World, O: Origin>(
+    alloc: Global,
+    world: &mut W,
+    source: &mut KeptBytes<O>,
+    root: &Path,
+    place: &Path,
+) -> Result<(), StoreFault>
+    requires apart { is_within root.now (O.state source.old.origin).path ≡ false }
+    requires root { length root.now ≤ 8192 }
+    requires place { length place.now ≤ 8192 }
+    ensures leaves { Leaves root.now (O.state source.old.origin) (seen W.World world.old)
+        result (O.state source.new.origin) (seen W.World world.new) }
+    ensures lays { (tree : Node) → fits tree 0 ≡ true
+        → Ahead (source_seen O.state source.old) (W.tree world.old) (node_bytes tree)
+        → LaysTree root.now place.now tree (seen W.World world.old) result (seen W.World world.new) }
+    ensures partly { (tree : Node) → fits tree 0 ≡ true
+        → Ahead (source_seen O.state source.old) (W.tree world.old) (node_bytes tree)
+        → LaidPartly root.now (items_placed root.now place.now tree) (W.tree world.old) (W.tree world.new) }
+{
+    lay_ahead(alloc, world, source, root, place)?;
+    source.end()
 }

@@ -5,19 +5,24 @@
 mod checking;
 mod fault;
 mod folders;
+mod held_tree;
 mod kept_bytes;
 mod laws;
 mod laying;
+mod laying_held;
 mod laying_kept;
 mod naming;
+mod origin;
 mod putting;
 mod reading;
 mod store;
 mod writing;
 
+pub use checking::TreeCheck;
 pub use fault::StoreFault;
 pub use folders::{check_tree, lay_stored, put_folder};
 pub use laws::read_trees_match;
 pub use laying::write_tree;
+pub use laying_held::{HeldFault, lay_held};
 pub use reading::read_tree;
 pub use store::{get, has, put};

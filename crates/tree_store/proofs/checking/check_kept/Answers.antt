@@ -5,7 +5,7 @@ use Rattle.tree_store.specs.Checking.{HasChecked}
 use Rattle.tree_store.proofs.Kept.{TookAll, file_read, is_file_after, last_piece, may_begin, may_go_on, no_file_yet}
 use Rattle.tree_store.proofs.Kept.{none_taken, taken_on, told_slice, within_pieces}
 use Rattle.tree_store.proofs.Checked.{checked_digest, kept_checks}
-use Rattle.tree_store.specs.declared.checking.Checking.{Checking}
+use Rattle.tree_store.specs.declared.checking.TreeCheck.{TreeCheck}
 use Rattle.tree_store.proofs.checking.check_kept.Given as given
 use Rattle.tree_store.proofs.checking.check_kept.Goals as goal
 use Rattle.tree_store.proofs.checking.check_kept.Goals.{else-loop-number-test}
@@ -51,7 +51,7 @@ took_all g c = elim c.loop-number-test.branch [
   | else-loop-number-test w ↦
       let all : c.loop-number.number ≡ c.args.len / 65536 + 1 = omega
       (arith, w.loop-number-test.false, c.loop-number.auto.number-end) in
-      subst (λ (k : Checking). TookAll (g.W.World.tree c.args.world.now) c.args.path.now (HasChecked k))
+      subst (λ (k : TreeCheck). TookAll (g.W.World.tree c.args.world.now) c.args.path.now (HasChecked k))
       (sym w.checking-is) (record {
         number = c.loop-number.number;
         taken = c.loop-number.invariant.taken;
@@ -61,7 +61,7 @@ took_all g c = elim c.loop-number-test.branch [
             (omega (arith, all)) c.loop-number.invariant.file;
       })
   | then-loop-number-test+in_ok-piece+in_ok-take+then-is_last w ↦
-      subst (λ (k : Checking). TookAll (g.W.World.tree c.args.world.now) c.args.path.now (HasChecked k))
+      subst (λ (k : TreeCheck). TookAll (g.W.World.tree c.args.world.now) c.args.path.now (HasChecked k))
       (sym w.checking-is) (record {
         number = c.loop-number.number + 1;
         taken = taken_on (g.W.World.tree c.args.world.now) (g.W.World.tree c.loop-number.world) c.args.path.now

@@ -110,22 +110,25 @@ lay_kept_entry-lay_kept_node-requires g t c κs within =
     let size : length c.in_ok-name.name ≤ 255 = part_size c.in_ok-name.name c.in_ok-name.ensures.part in (
       search rules,
       (
-        within,
+        within.0,
         (
-          apart_child c.args.folder.now c.in_ok-name.name _ c.args.source.now.path _
-              (c.in_ok-path.ensures.0 ∙ ap (joined c.args.folder.now) c.as_str.ensures) c.in_ok-name.ensures.part
-              (c.in_ok-name.ensures.leaves c.args.folder.now).stays c.requires.apart,
+          within.1,
           (
-            omega (arith, c.if-depth-gt-MAX_DEPTH.false),
-            omega (
-              arith,
-              size,
-              c.if-depth-gt-MAX_DEPTH.false,
-              c.requires.short,
-              ap length
-                  (c.in_ok-path.ensures.0 ∙ ap (joined c.args.folder.now) c.as_str.ensures),
-              joined_short
-                  c.args.folder.now c.in_ok-name.name,
+            apart_child c.args.folder.now c.in_ok-name.name _ _ _
+                (c.in_ok-path.ensures.0 ∙ ap (joined c.args.folder.now) c.as_str.ensures) c.in_ok-name.ensures.part
+                (c.in_ok-name.ensures.leaves c.args.folder.now).stays c.requires.apart,
+            (
+              omega (arith, c.if-depth-gt-MAX_DEPTH.false),
+              omega (
+                arith,
+                size,
+                c.if-depth-gt-MAX_DEPTH.false,
+                c.requires.short,
+                ap length
+                    (c.in_ok-path.ensures.0 ∙ ap (joined c.args.folder.now) c.as_str.ensures),
+                joined_short
+                    c.args.folder.now c.in_ok-name.name,
+              ),
             ),
           ),
         ),
@@ -223,11 +226,14 @@ pub lay_kept_node-lay_kept_folder-requires : goal.lay_kept_node-lay_kept_folder-
 lay_kept_node-lay_kept_folder-requires g t c κs within = (
   search rules,
   (
-    within,
+    within.0,
     (
-      ap (is_within c.args.path.now) (c.in_ok-byte.ensures.leaves c.args.path.now).stays
-          ∙ c.requires.apart,
-      (c.requires.deep, c.requires.short),
+      within.1,
+      (
+        ap (is_within c.args.path.now) (c.in_ok-byte.ensures.leaves c.args.path.now).stays
+            ∙ c.requires.apart,
+        (c.requires.deep, c.requires.short),
+      ),
     ),
   ),
 )

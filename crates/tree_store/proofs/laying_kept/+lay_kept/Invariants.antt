@@ -2,7 +2,8 @@ use Rattle.std.proofs.Common.{◌≡◌, ◌+◌, ◌-◌, ◌*◌, ℕ, List, N
 use Rattle.steps.specs.Outside.{seen}
 use Rattle.tree_canon.specs.Fits.{entries_fit}
 use Rattle.tree_canon.specs.declared.node.Named.{Named}
-use Rattle.tree_store.specs.Ahead.{Leaves}
+use Rattle.tree_store.specs.Origin.{Leaves}
+use Rattle.tree_store.specs.Source.{source_seen}
 use Rattle.tree_store.proofs.Cases.{EntriesLeft}
 use Rattle.tree_store.proofs.KeptPartly.{EntriesBegun}
 use Rattle.tree_store.proofs.laying_kept.+lay_kept.Given as goal
@@ -21,13 +22,16 @@ decreases-lay_kept_entry g l = 4 * (66 - l.depth) + 2
 
 abbrev pub invariant-lay_kept_entries-loop-left : goal.invariant-lay_kept_entries-loop-left
 invariant-lay_kept_entries-loop-left g l = record {
-  leaves : Leaves {A = Unit {0}} l.path l.fn.source (seen g.W.World l.fn.world) (Ok tt) l.source
+  leaves : Leaves {A = Unit {0}} l.path (g.O.Origin.state l.fn.source.origin) (seen g.W.World l.fn.world) (Ok tt)
+      (g.O.Origin.state l.source.origin)
       (seen g.W.World l.world);
   laid : (all : List Named) (rest : List ℕ) → length all ≡ l.count → entries_fit None all l.depth ≡ true
-      → EntriesLeft l.path l.depth all rest l.left l.fn.source (seen g.W.World l.fn.world) l.source
+      → EntriesLeft l.path l.depth all rest l.left (source_seen g.O.Origin.state l.fn.source)
+      (seen g.W.World l.fn.world) (source_seen g.O.Origin.state l.source)
       (seen g.W.World l.world);
   begun : (all : List Named) (rest : List ℕ) → length all ≡ l.count → entries_fit None all l.depth ≡ true
-      → EntriesBegun l.path l.depth all rest l.left l.fn.source (seen g.W.World l.fn.world) l.source
+      → EntriesBegun l.path l.depth all rest l.left (source_seen g.O.Origin.state l.fn.source)
+      (seen g.W.World l.fn.world) (source_seen g.O.Origin.state l.source)
       (seen g.W.World l.world);
 }
 

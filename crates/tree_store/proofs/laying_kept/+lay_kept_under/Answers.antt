@@ -15,7 +15,7 @@ use Rattle.tree_store.proofs.laying_kept.+lay_kept_under.Goals as goal
 pub returns-in_err-or_blame-clause-leaves : goal.returns-in_err-or_blame-clause-leaves
 returns-in_err-or_blame-clause-leaves g t c =
     let exit = err_from_is_err_and c.from_residual.result c.from_residual.ensures.1 in
-    rw (exit.1, exit.2) (leaves_laid g.W.World c.args.folder.now c.args.source.now c.lay_folder.result (Err _) _ _
+    rw (exit.1, exit.2) (leaves_laid g.W.World c.args.folder.now _ c.lay_folder.result (Err _) _ _
     (way_to c.args.folder.now) c.lay_folder.ensures.files c.in_err-or_blame.ensures.counts
     c.in_err-or_blame.ensures.blames c.lay_folder.ensures.children c.lay_folder.ensures.around
     c.lay_folder.ensures.right)
@@ -23,10 +23,10 @@ returns-in_err-or_blame-clause-leaves g t c =
 pub returns-in_err-or_blame-clause-lays : goal.returns-in_err-or_blame-clause-lays
 returns-in_err-or_blame-clause-lays g t c = λ node rest fit.
     let exit = err_from_is_err_and c.from_residual.result c.from_residual.ensures.1 in
-    rw (exit.1, exit.2) (lays_stop (does_called c.args.folder.now (node_bytes node ++ rest) c.args.source.now
+    rw (exit.1, exit.2) (lays_stop (does_called c.args.folder.now (node_bytes node ++ rest) _
     (folder_laid c.args.folder.now) (way_to c.args.folder.now)
     (way_into c.args.folder.now) c.lay_folder.result (Err _) _ _
-    c.requires.1.1.1.0 c.lay_folder.ensures.ok tt c.in_err-or_blame.ensures.free c.lay_folder.ensures.around
+    c.requires.1.1.1.1.0 c.lay_folder.ensures.ok tt c.in_err-or_blame.ensures.free c.lay_folder.ensures.around
     c.lay_folder.ensures.right (λ is are. inside_laid c.args.folder.now _ _ is
     c.lay_folder.ensures.around.files are)))
 
@@ -35,7 +35,7 @@ returns-in_err-path-in-Some-clause-leaves g t c =
     let exit = err_from_is_err_and c.from_residual-in_err-path-in-Some.result
     c.from_residual-in_err-path-in-Some.ensures.1 in
     rw (exit.1, exit.2) (leaves_short c.args.folder.now _ _ _ _ _
-    (leaves_laid g.W.World c.args.folder.now c.args.source.now c.lay_folder.result (Ok tt) _ _
+    (leaves_laid g.W.World c.args.folder.now _ c.lay_folder.result (Ok tt) _ _
     (way_to c.args.folder.now) c.lay_folder.ensures.files c.in_ok-or_blame.ensures.counts tt
     c.lay_folder.ensures.children c.lay_folder.ensures.around c.lay_folder.ensures.right))
 
@@ -44,7 +44,7 @@ returns-in_err-path-in-None-clause-leaves g t c =
     let exit = err_from_is_err_and c.from_residual-in_err-path-in-None.result
     c.from_residual-in_err-path-in-None.ensures.1 in
     rw (exit.1, exit.2) (leaves_short c.args.folder.now _ _ _ _ _
-    (leaves_laid g.W.World c.args.folder.now c.args.source.now c.lay_folder.result (Ok tt) _ _
+    (leaves_laid g.W.World c.args.folder.now _ c.lay_folder.result (Ok tt) _ _
     (way_to c.args.folder.now) c.lay_folder.ensures.files c.in_ok-or_blame.ensures.counts tt
     c.lay_folder.ensures.children c.lay_folder.ensures.around c.lay_folder.ensures.right))
 
@@ -53,9 +53,9 @@ returns-in_err-path-in-Some-clause-lays g t c = λ node rest fit.
     let exit = err_from_is_err_and c.from_residual-in_err-path-in-Some.result
     c.from_residual-in_err-path-in-Some.ensures.1 in
     rw (exit.1, exit.2) (lays_stop (lays_on (does_called c.args.folder.now
-    (node_bytes node ++ rest) c.args.source.now (folder_laid c.args.folder.now) (way_to c.args.folder.now)
+    (node_bytes node ++ rest) _ (folder_laid c.args.folder.now) (way_to c.args.folder.now)
     (way_into c.args.folder.now) c.lay_folder.result (Ok tt) _ _
-    c.requires.1.1.1.0 c.lay_folder.ensures.ok c.in_ok-or_blame.ensures.ok tt c.lay_folder.ensures.around
+    c.requires.1.1.1.1.0 c.lay_folder.ensures.ok c.in_ok-or_blame.ensures.ok tt c.lay_folder.ensures.around
     c.lay_folder.ensures.right (λ is are. inside_laid c.args.folder.now _ _ is
     c.lay_folder.ensures.around.files are))
     (does_memory (λ done. Unit {0}) (node_bytes node ++ rest) rest (λ files. files)
@@ -66,9 +66,9 @@ returns-in_err-path-in-None-clause-lays g t c = λ node rest fit.
     let exit = err_from_is_err_and c.from_residual-in_err-path-in-None.result
     c.from_residual-in_err-path-in-None.ensures.1 in
     rw (exit.1, exit.2) (lays_stop (lays_on (does_called c.args.folder.now
-    (node_bytes node ++ rest) c.args.source.now (folder_laid c.args.folder.now) (way_to c.args.folder.now)
+    (node_bytes node ++ rest) _ (folder_laid c.args.folder.now) (way_to c.args.folder.now)
     (way_into c.args.folder.now) c.lay_folder.result (Ok tt) _ _
-    c.requires.1.1.1.0 c.lay_folder.ensures.ok c.in_ok-or_blame.ensures.ok tt c.lay_folder.ensures.around
+    c.requires.1.1.1.1.0 c.lay_folder.ensures.ok c.in_ok-or_blame.ensures.ok tt c.lay_folder.ensures.around
     c.lay_folder.ensures.right (λ is are. inside_laid c.args.folder.now _ _ is
     c.lay_folder.ensures.around.files are))
     (does_memory (λ done. Unit {0}) (node_bytes node ++ rest) rest (λ files. files)
@@ -81,21 +81,24 @@ lay_kept_under-requires g t c κs within =
     let less : length c.in-Some.rest.now < length c.args.way.now = omega arith in (
       search (rules, less),
       (
-        within,
+        within.0,
         (
-          apart_child c.args.folder.now c.in-Some.part.now _ c.args.source.now.path _
-              c.in_ok-path-in-Some.ensures.0 (part_ahead c.args.way.now c.in-Some.part.now c.in-Some.rest.now
-              c.in-Some.ensures.parts c.requires.1.1.1.1.0) refl c.requires.1.1.1.0,
+          within.1,
           (
-            parts_behind c.args.way.now c.in-Some.part.now c.in-Some.rest.now c.in-Some.ensures.parts
-                c.requires.1.1.1.1.0,
-            omega (
-              arith,
-              cut,
-              c.requires.1.1.1.1.1,
-              ap length
-                  c.in_ok-path-in-Some.ensures.0,
-              joined_short c.args.folder.now c.in-Some.part.now,
+            apart_child c.args.folder.now c.in-Some.part.now _ _ _
+                c.in_ok-path-in-Some.ensures.0 (part_ahead c.args.way.now c.in-Some.part.now c.in-Some.rest.now
+                c.in-Some.ensures.parts c.requires.1.1.1.1.1.0) refl c.requires.1.1.1.1.0,
+            (
+              parts_behind c.args.way.now c.in-Some.part.now c.in-Some.rest.now c.in-Some.ensures.parts
+                  c.requires.1.1.1.1.1.0,
+              omega (
+                arith,
+                cut,
+                c.requires.1.1.1.1.1.1,
+                ap length
+                    c.in_ok-path-in-Some.ensures.0,
+                joined_short c.args.folder.now c.in-Some.part.now,
+              ),
             ),
           ),
         ),
@@ -104,12 +107,12 @@ lay_kept_under-requires g t c κs within =
 
 pub lay_kept_node-requires : goal.lay_kept_node-requires
 lay_kept_node-requires g t c = record {
-  apart = apart_child c.args.folder.now c.args.way.now _ c.args.source.now.path _ c.in_ok-path-in-None.ensures.0
-      (last_part c.args.way.now c.in-None.ensures.parts c.requires.1.1.1.1.0) refl c.requires.1.1.1.0;
+  apart = apart_child c.args.folder.now c.args.way.now _ _ _ c.in_ok-path-in-None.ensures.0
+      (last_part c.args.way.now c.in-None.ensures.parts c.requires.1.1.1.1.1.0) refl c.requires.1.1.1.1.0;
   deep = omega arith;
   short = omega (
     arith,
-    c.requires.1.1.1.1.1,
+    c.requires.1.1.1.1.1.1,
     ap length c.in_ok-path-in-None.ensures.0,
     joined_short
         c.args.folder.now c.args.way.now,
@@ -118,47 +121,47 @@ lay_kept_node-requires g t c = record {
 
 pub returns-in_ok-path-in-Some-clause-leaves : goal.returns-in_ok-path-in-Some-clause-leaves
 returns-in_ok-path-in-Some-clause-leaves g t c = leaves_then
-    (leaves_laid g.W.World c.args.folder.now c.args.source.now c.lay_folder.result (Ok tt) _ _
+    (leaves_laid g.W.World c.args.folder.now _ c.lay_folder.result (Ok tt) _ _
     (way_to c.args.folder.now) c.lay_folder.ensures.files c.in_ok-or_blame.ensures.counts tt
     c.lay_folder.ensures.children c.lay_folder.ensures.around c.lay_folder.ensures.right)
     (leaves_wider c.args.folder.now c.in-Some.part.now _ _ _ _ _ _ c.in_ok-path-in-Some.ensures.0
     (part_ahead c.args.way.now c.in-Some.part.now c.in-Some.rest.now c.in-Some.ensures.parts
-    c.requires.1.1.1.1.0) c.lay_kept_under.ensures.leaves)
+    c.requires.1.1.1.1.1.0) c.lay_kept_under.ensures.leaves)
 
 pub returns-in_ok-path-in-None-clause-leaves : goal.returns-in_ok-path-in-None-clause-leaves
 returns-in_ok-path-in-None-clause-leaves g t c = leaves_then
-    (leaves_laid g.W.World c.args.folder.now c.args.source.now c.lay_folder.result (Ok tt) _ _
+    (leaves_laid g.W.World c.args.folder.now _ c.lay_folder.result (Ok tt) _ _
     (way_to c.args.folder.now) c.lay_folder.ensures.files c.in_ok-or_blame.ensures.counts tt
     c.lay_folder.ensures.children c.lay_folder.ensures.around c.lay_folder.ensures.right)
     (leaves_wider c.args.folder.now c.args.way.now _ _ _ _ _ _ c.in_ok-path-in-None.ensures.0
-    (last_part c.args.way.now c.in-None.ensures.parts c.requires.1.1.1.1.0) c.lay_kept_node.ensures.leaves)
+    (last_part c.args.way.now c.in-None.ensures.parts c.requires.1.1.1.1.1.0) c.lay_kept_node.ensures.leaves)
 
 pub returns-in_ok-path-in-Some-clause-lays : goal.returns-in_ok-path-in-Some-clause-lays
 returns-in_ok-path-in-Some-clause-lays g t c = λ node rest fit.
     lays_as (λ files. same_part node c.args.way.now c.in-Some.part.now c.in-Some.rest.now c.args.folder.now _
     files c.in-Some.ensures.parts c.in_ok-path-in-Some.ensures.0)
-    (lays_on (does_called c.args.folder.now (node_bytes node ++ rest) c.args.source.now
+    (lays_on (does_called c.args.folder.now (node_bytes node ++ rest) _
     (folder_laid c.args.folder.now) (way_to c.args.folder.now)
     (way_into c.args.folder.now) c.lay_folder.result (Ok tt) _ _
-    c.requires.1.1.1.0 c.lay_folder.ensures.ok c.in_ok-or_blame.ensures.ok tt c.lay_folder.ensures.around
+    c.requires.1.1.1.1.0 c.lay_folder.ensures.ok c.in_ok-or_blame.ensures.ok tt c.lay_folder.ensures.around
     c.lay_folder.ensures.right (λ is are. inside_laid c.args.folder.now _ _ is
     c.lay_folder.ensures.around.files are))
     (lays_from (λ are. part_way c.args.folder.now c.in-Some.part.now _ _ c.in_ok-path-in-Some.ensures.0
     c.as_str-folder.ensures.is_path (part_ahead c.args.way.now c.in-Some.part.now c.in-Some.rest.now
-    c.in-Some.ensures.parts c.requires.1.1.1.1.0) are) (c.lay_kept_under.ensures.lays node rest fit)))
+    c.in-Some.ensures.parts c.requires.1.1.1.1.1.0) are) (c.lay_kept_under.ensures.lays node rest fit)))
 
 pub returns-in_ok-path-in-None-clause-lays : goal.returns-in_ok-path-in-None-clause-lays
 returns-in_ok-path-in-None-clause-lays g t c = λ node rest fit.
     lays_as (λ files. same_last node c.args.way.now c.args.folder.now _ files c.in-None.ensures.parts
     c.in_ok-path-in-None.ensures.0)
-    (lays_on (does_called c.args.folder.now (node_bytes node ++ rest) c.args.source.now
+    (lays_on (does_called c.args.folder.now (node_bytes node ++ rest) _
     (folder_laid c.args.folder.now) (way_to c.args.folder.now)
     (way_into c.args.folder.now) c.lay_folder.result (Ok tt) _ _
-    c.requires.1.1.1.0 c.lay_folder.ensures.ok c.in_ok-or_blame.ensures.ok tt c.lay_folder.ensures.around
+    c.requires.1.1.1.1.0 c.lay_folder.ensures.ok c.in_ok-or_blame.ensures.ok tt c.lay_folder.ensures.around
     c.lay_folder.ensures.right (λ is are. inside_laid c.args.folder.now _ _ is
     c.lay_folder.ensures.around.files are))
     (lays_from (λ are. part_way c.args.folder.now c.args.way.now _ _ c.in_ok-path-in-None.ensures.0
-    c.as_str-folder.ensures.is_path (last_part c.args.way.now c.in-None.ensures.parts c.requires.1.1.1.1.0)
+    c.as_str-folder.ensures.is_path (last_part c.args.way.now c.in-None.ensures.parts c.requires.1.1.1.1.1.0)
     are) (c.lay_kept_node.ensures.lays node rest fit)))
 
 pub returns-in_err-or_blame-clause-partly : goal.returns-in_err-or_blame-clause-partly
@@ -175,31 +178,31 @@ returns-in_err-path-in-None-clause-partly g t c = λ node rest fit. record
 
 pub returns-in_ok-path-in-Some-clause-partly : goal.returns-in_ok-path-in-Some-clause-partly
 returns-in_ok-path-in-Some-clause-partly g t c = λ node rest fit.
-    part_after (does_called c.args.folder.now (node_bytes node ++ rest) c.args.source.now
+    part_after (does_called c.args.folder.now (node_bytes node ++ rest) _
     (folder_laid c.args.folder.now) (way_to c.args.folder.now)
     (way_into c.args.folder.now) c.lay_folder.result (Ok tt) _ _
-    c.requires.1.1.1.0 c.lay_folder.ensures.ok c.in_ok-or_blame.ensures.ok tt c.lay_folder.ensures.around
+    c.requires.1.1.1.1.0 c.lay_folder.ensures.ok c.in_ok-or_blame.ensures.ok tt c.lay_folder.ensures.around
     c.lay_folder.ensures.right (λ is are. inside_laid c.args.folder.now _ _ is
     c.lay_folder.ensures.around.files are))
     (part_from (λ are. part_way c.args.folder.now c.in-Some.part.now _ _ c.in_ok-path-in-Some.ensures.0
     c.as_str-folder.ensures.is_path (part_ahead c.args.way.now c.in-Some.part.now c.in-Some.rest.now
-    c.in-Some.ensures.parts c.requires.1.1.1.1.0) are) (c.lay_kept_under.ensures.partly node rest fit))
+    c.in-Some.ensures.parts c.requires.1.1.1.1.1.0) are) (c.lay_kept_under.ensures.partly node rest fit))
     (λ h. way_partly node _ _ c.args.folder.now c.in-Some.part.now _ _ _ _ c.in-Some.ensures.parts
     c.in_ok-path-in-Some.ensures.0 (part_ahead c.args.way.now c.in-Some.part.now c.in-Some.rest.now
-    c.in-Some.ensures.parts c.requires.1.1.1.1.0) c.lay_folder.ensures.partly
+    c.in-Some.ensures.parts c.requires.1.1.1.1.1.0) c.lay_folder.ensures.partly
     c.lay_kept_under.ensures.leaves.around.files h)
 
 pub returns-in_ok-path-in-None-clause-partly : goal.returns-in_ok-path-in-None-clause-partly
 returns-in_ok-path-in-None-clause-partly g t c = λ node rest fit.
-    part_after (does_called c.args.folder.now (node_bytes node ++ rest) c.args.source.now
+    part_after (does_called c.args.folder.now (node_bytes node ++ rest) _
     (folder_laid c.args.folder.now) (way_to c.args.folder.now)
     (way_into c.args.folder.now) c.lay_folder.result (Ok tt) _ _
-    c.requires.1.1.1.0 c.lay_folder.ensures.ok c.in_ok-or_blame.ensures.ok tt c.lay_folder.ensures.around
+    c.requires.1.1.1.1.0 c.lay_folder.ensures.ok c.in_ok-or_blame.ensures.ok tt c.lay_folder.ensures.around
     c.lay_folder.ensures.right (λ is are. inside_laid c.args.folder.now _ _ is
     c.lay_folder.ensures.around.files are))
     (part_from (λ are. part_way c.args.folder.now c.args.way.now _ _ c.in_ok-path-in-None.ensures.0
-    c.as_str-folder.ensures.is_path (last_part c.args.way.now c.in-None.ensures.parts c.requires.1.1.1.1.0)
+    c.as_str-folder.ensures.is_path (last_part c.args.way.now c.in-None.ensures.parts c.requires.1.1.1.1.1.0)
     are) (c.lay_kept_node.ensures.partly node rest fit))
     (λ h. way_partly node _ [] c.args.folder.now c.args.way.now _ _ _ _ c.in-None.ensures.parts
-    c.in_ok-path-in-None.ensures.0 (last_part c.args.way.now c.in-None.ensures.parts c.requires.1.1.1.1.0)
+    c.in_ok-path-in-None.ensures.0 (last_part c.args.way.now c.in-None.ensures.parts c.requires.1.1.1.1.1.0)
     c.lay_folder.ensures.partly c.lay_kept_node.ensures.leaves.around.files h)

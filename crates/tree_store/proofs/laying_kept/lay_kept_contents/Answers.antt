@@ -5,6 +5,7 @@ use Rattle.steps.specs.Outside.{seen}
 use Rattle.tree_canon.specs.declared.node.Node.TheVariants.{File}
 use Rattle.tree_store.specs.Laying.{node_laid}
 use Rattle.tree_store.specs.Right.{way_to}
+use Rattle.tree_store.specs.Source.{source_seen}
 use Rattle.tree_store.proofs.Ahead.{does_called, lays_on, lays_stop, leaves_called, leaves_laid, leaves_stop}
 use Rattle.tree_store.proofs.Ahead.{leaves_then, none_are, plain_path, reads_stop, told_plain, untold_by}
 use Rattle.tree_store.proofs.Around.{appended_so}
@@ -18,7 +19,7 @@ use Rattle.tree_store.proofs.laying_kept.lay_kept_contents.Goals as goal
 pub returns-in_err-or_blame-clause-leaves : goal.returns-in_err-or_blame-clause-leaves
 returns-in_err-or_blame-clause-leaves g c =
     let exit = err_from_is_err_and c.from_residual.result c.from_residual.ensures.1 in
-    rw (exit.1, exit.2) (leaves_laid g.W.World c.args.path.now c.args.source.now c.lay_file.result (Err _) _ _
+    rw (exit.1, exit.2) (leaves_laid g.W.World c.args.path.now _ c.lay_file.result (Err _) _ _
     (way_to c.args.path.now) c.lay_file.ensures.files c.in_err-or_blame.ensures.counts
     c.in_err-or_blame.ensures.blames c.lay_file.ensures.children c.lay_file.ensures.around
     (λ are. c.lay_file.ensures.right (told_plain _ c.args.path.now
@@ -26,15 +27,17 @@ returns-in_err-or_blame-clause-leaves g c =
 
 pub loop-left-init : goal.loop-left-init
 loop-left-init g c = record {
-  leaves = leaves_laid g.W.World c.args.path.now c.args.source.now c.lay_file.result (Ok tt) _ _
+  leaves = leaves_laid g.W.World c.args.path.now _ c.lay_file.result (Ok tt) _ _
       (way_to c.args.path.now) c.lay_file.ensures.files c.in_ok-or_blame.ensures.counts tt
       c.lay_file.ensures.children c.lay_file.ensures.around
       (λ are. c.lay_file.ensures.right (told_plain _ c.args.path.now
       (plain_path c.args.path.now _ c.requires.apart)) are);
-  laid = λ bytes rest is. subst (λ n. ContentsLeft c.args.exec c.args.path.now bytes rest n c.args.source.now
-      (seen g.W.World c.args.world.now) c.args.source.now (seen g.W.World c.lay_file.new.world)) is
+  laid = λ bytes rest is. subst (λ n. ContentsLeft c.args.exec c.args.path.now bytes rest n
+      (source_seen g.O.Origin.state c.args.source.now)
+      (seen g.W.World c.args.world.now) (source_seen g.O.Origin.state c.args.source.now)
+      (seen g.W.World c.lay_file.new.world)) is
       (contents_begun c.args.exec c.args.path.now bytes rest _ _ _ _
-      (does_called c.args.path.now (bytes ++ rest) c.args.source.now
+      (does_called c.args.path.now (bytes ++ rest) (source_seen g.O.Origin.state c.args.source.now)
       (node_laid (File c.args.exec []) c.args.path.now) (way_to c.args.path.now) [] c.lay_file.result (Ok tt)
       (seen g.W.World c.args.world.now) (seen g.W.World c.lay_file.new.world) c.requires.apart
       c.lay_file.ensures.ok c.in_ok-or_blame.ensures.ok tt c.lay_file.ensures.around
@@ -66,7 +69,7 @@ returns-in_err-or_blame-2-clause-leaves g c =
     c.from_residual-in_err-or_blame-2.ensures.1 in
     rw (exit.1, exit.2) (leaves_then c.loop-left.invariant.leaves
     (leaves_then (c.in_ok-piece.ensures.leaves c.args.path.now)
-    (leaves_called g.W.World c.args.path.now c.field.new.self c.append.result
+    (leaves_called g.W.World c.args.path.now _ c.append.result
     (Err _) _ _ c.append.ensures.files c.in_err-or_blame-2.ensures.counts c.in_err-or_blame-2.ensures.blames
     c.append.ensures.children
     (appended_so g.W.World _ _ c.append.result _ _ c.append.ensures.ok c.append.ensures.err c.append.ensures.runs
@@ -80,7 +83,7 @@ returns-in_err-or_blame-2-clause-lays g c = λ bytes rest is.
     let h = c.loop-left.invariant.laid bytes rest is in
     rw (exit.1, exit.2) (lays_stop (piece_laid c.args.exec c.args.path.now (bytes ++ rest) h.written
     (take c.next_size-size.result h.more) (drop c.next_size-size.result h.more) rest
-    (way_to c.args.path.now) _ _ c.field.new.self _ _ (seen g.W.World c.field.new.world)
+    (way_to c.args.path.now) _ _ _ _ _ (seen g.W.World c.field.new.world)
     (seen g.W.World c.append.new.self) c.as_slice.result.now c.in_ok-piece.piece c.append.result (Err _)
     (plain_path c.args.path.now _ c.requires.apart)
     (ap (is_within c.args.path.now) ((c.in_ok-piece.ensures.leaves c.args.path.now).stays
@@ -96,7 +99,7 @@ returns-in_err-or_blame-2-clause-lays g c = λ bytes rest is.
 pub loop-left-preserved : goal.loop-left-preserved
 loop-left-preserved g c = record {
   leaves = leaves_then c.loop-left.invariant.leaves (leaves_then (c.in_ok-piece.ensures.leaves c.args.path.now)
-      (leaves_called g.W.World c.args.path.now c.field.new.self c.append.result
+      (leaves_called g.W.World c.args.path.now _ c.append.result
       (Ok tt) _ _ c.append.ensures.files c.in_ok-or_blame-2.ensures.counts tt c.append.ensures.children
       (appended_so g.W.World _ _ c.append.result _ _ c.append.ensures.ok c.append.ensures.err
       c.append.ensures.runs c.append.ensures.misused)
@@ -106,7 +109,7 @@ loop-left-preserved g c = record {
       contents_more c.args.exec c.args.path.now bytes rest c.loop-left.left c.next_size-size.result _ _ _ _ _ _ h
       c.next_size-size.ensures.within
       (piece_laid c.args.exec c.args.path.now (bytes ++ rest) h.written (take c.next_size-size.result h.more)
-      (drop c.next_size-size.result h.more) rest (way_to c.args.path.now) _ _ c.field.new.self _ _
+      (drop c.next_size-size.result h.more) rest (way_to c.args.path.now) _ _ _ _ _
       (seen g.W.World c.field.new.world) (seen g.W.World c.append.new.self) c.as_slice.result.now
       c.in_ok-piece.piece c.append.result (Ok tt)
       (plain_path c.args.path.now _ c.requires.apart)
@@ -145,7 +148,7 @@ returns-in_err-or_blame-2-clause-partly g c = λ bytes rest is. record {
       let h = c.loop-left.invariant.laid bytes rest is in
       file_partly (File c.args.exec bytes) c.args.path.now c.args.exec bytes _ _ refl
       ((contents_cut c.args.exec c.args.path.now bytes (bytes ++ rest) h.written h.more rest
-      c.next_size-size.result (way_to c.args.path.now) _ _ c.field.new.self _ _
+      c.next_size-size.result (way_to c.args.path.now) _ _ _ _ _
       (seen g.W.World c.field.new.world) (seen g.W.World c.append.new.self) c.as_slice.result.now
       c.in_ok-piece.piece c.append.result h.is
       (piece_ahead c.args.exec c.args.path.now bytes rest c.loop-left.left c.next_size-size.result _ _ _ _ h)

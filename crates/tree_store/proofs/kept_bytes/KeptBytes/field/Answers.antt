@@ -1,4 +1,4 @@
-use Rattle.std.proofs.Common.{arith, ◌≡◌, ◌≤◌, ◌++◌, ℕ, List, length, length-append}
+use Rattle.std.proofs.Common.{ap, arith, ◌≡◌, ◌≤◌, ◌++◌, ℕ, List, length, length-append}
 use Rattle.std.proofs.lemmas.Result.{err_from_is_err_and}
 use Rattle.tree_store.proofs.Ahead.{does_local, does_on, does_stop, leaves_local, leaves_on, leaves_stop}
 use Rattle.tree_store.proofs.kept_bytes.KeptBytes.field.Goals as goal
@@ -19,7 +19,9 @@ returns-in_err-fill-clause-reads g c = λ field rest folders is.
 
 pub returns-clause-leaves : goal.returns-clause-leaves
 returns-clause-leaves g c = λ path. leaves_on path _ _ _ _ _ _ tt _ (c.in_ok-fill.ensures.leaves path)
-    (leaves_local path _ _ _ _ c.cut.ensures.stays c.cut.ensures.counts (c.cut.ensures.blames path _))
+    (leaves_local path (g.O.Origin.state c.fill.new.self.origin) _ _ _
+    (ap g.O.Origin.state c.cut.ensures.stays) c.cut.ensures.counts
+    (c.cut.ensures.blames path (g.O.Origin.state c.fill.new.self.origin)))
 
 pub returns-clause-reads : goal.returns-clause-reads
 returns-clause-reads g c = λ field rest folders is.

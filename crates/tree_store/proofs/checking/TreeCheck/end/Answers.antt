@@ -4,7 +4,7 @@ use Rattle.tree_canon.specs.declared.fault.DecodeFault.TheVariants as faults
 use Rattle.tree_canon.specs.Scans.{ScanEnds}
 use Rattle.tree_store.specs.Checking.{ChecksOf}
 use Rattle.tree_store.proofs.Checked.{ends_well, ends_badly, ends_other}
-use Rattle.tree_store.proofs.checking.Checking.end.Goals as goal
+use Rattle.tree_store.proofs.checking.TreeCheck.end.Goals as goal
 
 pub returns-then-not-same-clause-checks : goal.returns-then-not-same-clause-checks
 returns-then-not-same-clause-checks c bytes h =

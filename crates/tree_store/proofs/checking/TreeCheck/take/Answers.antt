@@ -3,7 +3,7 @@ use Rattle.tree_canon.specs.declared.fault.DecodeFault.{DecodeFault}
 use Rattle.tree_canon.specs.declared.fault.DecodeFault.TheVariants as faults
 use Rattle.tree_canon.specs.Scans.{ScanFeeds}
 use Rattle.tree_store.proofs.Checked.{checked_on, checked_broken}
-use Rattle.tree_store.proofs.checking.Checking.take.Goals as goal
+use Rattle.tree_store.proofs.checking.TreeCheck.take.Goals as goal
 
 pub returns-in-Ok : goal.returns-in-Ok
 returns-in-Ok c bytes h = checked_on c.args.self.now _ bytes c.args.piece.now (c.update.ensures bytes) c.in-Ok.ensures h
