@@ -1,4 +1,4 @@
--- What steps over more than the world leave alone, and steps that remove, lay and put.
+-- What steps over more than the world leave alone, and steps that remove, restore and put.
 use Rattle.std.proofs.Common.{◌≡◌, ◌∙◌, refl, sym, ap, ℕ, Bool, true, false, not, cond, ◌||◌, List, [], ◌∷◌, Option}
 use Rattle.std.proofs.Common.{Some, None, Result, Ok, Err, inl, inr, ◌⊎◌}
 use Rattle.std.specs.FinMap.{get, retain_keys, get-retain_keys, slice_cmp-IsAntisymmetric, nat_cmp-IsAntisymmetric}
@@ -8,6 +8,7 @@ use Rattle.cnb_world.specs.declared.world.Item.{Item}
 use Rattle.cnb_world.specs.declared.world.Item.TheVariants.{Folder}
 use Rattle.cnb_world.proofs.EffectLemmas.{emptied_elsewhere}
 use Rattle.shelf_set.specs.Caches.{Caches, WorldAndCaches, in_caches, in_world as in_cached_world}
+use Rattle.shelf_set.specs.Restoring.{restores_tree}
 use Rattle.steps.specs.Causes.{Cause}
 use Rattle.steps.specs.Each.{for_each}
 use Rattle.steps.specs.Keeping.{Keeps, is_free, standing, touched}
@@ -16,7 +17,7 @@ use Rattle.steps.specs.Steps.{◌>>=◌, gives, in_spawners, in_world, map_err, 
 use Rattle.steps.proofs.KeepingLaws.{Preserves, keeps_reads, keeps_same, keeps_then, part_left, step_at, written_free}
 use Rattle.tree_canon.specs.declared.node.Node.{Node}
 use Rattle.tree_store.specs.Around.{IsMadeAbove, KeptAround, LeavesAround}
-use Rattle.tree_store.specs.Steps.{LeavesPut, lays_tree, puts_tree, reads_tree}
+use Rattle.tree_store.specs.Steps.{LeavesPut, puts_tree, reads_tree}
 use Rattle.tree_store.specs.Store.{LeavesStore, left_or_written, tree_path, tree_put}
 use Rattle.tree_store.specs.declared.fault.StoreFault.{StoreFault}
 use Rattle.tree_store.specs.declared.fault.StoreFault.TheVariants.{OddFile, Limit, File, NoTree, Damaged, Clash, Memory}
@@ -145,7 +146,7 @@ pub refused_over_caches : {E A : Type 0} (path : List ℕ)
 unfolding over_caches
 refused_over_caches path step p old new fault h = p _ _ fault h.0
 
--- ---- steps that remove, lay and put
+-- ---- steps that remove, restore and put
 
 pub at_get : (t u : Tree) (q : List ℕ) → get t q ≡ get u q → item_at t q ≡ item_at u q
 at_get t u q e = ap (cond (is_root q) (Some Folder)) e
@@ -196,11 +197,10 @@ laid : (root path : List ℕ) (old new : Seen) → is_within root path ≡ false
 laid root path old new away apart h = keeps_same path old new h.runs
     (kept_around root path old.files new.files away apart h.files)
 
-pub keeps_lays : (path root place : List ℕ) (tree : Node) → is_within root path ≡ false → (Below path root → ⊥)
-    → Preserves path (lays_tree root place tree)
-unfolding lays_tree
-keeps_lays path root place tree away apart old new (Ok done) h = laid root path old new away apart h.1
-keeps_lays path root place tree away apart old new (Err fault) h = laid root path old new away apart h.1
+pub keeps_restored : (path digest root : List ℕ) → is_within root path ≡ false → (Below path root → ⊥)
+    → KeepsIn cached_world path (restores_tree digest root)
+unfolding restores_tree
+keeps_restored path digest root away apart old new result h = laid root path old.world new.world away apart h.around
 
 put_free : (found : Option Item) (p q bytes : List ℕ) (t : Tree) → is_free (touched p) q ≡ true
     → item_at (left_or_written found p bytes t) q ≡ item_at t q

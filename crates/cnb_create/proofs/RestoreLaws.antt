@@ -1,24 +1,23 @@
 -- What a restoration leaves alone: a path that is apart from the layers folder.
-use Rattle.std.proofs.Common.{◌≡◌, ℕ, ◌<◌, Bool, true, false, List, length, codes, Option, Some, None, Ok}
+use Rattle.std.proofs.Common.{◌≡◌, ℕ, ◌<◌, Bool, true, false, List, length, Option, Some, None, Ok}
 use Rattle.image_docs.specs.declared.layer_row.LayerRow.{LayerRow}
 use Rattle.image_docs.specs.declared.store_row.StoreRow.{StoreRow}
 use Rattle.layer_flags.specs.declared.restore.RestoreRow.{RestoreRow}
 use Rattle.layer_flags.specs.declared.restore.RestoreRow.TheVariants as part
 use Rattle.run_docs.specs.declared.group.GroupRow.{GroupRow}
-use Rattle.shelf_set.specs.declared.finding.Found.{Found}
-use Rattle.shelf_set.specs.declared.finding.Found.TheVariants as found
-use Rattle.steps.proofs.KeepingLaws.{Preserves, keeps_bind, keeps_makes_folder, keeps_reads, keeps_told, keeps_writes}
+use Rattle.shelf_set.specs.declared.restoring.Found.{Found}
+use Rattle.shelf_set.specs.declared.restoring.Found.TheVariants as found
+use Rattle.steps.proofs.KeepingLaws.{Preserves, keeps_bind, keeps_makes_folder, keeps_reads, keeps_writes}
 use Rattle.steps.proofs.KeepingLaws.{keeps_yields}
 use Rattle.steps.specs.Steps.{writes}
-use Rattle.tree_canon.specs.declared.node.Node.{Node}
 use Rattle.cnb_world.specs.Path.{joined}
 use Rattle.cnb_restore.specs.Faults.{cause_of, of_laying_fault}
-use Rattle.cnb_restore.specs.Layers.{lays_contents, writes_layer, writes_store}
+use Rattle.cnb_restore.specs.Layers.{writes_layer, writes_store}
 use Rattle.cnb_restore.specs.Images.{kept_for, store_of}
 use Rattle.layer_paths.specs.Paths.{layers_folder}
 use Rattle.cnb_restore.specs.Restored.{after_search, gathered_first, with_layer}
 use Rattle.cnb_restore.specs.Restores.{listed, prepares_folder, restores, restores_buildpack, restores_contents}
-use Rattle.cnb_restore.specs.Restores.{restores_document, restores_each, restores_found, restores_group, restores_laid}
+use Rattle.cnb_restore.specs.Restores.{restores_document, restores_each, restores_found, restores_group, restores_held}
 use Rattle.cnb_restore.specs.Restores.{restores_layer, restores_layers, restores_part, restores_rows}
 use Rattle.cnb_restore.specs.Rows.{layer_names}
 use Rattle.cnb_restore.specs.declared.restored.Restored.{Restored}
@@ -27,7 +26,7 @@ use Rattle.cnb_create.specs.Apart.{are_apart}
 use Rattle.cnb_create.proofs.ApartLemmas.{Inside, folder_not_root, free_document, free_folder, inside_deeper}
 use Rattle.cnb_create.proofs.ApartLemmas.{inside_joined, not_above, not_within}
 use Rattle.cnb_create.proofs.KeepLemmas.{KeepsIn, cached_in_caches, cached_in_world, cached_world, in_bind, in_each}
-use Rattle.cnb_create.proofs.KeepLemmas.{in_gives, in_yields, keeps_lays, keeps_removes}
+use Rattle.cnb_create.proofs.KeepLemmas.{in_gives, in_told, in_yields, keeps_removes, keeps_restored}
 
 module _ (layers path : List ℕ) (apart : are_apart layers path ≡ true) (long : 0 < length layers) where
   writes_inside : (folder name : List ℕ) (Says : List ℕ → Type 0) → Inside layers folder
@@ -45,15 +44,6 @@ module _ (layers path : List ℕ) (apart : are_apart layers path ≡ true) (long
   kept_store folder None inside = keeps_yields path tt
   kept_store folder (Some row) inside = writes_inside folder _ _ inside
 
-  kept_contents : (folder : List ℕ) (row : LayerRow) (tree : Node) → Inside layers folder
-      → Preserves path (lays_contents folder row tree)
-  unfolding lays_contents
-  kept_contents folder row tree inside =
-      let deeper = inside_deeper layers folder row.layer inside in
-      keeps_told path of_laying_fault _ (keeps_lays path (joined folder row.layer) (codes "/") tree
-      (not_within layers path apart long (joined folder row.layer) deeper)
-      (not_above layers path apart (joined folder row.layer) deeper))
-
   kept_folder : (folder id : List ℕ) (rows : List StoreRow) → Inside layers folder
       → Preserves path (prepares_folder folder id rows)
   unfolding prepares_folder
@@ -70,25 +60,26 @@ module _ (layers path : List ℕ) (apart : are_apart layers path ≡ true) (long
       in_bind cached_world path _ _ (cached_in_world path _ (kept_layer folder row inside))
       (λ written. in_gives cached_world path cause_of (Ok (with_layer row contents restored)))
 
-  kept_laid : (folder : List ℕ) (row : LayerRow) (restored : Restored) (tree : Node) → Inside layers folder
-      → KeepsIn cached_world path (restores_laid folder row restored tree)
-  unfolding restores_laid
-  kept_laid folder row restored tree inside =
-      in_bind cached_world path _ _ (cached_in_world path _ (kept_contents folder row tree inside))
-      (λ laid. kept_document folder row true restored inside)
+  kept_held : (folder : List ℕ) (row : LayerRow) → Inside layers folder
+      → KeepsIn cached_world path (restores_held folder row)
+  kept_held folder row inside =
+      let deeper = inside_deeper layers folder row.layer inside in
+      in_told cached_world path of_laying_fault _ (keeps_restored path row.digest (joined folder row.layer)
+      (not_within layers path apart long (joined folder row.layer) deeper)
+      (not_above layers path apart (joined folder row.layer) deeper))
 
-  kept_found : (folder : List ℕ) (row : LayerRow) (restored : Restored) (tree : Found) → Inside layers folder
-      → KeepsIn cached_world path (restores_found folder row restored tree)
+  kept_found : (folder : List ℕ) (row : LayerRow) (restored : Restored) (answer : Found) → Inside layers folder
+      → KeepsIn cached_world path (restores_found folder row restored answer)
   unfolding restores_found
   kept_found folder row restored found.None inside = in_yields cached_world path restored
   kept_found folder row restored (found.Damaged asked is bad) inside = in_gives cached_world path cause_of _
-  kept_found folder row restored (found.Tree tree) inside = kept_laid folder row restored tree inside
+  kept_found folder row restored found.Laid inside = kept_document folder row true restored inside
 
-  kept_search : (folder : List ℕ) (row : LayerRow) (restored : Restored) → Inside layers folder
+  kept_contents : (folder : List ℕ) (row : LayerRow) (restored : Restored) → Inside layers folder
       → KeepsIn cached_world path (restores_contents folder row restored)
   unfolding restores_contents
-  kept_search folder row restored inside =
-      in_bind cached_world path _ _ (cached_in_caches path _)
+  kept_contents folder row restored inside =
+      in_bind cached_world path _ _ (kept_held folder row inside)
       (λ search. in_bind cached_world path _ _ (in_gives cached_world path cause_of
       (Ok (after_search search.gone restored)))
       (λ counted. kept_found folder row counted search.found inside))
@@ -99,7 +90,7 @@ module _ (layers path : List ℕ) (apart : are_apart layers path ≡ true) (long
   kept_part folder None row restored inside = in_yields cached_world path restored
   kept_part folder (Some source) part.Nothing restored inside = in_yields cached_world path restored
   kept_part folder (Some source) part.Meta restored inside = kept_document folder source false restored inside
-  kept_part folder (Some source) part.Both restored inside = kept_search folder source restored inside
+  kept_part folder (Some source) part.Both restored inside = kept_contents folder source restored inside
 
   kept_one : (folder : List ℕ) (app cache : List LayerRow) (name : List ℕ) (restored : Restored)
       → Inside layers folder → KeepsIn cached_world path (restores_layer folder app cache name restored)

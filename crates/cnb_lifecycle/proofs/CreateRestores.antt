@@ -14,10 +14,10 @@ use Rattle.cnb_create.specs.Apart.{are_apart}
 use Rattle.cnb_env.specs.Buildpack.{buildpack_folder, plan_name_of}
 use Rattle.cnb_restore.specs.Faults.{cause_of, of_laying_fault}
 use Rattle.cnb_restore.specs.Images.{kept_for, store_of}
-use Rattle.cnb_restore.specs.Layers.{lays_contents, writes_layer, writes_store}
+use Rattle.cnb_restore.specs.Layers.{writes_layer, writes_store}
 use Rattle.cnb_restore.specs.Restored.{after_search, gathered_first, with_layer}
 use Rattle.cnb_restore.specs.Restores.{listed, prepares_folder, restores, restores_buildpack, restores_contents}
-use Rattle.cnb_restore.specs.Restores.{restores_document, restores_each, restores_found, restores_group, restores_laid}
+use Rattle.cnb_restore.specs.Restores.{restores_document, restores_each, restores_found, restores_group, restores_held}
 use Rattle.cnb_restore.specs.Restores.{restores_layer, restores_layers, restores_part, restores_rows}
 use Rattle.cnb_restore.specs.Rows.{layer_names}
 use Rattle.cnb_restore.specs.declared.restored.Restored.{Restored}
@@ -41,10 +41,9 @@ use Rattle.layer_flags.specs.declared.restore.RestoreRow.{RestoreRow}
 use Rattle.layer_flags.specs.declared.restore.RestoreRow.TheVariants as part
 use Rattle.layer_paths.specs.Paths.{layers_folder}
 use Rattle.run_docs.specs.declared.group.GroupRow.{GroupRow}
-use Rattle.shelf_set.specs.declared.finding.Found.{Found}
-use Rattle.shelf_set.specs.declared.finding.Found.TheVariants as found
+use Rattle.shelf_set.specs.declared.restoring.Found.{Found}
+use Rattle.shelf_set.specs.declared.restoring.Found.TheVariants as found
 use Rattle.steps.specs.Each.{for_each}
-use Rattle.tree_canon.specs.declared.node.Node.{Node}
 use Rattle.tree_store.proofs.Around.{at_one}
 use Rattle.tree_store.proofs.Blames.{within_itself}
 use Rattle.tree_store.proofs.Places.{child_not_root}
@@ -58,7 +57,7 @@ use Rattle.cnb_lifecycle.proofs.KeptFolders.{can_be_folder, folder_stays, kept_f
 use Rattle.cnb_lifecycle.proofs.LeadingSteps.{itself}
 use Rattle.cnb_lifecycle.proofs.KeptFolders.{reach, root_is_folder}
 use Rattle.cnb_lifecycle.proofs.IdleSteps.{Bears, bears_bind, bears_each, bears_gives, bears_in_caches, bears_in_world}
-use Rattle.cnb_lifecycle.proofs.IdleSteps.{bears_lays, bears_makes, bears_reads, bears_removes, bears_told}
+use Rattle.cnb_lifecycle.proofs.IdleSteps.{bears_makes, bears_reads, bears_removes, bears_restored, bears_told}
 use Rattle.cnb_lifecycle.proofs.IdleSteps.{bears_writes, bears_yields}
 
 -- ---- a restoration
@@ -84,11 +83,6 @@ module _ (layers : List ℕ) (K : Tree → Type 0) (stays : Stays layers K) (id 
   borne_store None = bears_yields itself K tt
   borne_store (Some row) = bears_writes K cause_of _ _ (stays.wrote id _)
 
-  borne_contents : (row : LayerRow) (tree : Node) → Bears itself K (lays_contents folder row tree)
-  unfolding lays_contents
-  borne_contents row tree = bears_told itself K of_laying_fault _
-      (bears_lays K (joined folder row.layer) (codes "/") tree (stays.laid id row.layer))
-
   borne_folder : (rows : List StoreRow) → Bears itself K (prepares_folder folder id rows)
   unfolding prepares_folder
   borne_folder rows =
@@ -102,23 +96,22 @@ module _ (layers : List ℕ) (K : Tree → Type 0) (stays : Stays layers K) (id 
   borne_document row contents restored = bears_bind beside_caches K _ _ (bears_in_world K _ (borne_layer row))
       (λ written. bears_gives beside_caches K cause_of (Ok (with_layer row contents restored)))
 
-  borne_laid : (row : LayerRow) (restored : Restored) (tree : Node)
-      → Bears beside_caches K (restores_laid folder row restored tree)
-  unfolding restores_laid
-  borne_laid row restored tree = bears_bind beside_caches K _ _ (bears_in_world K _ (borne_contents row tree))
-      (λ laid. borne_document row true restored)
+  borne_held : (row : LayerRow) → Bears beside_caches K (restores_held folder row)
+  borne_held row = bears_told beside_caches K of_laying_fault _
+      (bears_restored K row.digest (joined folder row.layer) (stays.laid id row.layer))
 
   borne_found : (row : LayerRow) (restored : Restored) (answer : Found)
       → Bears beside_caches K (restores_found folder row restored answer)
   unfolding restores_found
   borne_found row restored found.None = bears_yields beside_caches K restored
   borne_found row restored (found.Damaged asked is bad) = bears_gives beside_caches K cause_of _
-  borne_found row restored (found.Tree tree) = borne_laid row restored tree
+  borne_found row restored found.Laid = borne_document row true restored
 
-  borne_search : (row : LayerRow) (restored : Restored) → Bears beside_caches K (restores_contents folder row restored)
+  borne_contents : (row : LayerRow) (restored : Restored)
+      → Bears beside_caches K (restores_contents folder row restored)
   unfolding restores_contents
-  borne_search row restored =
-      bears_bind beside_caches K _ _ (bears_in_caches K _)
+  borne_contents row restored =
+      bears_bind beside_caches K _ _ (borne_held row)
       (λ search. bears_bind beside_caches K _ _ (bears_gives beside_caches K cause_of
       (Ok (after_search search.gone restored))) (λ counted. borne_found row counted search.found))
 
@@ -128,7 +121,7 @@ module _ (layers : List ℕ) (K : Tree → Type 0) (stays : Stays layers K) (id 
   borne_part None line restored = bears_yields beside_caches K restored
   borne_part (Some source) part.Nothing restored = bears_yields beside_caches K restored
   borne_part (Some source) part.Meta restored = borne_document source false restored
-  borne_part (Some source) part.Both restored = borne_search source restored
+  borne_part (Some source) part.Both restored = borne_contents source restored
 
   borne_one : (app cache : List LayerRow) (name : List ℕ) (restored : Restored)
       → Bears beside_caches K (restores_layer folder app cache name restored)

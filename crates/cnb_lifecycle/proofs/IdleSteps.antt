@@ -7,13 +7,12 @@ use Rattle.cnb_world.specs.Tree.{Tree, folder_made}
 use Rattle.cnb_world.specs.Tree.{without}
 use Rattle.cnb_world.specs.Whole.{written}
 use Rattle.shelf_set.specs.Caches.{Caches, in_caches, in_world}
+use Rattle.shelf_set.specs.Restoring.{restores_tree}
 use Rattle.steps.specs.Causes.{Cause}
 use Rattle.steps.specs.Each.{for_each}
 use Rattle.steps.specs.Outside.{Seen}
 use Rattle.steps.specs.Steps.{◌>>=◌, gives, makes_folder, map_err, reads, removes, writes, yields}
-use Rattle.tree_canon.specs.declared.node.Node.{Node}
 use Rattle.tree_store.specs.Around.{KeepsAround}
-use Rattle.tree_store.specs.Steps.{lays_tree}
 use Rattle.cnb_lifecycle.proofs.LeadingSteps.{Brings, beside_caches, brings_around, brings_change}
 use Rattle.cnb_lifecycle.proofs.LeadingSteps.{brings_on, brings_same, itself}
 
@@ -105,9 +104,9 @@ module _ (K : Tree → Type 0) where
       (h.runs, brings_change K K (written path h.bytes) old.files new.files (so h.bytes) h.files)
   bears_writes cause path Says so old new (Err fault) h = (h.1.runs, tt)
 
-  pub bears_lays : (root place : List ℕ) (tree : Node) → ((t after : Tree) → K t → KeepsAround root t after → K after)
-      → Bears itself K (lays_tree root place tree)
-  unfolding lays_tree
-  bears_lays root place tree so old new (Ok done) h =
-      (h.1.runs, brings_around K K root old.files new.files so h.1.files)
-  bears_lays root place tree so old new (Err fault) h = (h.1.runs, tt)
+  pub bears_restored : (digest root : List ℕ) → ((t after : Tree) → K t → KeepsAround root t after → K after)
+      → Bears beside_caches K (restores_tree digest root)
+  unfolding restores_tree
+  bears_restored digest root so old new (Ok search) h =
+      (h.around.runs, brings_around K K root old.world.files new.world.files so h.around.files)
+  bears_restored digest root so old new (Err fault) h = (h.around.runs, tt)

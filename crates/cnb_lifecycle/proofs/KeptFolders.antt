@@ -12,7 +12,7 @@ use Rattle.std.specs.Str.{bytes_eq}
 use Rattle.cnb_toml.proofs.Layers.{layer_name_is_part}
 use Rattle.cnb_toml.specs.Names.{is_layer_name, is_reserved_layer}
 use Rattle.cnb_world.proofs.EffectLemmas.{emptied_elsewhere, emptied_here, same_path}
-use Rattle.cnb_world.proofs.Folders.{get-folder_made_longer, get-with_folders, longer_beside}
+use Rattle.cnb_world.proofs.Folders.{folder_stands, get-folder_made_longer, get-with_folders, longer_beside}
 use Rattle.cnb_world.proofs.Joins.{beside-joined, parent_of_file}
 use Rattle.cnb_world.proofs.Parents.{has_slash}
 use Rattle.cnb_world.proofs.Trees.{bytes_eq-other, bytes_eq-same, get-insert_bytes, get-remove_bytes}
@@ -149,6 +149,11 @@ pub record IsClean (folder : List ℕ) (t : Tree) : Type 0 where
   pub made : can_make_folder t folder ≡ true
   pub empty : (name : List ℕ) → IsTrue (is_part name) → item_at t (joined folder name) ≡ None
 
+-- the folder is there, and nothing stands in it
+pub record IsNew (folder : List ℕ) (t : Tree) : Type 0 where
+  pub there : is_folder (item_at t folder) ≡ true
+  pub clean : IsClean folder t
+
 -- a file, or nothing, is where a layer's document is written, and beside that
 pub record IsDue (folder name : List ℕ) (t : Tree) : Type 0 where
   pub document : is_file_or_absent (item_at t (joined folder (document_name name))) ≡ true
@@ -158,8 +163,9 @@ pub record IsDue (folder name : List ℕ) (t : Tree) : Type 0 where
 abbrev IsFree : List ℕ → Tree → List ℕ → Type 0
 IsFree folder t name = (item_at t (joined folder name) ≡ None) × IsDue folder name t
 
--- the folder can be made, and these layers can be restored in it
+-- the folder is there and can be made, and these layers can be restored in it
 pub record IsOpen (folder : List ℕ) (names : List (List ℕ)) (t : Tree) : Type 0 where
+  pub there : is_folder (item_at t folder) ≡ true
   pub made : can_make_folder t folder ≡ true
   pub free : AllByRecursion (IsFree folder t) names
 
@@ -185,10 +191,13 @@ parts_of_plain name plain =
           part short;
     }
 
-pub open_clean : (folder : List ℕ) (names : List (List ℕ)) (t : Tree) → AreOnce names → IsClean folder t
+pub open_new : (folder : List ℕ) (names : List (List ℕ)) (t : Tree) → AreOnce names → IsNew folder t
     → IsOpen folder names t
-open_clean folder names t once clean = record { made = clean.made; free = all names once }
+open_new folder names t once new = record { there = new.there; made = clean.made; free = all names once }
   where
+    clean : IsClean folder t
+    clean = new.clean
+
     one : (name : List ℕ) → HasParts name → IsFree folder t name
     one name parts = (
       clean.empty name parts.part,
@@ -250,12 +259,15 @@ folder_stays folder q t is = ap (λ v. is_folder (cond (is_root q) (Some Folder)
     || not (is_some (cond (is_root q) (Some Folder) v))) (get-with_folders (reach folder) t q)
     ∙ folder_over (is_root q) (list_any (bytes_eq q) (reach folder)) (get t q) is
 
-pub made_anew : (folder : List ℕ) (t : Tree) → IsClean folder t → IsClean folder (folder_made folder t)
+pub made_anew : (folder : List ℕ) (t : Tree) → IsClean folder t → IsNew folder (folder_made folder t)
 made_anew folder t clean = record {
-  made = make_kept folder t (folder_made folder t) (λ q short is. folder_stays folder q t is) clean.made;
-  empty = λ name part. at_child folder name (folder_made folder t) part
-      ∙ get-folder_made_longer folder (joined folder name) t (longer_child folder name (part_form name part).0)
-      ∙ sym (at_child folder name t part) ∙ clean.empty name part;
+  there = folder_stands folder t;
+  clean = record {
+    made = make_kept folder t (folder_made folder t) (λ q short is. folder_stays folder q t is) clean.made;
+    empty = λ name part. at_child folder name (folder_made folder t) part
+        ∙ get-folder_made_longer folder (joined folder name) t (longer_child folder name (part_form name part).0)
+        ∙ sym (at_child folder name t part) ∙ clean.empty name part;
+  };
 }
 
 file_over : (a b : Bool) (bytes : List ℕ) (old : Option Item) → is_file_or_absent old ≡ true
@@ -326,24 +338,28 @@ module _ (folder : List ℕ) (path : is_path folder ≡ true) (name : List ℕ) 
 
     pub open_written : (names : List (List ℕ)) → AreOnce names → IsOpen folder names t → IsOpen folder names now
     open_written names once open_ = record {
+      there = ap (λ v. is_folder (cond (is_root folder) (Some Folder) v)) (get_short folder (omega arith))
+          ∙ folder_stands folder t;
       made = make_kept folder t now kept open_.made;
-      free = all names once
-          open_.free;
+      free = all names once open_.free;
     }
       where
-        kept : (q : List ℕ) → length q ≤ length folder → can_be_folder t q ≡ true → can_be_folder now q ≡ true
-        kept q short is =
+        get_short : (q : List ℕ) → length q ≤ length folder → get now q ≡ get (folder_made folder t) q
+        get_short q short =
             let long : length folder < length file = longer_child folder name (part_form name part).0 in
             let other : bytes_eq q file ≡ false = bytes_eq-other q file
             (λ e. let same : length q ≡ length file = ap length e in absurd (omega arith)) in
             let wider : length file < length (beside file) = longer_beside file in
             let another : bytes_eq q (beside file) ≡ false = bytes_eq-other q (beside file)
             (λ e. let same : length q ≡ length (beside file) = ap length e in absurd (omega arith)) in
-            ap (λ v. is_folder (cond (is_root q) (Some Folder) v) || not (is_some (cond (is_root q) (Some Folder) v)))
-            (get_now q ∙ ap (λ v. cond v (Some (File false bytes))
+            get_now q ∙ ap (λ v. cond v (Some (File false bytes))
             (cond (bytes_eq q (beside file)) None (get (folder_made folder t) q))) other
-            ∙ ap (λ v. cond v None (get (folder_made folder t) q)) another)
-            ∙ folder_stays folder q t is
+            ∙ ap (λ v. cond v None (get (folder_made folder t) q)) another
+
+        kept : (q : List ℕ) → length q ≤ length folder → can_be_folder t q ≡ true → can_be_folder now q ≡ true
+        kept q short is =
+            ap (λ v. is_folder (cond (is_root q) (Some Folder) v) || not (is_some (cond (is_root q) (Some Folder) v)))
+            (get_short q short) ∙ folder_stays folder q t is
 
         one : (a : List ℕ) → IsPlain a → HasParts a → IsFree folder t a → IsFree folder now a
         one a plain parts free = (
@@ -357,7 +373,12 @@ module _ (folder : List ℕ) (path : is_path folder ≡ true) (name : List ℕ) 
         all [] once free = tt
         all (a ∷ names) once free = (one a once.0 (parts_of_plain a once.0) free.0, all names once.2 free.1)
 
--- a layer's tree is laid
+-- a layer's tree is laid in the folder, which is there
+pub stands_above : (folder name : List ℕ) (names : List (List ℕ)) (t : Tree) → is_path folder ≡ true → IsPlain name
+    → IsOpen folder names t → is_folder (item_at t (parent_of (joined folder name))) ≡ true
+stands_above folder name names t path plain open_ = ap (λ p. is_folder (item_at t p))
+    (parent_of_file folder name path (layer_name_is_part name plain.0)) ∙ open_.there
+
 pub may_lay : (folder name : List ℕ) (names : List (List ℕ)) (tree : Node) (t : Tree) → IsPlain name
     → IsOpen folder (name ∷ names) t → IsTrue (can_lay (joined folder name) (codes "/") tree t)
 may_lay folder name names tree t plain open_ =
@@ -397,16 +418,28 @@ module _ (folder name : List ℕ) (t after : Tree) (plain : IsPlain name)
   pub open_laid : (names : List (List ℕ)) → AreOnce (name ∷ names) → IsOpen folder (name ∷ names) t
       → IsOpen folder names after × IsDue folder name after
   open_laid names once open_ = (
-    record { made = make_kept folder t after kept open_.made; free = all names once.1 once.2 open_.free.1 },
+    record {
+      there = still (around folder (outside folder (omega arith)));
+      made = make_kept folder t after kept open_.made;
+      free = all names once.1 once.2 open_.free.1;
+    },
     due_laid name (parts_of_plain name plain) (not_near name) open_.free.0.1,
   )
     where
-      kept : (q : List ℕ) → length q ≤ length folder → can_be_folder t q ≡ true → can_be_folder after q ≡ true
-      kept q short is =
+      outside : (q : List ℕ) → length q ≤ length folder → is_within (joined folder name) q ≡ false
+      outside q short =
           let out : is_at_or_below (joined folder name) q ≡ false = shorter_away (joined folder name) q
           (omega (arith, short, longer_child folder name (part_form name part_laid).0)) in
-          by (around q (or_from _ _ (child_plain folder name part_laid)
-          (or_from _ _ (or_parts _ _ out).0 (not_below (joined folder name) q out))))
+          or_from _ _ (child_plain folder name part_laid)
+          (or_from _ _ (or_parts _ _ out).0 (not_below (joined folder name) q out))
+
+      still : (item_at after folder ≡ item_at t folder) ⊎ IsMadeAbove (joined folder name) folder t after
+          → is_folder (item_at after folder) ≡ true
+      still (inl same) = ap is_folder same ∙ open_.there
+      still (inr made) = ap is_folder made.after
+
+      kept : (q : List ℕ) → length q ≤ length folder → can_be_folder t q ≡ true → can_be_folder after q ≡ true
+      kept q short is = by (around q (outside q short))
         where
           by : (item_at after q ≡ item_at t q) ⊎ IsMadeAbove (joined folder name) q t after
               → can_be_folder after q ≡ true

@@ -1,6 +1,6 @@
 -- Steps that lead from files of one kind to files of another, and make no call on a path of the wrong kind on the way.
 use Rattle.std.proofs.Common.{◌≡◌, ◌∙◌, refl, sym, ap, subst, ℕ, ◌-◌, Bool, false, not}
-use Rattle.std.proofs.Common.{List, [], ◌∷◌}
+use Rattle.std.proofs.Common.{List, [], ◌∷◌, codes}
 use Rattle.std.proofs.Common.{Option, Some, None, Result, Ok, Err, inl, inr}
 use Rattle.std.specs.List.{AllByRecursion}
 use Rattle.std.specs.Option.{option_map}
@@ -10,7 +10,11 @@ use Rattle.cnb_world.specs.Path.{beside}
 use Rattle.cnb_world.specs.Tree.{Tree, can_make_folder, folder_made}
 use Rattle.cnb_world.specs.Tree.{is_root, without}
 use Rattle.cnb_world.specs.Whole.{can_write, written}
-use Rattle.shelf_set.specs.Caches.{Caches, WorldAndCaches, in_caches, in_world}
+use Rattle.shelf_set.specs.Caches.{Caches, WorldAndCaches, in_world}
+use Rattle.shelf_set.specs.Finding.{InCaches, Whole, Missing, Broken}
+use Rattle.shelf_set.specs.Restoring.{AllTell, HasFolder, LaysIn, answer_of, restores_tree}
+use Rattle.shelf_set.specs.declared.restoring.Found.{Found}
+use Rattle.shelf_set.specs.declared.restoring.Found.TheVariants as found
 use Rattle.steps.specs.Causes.{Cause}
 use Rattle.steps.specs.Each.{for_each}
 use Rattle.steps.specs.Outside.{Seen}
@@ -140,6 +144,12 @@ module _ {S : Type 0} (view : S → Seen) where
       by (Ok a) h = brought a (view old).files (λ k. (p k old new (Ok a) h).1)
       by (Err fault) h = tt
 
+  -- the same, which is known behind the steps too
+  pub leads_kept : {E A : Type 0} (K : Type 0) (P : S → Tree → Type 0) (Q : A → S → Tree → Type 0)
+      (step : S → Result A E → S → Type 0) → Leads P Q step → Leads (λ s t. P s t × K) (λ a s t. Q a s t × K) step
+  leads_kept K P Q step p = leads_given K P (λ a s t. Q a s t × K) step
+      (λ k. leads_so P P Q (λ a s t. Q a s t × K) step (λ s t fit. fit) (λ a s t fit. (fit, k)) p)
+
   leads_same : {A E : Type 0} (P : S → Tree → Type 0) (old new : S) (result : Result A E) → new ≡ old
       → NoMisuse (P old) (view old) (view new) × IfOk result (λ a. Brings (P old) (P new) (view old).files
       (view new).files)
@@ -230,7 +240,7 @@ leads_writes P Q cause path Says can so old new (Ok done) h = (
 leads_writes P Q cause path Says can so old new (Err fault) h =
     (minds_allowed P (can_write path) old new can h.1.allows, tt)
 
-pub leads_lays : (P Q : Tree → Type 0) (root place : List ℕ) (tree : Node)
+leads_lays : (P Q : Tree → Type 0) (root place : List ℕ) (tree : Node)
     → ((t : Tree) → P t → IsTrue (can_lay root place tree t))
     → ((t after : Tree) → P t → KeepsAround root t after → Q after)
     → Leads itself (λ s. P) (λ done s. Q) (lays_tree root place tree)
@@ -257,15 +267,56 @@ leads_in_world P Q step p old new (Ok a) h = let one = p old.caches old.world ne
     in (one.0, subst (λ c. Brings (P old.caches) (Q a c) old.world.files new.world.files) (sym h.1) one.1)
 leads_in_world P Q step p old new (Err fault) h = ((p old.caches old.world new.world (Err fault) h.0).0, tt)
 
--- what is seen of the world stays
-pub leads_in_caches : {E A : Type 0} (P : Tree → Type 0) (step : Caches → Result A E → Caches → Type 0)
-    → Leads beside_caches (λ s. P) (λ a s. P) (in_caches step)
-unfolding in_caches
-leads_in_caches P step old new (Ok a) h = (
-  minds_same P old.world.files old.world.misused new.world.misused
-      (ap (λ (s : Seen). s.misused) h.1),
-  brings_same P old.world.files new.world.files
-      (ap (λ (s : Seen). s.files) h.1),
+-- ---- a tree that is restored
+
+-- files of the second kind where a tree was laid, and else of the first
+abbrev pub LaidOr : (Tree → Type 0) → (Tree → Type 0) → Found → Tree → Type 0
+LaidOr P Q found.Laid = Q
+LaidOr P Q found.None = P
+LaidOr P Q (found.Damaged asked is bad) = P
+
+-- what follows where this is known, and where this is so of the files
+minds_where : (P : Tree → Type 0) (K : Type 0) (H : Option Tree → Type 0) (o : Option Tree) (a b : ℕ)
+    → ((t : Tree) → P t → H (Some t)) → (K → H o → IfSome o (λ t. P t → b ≡ a)) → IfSome o (λ t. P t × K → b ≡ a)
+minds_where P K H None a b so h = tt
+minds_where P K H (Some t) a b so h = λ both. h both.1 (so t both.0) both.0
+
+brings_where : (P Q : Tree → Type 0) (K K1 : Type 0) (H : Option Tree → Type 0) (o o1 : Option Tree) → (K → K1)
+    → ((t : Tree) → P t → H (Some t)) → (K → H o → Brings P Q o o1) → Brings (λ t. P t × K) (λ t. Q t × K1) o o1
+brings_where P Q K K1 H None o1 on so h = tt
+brings_where P Q K K1 H (Some t) o1 on so h = λ both. let (after, is, fit) = h both.1 (so t both.0) both.0
+    in (after, is, (fit, on both.1))
+
+pub leads_restored : (P Q : Tree → Type 0) (digest root : List ℕ) → ((t : Tree) → P t → HasFolder root (Some t))
+    → ((tree : Node) (t : Tree) → P t → IsTrue (can_lay root (codes "/") tree t))
+    → ((t after : Tree) → P t → KeepsAround root t after → Q after)
+    → Leads beside_caches (λ s t. P t × AllTell s.caches)
+    (λ search s t. LaidOr P Q search.found t × AllTell s.caches) (restores_tree digest root)
+unfolding restores_tree
+leads_restored P Q digest root there can so old new (Ok search) h =
+    let (held, finds, answer, laid) = h.by in (
+      minds_where P (AllTell old.caches) (HasFolder root) old.world.files old.world.misused new.world.misused there
+          (λ tell stands. (by held (laid tell stands).1).0),
+      brings_where P (LaidOr P Q search.found) (AllTell old.caches) (AllTell new.caches) (HasFolder root)
+          old.world.files new.world.files h.tell there
+          (λ tell stands. subst (λ (answer : Found). Brings P (LaidOr P Q answer) old.world.files new.world.files)
+          (sym (laid tell stands).0) (by held (laid tell stands).1).1),
+    )
+  where
+    by : (held : InCaches) → LaysIn root held old.world new.world → NoMisuse P old.world new.world
+        × Brings P (LaidOr P Q (answer_of held)) old.world.files new.world.files
+    by (Whole tree) h = leads_lays P Q root (codes "/") tree (can tree) so old.world new.world (Ok tt) h
+    by Missing h = (
+      minds_same P old.world.files old.world.misused new.world.misused h.misused,
+      brings_same P old.world.files new.world.files h.files,
+    )
+    by (Broken asked is bad) h = (
+      minds_same P old.world.files old.world.misused new.world.misused h.misused,
+      brings_same P old.world.files new.world.files h.files,
+    )
+leads_restored P Q digest root there can so old new (Err fault) h = (
+  minds_where P (AllTell old.caches) (HasFolder root) old.world.files old.world.misused new.world.misused there
+      (λ tell stands. let (tree, laid) = h.by.2 tell stands
+      in (leads_lays P Q root (codes "/") tree (can tree) so old.world new.world (Err fault) laid).0),
+  tt,
 )
-leads_in_caches P step old new (Err fault) h =
-    (minds_same P old.world.files old.world.misused new.world.misused (ap (λ (s : Seen). s.misused) h.1), tt)

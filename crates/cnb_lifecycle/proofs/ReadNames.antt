@@ -36,7 +36,6 @@ use Rattle.image_files.specs.Documents.{document_in, found_of, some_of}
 use Rattle.layer_flags.specs.declared.restore.RestoreRow.TheVariants as part
 use Rattle.run_docs.specs.Group.{new_id, row_in, rows_in as group_rows_in}
 use Rattle.run_docs.specs.declared.group.GroupRow.{GroupRow}
-use Rattle.shelf_set.specs.declared.finding.Found.TheVariants as found
 use Rattle.steps.specs.Results.{and_then, with_fault}
 use Rattle.steps.specs.Steps.{reads}
 use Rattle.toml.specs.Data.{Data, Items, Members, as_array, as_table, get_member, item, no_items}

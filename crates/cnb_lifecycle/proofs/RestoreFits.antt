@@ -1,7 +1,7 @@
 -- Where the files and the caches fit `restore`, it makes no call on a path of the wrong kind.
 use Rattle.std.proofs.Common.{◌≡◌, ◌∙◌, refl, sym, ap, subst, arith, ℕ, ◌-◌, ◌<◌, ◌≤◌, Bool, true, false, not}
 use Rattle.std.proofs.Common.{cond, List, [], ◌∷◌, ◌++◌, codes, map, nat_le, length}
-use Rattle.std.proofs.Common.{Option, Some, None, Result, Ok, Err, ◌+◌}
+use Rattle.std.proofs.Common.{Option, Some, None, Result, Ok, Err, ◌+◌, is_some}
 use Rattle.std.proofs.lemmas.Bool.{and_parts, leb-true}
 use Rattle.std.specs.List.{AllByRecursion, list_all}
 use Rattle.std.specs.Option.{option_map, unwrap_or}
@@ -12,9 +12,9 @@ use Rattle.cnb_restore.specs.Commands.{analyzed_at, group_at, group_document, re
 use Rattle.cnb_restore.specs.Commands.{restores_command}
 use Rattle.cnb_restore.specs.Faults.{cause_of, of_laying_fault, of_read_fault}
 use Rattle.cnb_restore.specs.Images.{layers_of}
-use Rattle.cnb_restore.specs.Layers.{lays_contents, writes_layer, writes_store}
+use Rattle.cnb_restore.specs.Layers.{writes_layer, writes_store}
 use Rattle.cnb_restore.specs.Restores.{prepares_folder, restores, restores_buildpack, restores_contents}
-use Rattle.cnb_restore.specs.Restores.{restores_document, restores_each, restores_found, restores_group, restores_laid}
+use Rattle.cnb_restore.specs.Restores.{restores_document, restores_each, restores_found, restores_group, restores_held}
 use Rattle.cnb_restore.specs.Restores.{restores_layer, restores_layers, restores_part, restores_rows}
 use Rattle.cnb_restore.specs.Rows.{layer_names, row_of, rows_of}
 use Rattle.cnb_restore.specs.declared.fault.RestoreFault.{RestoreFault}
@@ -52,27 +52,29 @@ use Rattle.shelf_set.specs.Caches.{WorldAndCaches, in_caches}
 use Rattle.shelf_set.specs.Dropping.{Turn, before_of, left_of}
 use Rattle.shelf_set.specs.Finding.{TellsSame}
 use Rattle.shelf_set.specs.Gathering.{Gathers, HaveGiven, all_rows, document_rows, given_by, held_rows, with_row}
+use Rattle.shelf_set.specs.Restoring.{AllTell, Tells}
 use Rattle.shelf_set.specs.ShelfState.{ShelfState}
-use Rattle.shelf_set.specs.declared.finding.Found.{Found}
-use Rattle.shelf_set.specs.declared.finding.Found.TheVariants as found
 use Rattle.shelf_set.specs.declared.gathering.Gathered.{Gathered}
+use Rattle.shelf_set.specs.declared.restoring.Found.{Found}
+use Rattle.shelf_set.specs.declared.restoring.Found.TheVariants as found
+use Rattle.shelf_set.proofs.RestoreLemmas.{drops_tell}
 use Rattle.steps.specs.Each.{for_each}
 use Rattle.steps.specs.Outside.{Seen}
 use Rattle.steps.specs.Steps.{gives}
-use Rattle.tree_canon.specs.declared.node.Node.{Node}
 use Rattle.tree_store.proofs.Places.{named}
 use Rattle.cnb_lifecycle.specs.Fitting.{FitsRestore, NoMisuse, have_plain_names, is_document_like, is_plain_row}
 use Rattle.cnb_lifecycle.specs.Fitting.{is_plain_shelf, tells_plain_names}
 use Rattle.cnb_restore.specs.Analyzes.{is_fit_image}
 use Rattle.image_files.specs.Documents.{is_fit_document}
 use Rattle.image_files.specs.Target.{analyzed_document}
-use Rattle.cnb_lifecycle.proofs.LeadingSteps.{Brings, Leads, beside_caches, itself, leads_bind, leads_each, leads_given}
-use Rattle.cnb_lifecycle.proofs.LeadingSteps.{leads_gives, leads_in_caches, leads_in_world, leads_lays, leads_makes}
-use Rattle.cnb_lifecycle.proofs.LeadingSteps.{leads_reads, leads_removes, leads_so, leads_told, leads_writes}
+use Rattle.cnb_lifecycle.proofs.LeadingSteps.{Brings, LaidOr, Leads, beside_caches, itself, leads_bind, leads_each}
+use Rattle.cnb_lifecycle.proofs.LeadingSteps.{leads_given, leads_gives, leads_in_world, leads_kept, leads_makes}
+use Rattle.cnb_lifecycle.proofs.LeadingSteps.{leads_reads, leads_removes, leads_restored, leads_so, leads_told}
+use Rattle.cnb_lifecycle.proofs.LeadingSteps.{leads_writes}
 use Rattle.cnb_lifecycle.proofs.LeadingSteps.{leads_yields, minds_same}
-use Rattle.cnb_lifecycle.proofs.KeptFolders.{AreOnce, IsClean, IsDue, IsOpen, IsPlain, child_plain, document_is_like}
-use Rattle.cnb_lifecycle.proofs.KeptFolders.{made_anew, make_parent, may_lay, may_write, none_fits, open_clean}
-use Rattle.cnb_lifecycle.proofs.KeptFolders.{open_laid, open_written, parts_of_plain, removed}
+use Rattle.cnb_lifecycle.proofs.KeptFolders.{AreOnce, IsClean, IsDue, IsNew, IsOpen, IsPlain, child_plain}
+use Rattle.cnb_lifecycle.proofs.KeptFolders.{document_is_like, made_anew, make_parent, may_lay, may_write, none_fits}
+use Rattle.cnb_lifecycle.proofs.KeptFolders.{open_laid, open_new, open_written, parts_of_plain, removed, stands_above}
 use Rattle.cnb_lifecycle.proofs.LayerNames.{IsPlainRow, all_append, all_filter, names_once, row_named, source_named}
 use Rattle.cnb_lifecycle.proofs.ReadNames.{HasId, HasLayerName, document_read, from_ok, group_read, image_layers}
 use Rattle.cnb_lifecycle.proofs.ReadNames.{layers_read, ok_is, table_read, with_ok}
@@ -81,42 +83,32 @@ use Rattle.cnb_lifecycle.proofs.ReadNames.{layers_read, ok_is, table_read, with_
 
 module _ (folder : List ℕ) (path : is_path folder ≡ true) where
   abbrev Open : List (List ℕ) → WorldAndCaches → Tree → Type 0
-  Open names s = IsOpen folder names
+  Open names s t = IsOpen folder names t × AllTell s.caches
+
+  abbrev Due : List (List ℕ) → List ℕ → Tree → Type 0
+  Due names layer t = IsOpen folder names t × IsDue folder layer t
 
   document_leads : (row : LayerRow) (names : List (List ℕ)) (contents : Bool) (restored : Restored)
       → IsPlain row.layer → AreOnce names
-      → Leads beside_caches (λ s t. IsOpen folder names t × IsDue folder row.layer t) (λ so_far. Open names)
+      → Leads beside_caches (λ s t. Due names row.layer t × AllTell s.caches) (λ so_far. Open names)
       (restores_document folder row contents restored)
   unfolding restores_document writes_layer
   document_leads row names contents restored plain once =
       let name = document_name row.layer in
       let part : IsTrue (is_part name) = (parts_of_plain row.layer plain).document in
       let like : is_document_like name ≡ true = document_is_like row.layer in
-      let Due : Tree → Type 0 = λ t. IsOpen folder names t × IsDue folder row.layer t in
       let Fit : Tree → Type 0 = IsOpen folder names in
-      leads_bind beside_caches (λ s. Due) (λ done s. Fit) (λ so_far s. Fit) _ _
-      (leads_in_world (λ caches. Due) (λ done caches. Fit) _
-      (λ caches. leads_writes Due Fit cause_of _ _ (λ t fit. may_write folder path name part like t fit.0.made
-      fit.1.document fit.1.near) (λ bytes t fit. open_written folder path name part like bytes t names once
-      fit.0)))
-      (λ written. leads_gives beside_caches (λ s. Fit) cause_of _)
-
-  laid_leads : (row : LayerRow) (names : List (List ℕ)) (restored : Restored) (tree : Node)
-      → AreOnce (row.layer ∷ names) → Leads beside_caches (Open (row.layer ∷ names)) (λ so_far. Open names)
-      (restores_laid folder row restored tree)
-  unfolding restores_laid lays_contents
-  laid_leads row names restored tree once =
-      let Before : Tree → Type 0 = IsOpen folder (row.layer ∷ names) in
-      let Behind : Tree → Type 0 = λ t. IsOpen folder names t × IsDue folder row.layer t in
-      leads_bind beside_caches (λ s. Before) (λ done s. Behind) (λ so_far. Open names) _ _
-      (leads_in_world (λ caches. Before) (λ done caches. Behind) _
-      (λ caches. leads_told itself (λ s. Before) (λ done s. Behind) of_laying_fault _
-      (leads_lays Before Behind _ _ tree (λ t fit. may_lay folder row.layer names tree t once.0 fit)
-      (λ t after fit around. open_laid folder row.layer t after once.0 around names once fit))))
-      (λ laid. document_leads row names true restored once.0 once.2)
+      leads_bind beside_caches (λ s t. Due names row.layer t × AllTell s.caches) (λ done. Open names)
+      (λ so_far. Open names) _ _
+      (leads_in_world (λ caches t. Due names row.layer t × AllTell caches) (λ done caches t. Fit t × AllTell caches) _
+      (λ caches. leads_kept itself (AllTell caches) (λ s. Due names row.layer) (λ done s. Fit) _
+      (leads_writes (Due names row.layer) Fit cause_of _ _ (λ t fit. may_write folder path name part like t
+      fit.0.made fit.1.document fit.1.near) (λ bytes t fit. open_written folder path name part like bytes t names
+      once fit.0))))
+      (λ written. leads_gives beside_caches (Open names) cause_of _)
 
   fewer : (name : List ℕ) (names : List (List ℕ)) (t : Tree) → IsOpen folder (name ∷ names) t → IsOpen folder names t
-  fewer name names t fit = record { made = fit.made; free = fit.free.1 }
+  fewer name names t fit = record { there = fit.there; made = fit.made; free = fit.free.1 }
 
   skips : {A E : Type 0} (name : List ℕ) (names : List (List ℕ))
       (step : WorldAndCaches → Result A E → WorldAndCaches → Type 0)
@@ -124,28 +116,44 @@ module _ (folder : List ℕ) (path : is_path folder ≡ true) where
       → Leads beside_caches (Open (name ∷ names)) (λ so_far. Open names) step
   skips name names step p = leads_so beside_caches (Open (name ∷ names)) (Open (name ∷ names))
       (λ so_far. Open (name ∷ names)) (λ so_far. Open names) step (λ s t fit. fit)
-      (λ so_far s t fit. fewer name names t fit) p
+      (λ so_far s t fit. (fewer name names t fit.0, fit.1)) p
+
+  -- by what was found of a layer
+  abbrev ByFound : LayerRow → List (List ℕ) → Found → WorldAndCaches → Tree → Type 0
+  ByFound row names answer s t = LaidOr (IsOpen folder (row.layer ∷ names)) (Due names row.layer) answer t
+      × AllTell s.caches
 
   found_leads : (row : LayerRow) (names : List (List ℕ)) (restored : Restored) (answer : Found)
       → AreOnce (row.layer ∷ names)
-      → Leads beside_caches (Open (row.layer ∷ names)) (λ so_far. Open names)
+      → Leads beside_caches (ByFound row names answer) (λ so_far. Open names)
       (restores_found folder row restored answer)
   unfolding restores_found
   found_leads row names restored found.None once = skips row.layer names _
       (leads_yields beside_caches (Open (row.layer ∷ names)) restored)
   found_leads row names restored (found.Damaged asked is bad) once = skips row.layer names _
       (leads_gives beside_caches (Open (row.layer ∷ names)) cause_of _)
-  found_leads row names restored (found.Tree tree) once = laid_leads row names restored tree once
+  found_leads row names restored found.Laid once = document_leads row names true restored once.0 once.2
+
+  held_leads : (row : LayerRow) (names : List (List ℕ)) → AreOnce (row.layer ∷ names)
+      → Leads beside_caches (Open (row.layer ∷ names)) (λ search. ByFound row names search.found)
+      (restores_held folder row)
+  held_leads row names once =
+      let before : List (List ℕ) = row.layer ∷ names in
+      leads_told beside_caches (Open before) (λ search. ByFound row names search.found) of_laying_fault _
+      (leads_restored (IsOpen folder before) (Due names row.layer) row.digest (joined folder row.layer)
+      (λ t fit. stands_above folder row.layer before t path once.0 fit)
+      (λ tree t fit. may_lay folder row.layer names tree t once.0 fit)
+      (λ t after fit around. open_laid folder row.layer t after once.0 around names once fit))
 
   contents_leads : (row : LayerRow) (names : List (List ℕ)) (restored : Restored) → AreOnce (row.layer ∷ names)
       → Leads beside_caches (Open (row.layer ∷ names)) (λ so_far. Open names) (restores_contents folder row restored)
   unfolding restores_contents
   contents_leads row names restored once =
-      let Before : WorldAndCaches → Tree → Type 0 = Open (row.layer ∷ names) in
-      leads_bind beside_caches Before (λ search. Before) (λ so_far. Open names) _ _
-      (leads_in_caches (IsOpen folder (row.layer ∷ names)) _)
-      (λ search. leads_bind beside_caches Before (λ counted. Before) (λ so_far. Open names) _ _
-      (leads_gives beside_caches Before cause_of _)
+      leads_bind beside_caches (Open (row.layer ∷ names)) (λ search. ByFound row names search.found)
+      (λ so_far. Open names) _ _ (held_leads row names once)
+      (λ search. let Fit : WorldAndCaches → Tree → Type 0 = ByFound row names search.found in
+      leads_bind beside_caches Fit (λ counted. Fit) (λ so_far. Open names) _ _
+      (leads_gives beside_caches Fit cause_of _)
       (λ counted. found_leads row names counted search.found once))
 
   part_leads : (name : List ℕ) (names : List (List ℕ)) (source : Option LayerRow) (line : RestoreRow)
@@ -159,8 +167,9 @@ module _ (folder : List ℕ) (path : is_path folder ≡ true) where
   part_leads name names (Some row) part.Meta restored is once =
       subst (λ n. Leads beside_caches (Open (n ∷ names)) (λ so_far. Open names)
       (restores_document folder row false restored)) is
-      (leads_so beside_caches (λ s t. IsOpen folder names t × IsDue folder row.layer t) (Open (row.layer ∷ names))
-      (λ so_far. Open names) (λ so_far. Open names) _ (λ s t fit. (fewer row.layer names t fit, fit.free.0.1))
+      (leads_so beside_caches (λ s t. Due names row.layer t × AllTell s.caches) (Open (row.layer ∷ names))
+      (λ so_far. Open names) (λ so_far. Open names) _
+      (λ s t fit. ((fewer row.layer names t fit.0, fit.0.free.0.1), fit.1))
       (λ so_far s t fit. fit)
       (document_leads row names false restored (subst IsPlain (sym is) once.0) once.2))
   part_leads name names (Some row) part.Both restored is once =
@@ -189,17 +198,17 @@ module _ (folder : List ℕ) (path : is_path folder ≡ true) where
       (λ made. each_leads app cache (layer_names app cache) restored once)
 
   store_leads : (names : List (List ℕ)) (kept : Option StoreRow) → AreOnce names
-      → Leads itself (λ s. IsClean folder) (λ done s. IsOpen folder names) (writes_store folder kept)
+      → Leads itself (λ s. IsNew folder) (λ done s. IsOpen folder names) (writes_store folder kept)
   unfolding writes_store
-  store_leads names None once = leads_so itself (λ s. IsClean folder) (λ s. IsClean folder)
-      (λ done s. IsClean folder) (λ done s. IsOpen folder names) _ (λ s t clean. clean)
-      (λ done s t clean. open_clean folder names t once clean) (leads_yields itself (λ s. IsClean folder) tt)
+  store_leads names None once = leads_so itself (λ s. IsNew folder) (λ s. IsNew folder)
+      (λ done s. IsNew folder) (λ done s. IsOpen folder names) _ (λ s t new. new)
+      (λ done s t new. open_new folder names t once new) (leads_yields itself (λ s. IsNew folder) tt)
   store_leads names (Some row) once =
-      leads_writes (IsClean folder) (IsOpen folder names) cause_of _ _
-      (λ t clean. may_write folder path (codes "store.toml") refl refl t clean.made
-      (none_fits _ (clean.empty _ refl)) (none_fits _ (clean.empty _ refl)))
-      (λ bytes t clean. open_written folder path (codes "store.toml") refl refl bytes t names once
-      (open_clean folder names t once clean))
+      leads_writes (IsNew folder) (IsOpen folder names) cause_of _ _
+      (λ t new. may_write folder path (codes "store.toml") refl refl t new.clean.made
+      (none_fits _ (new.clean.empty _ refl)) (none_fits _ (new.clean.empty _ refl)))
+      (λ bytes t new. open_written folder path (codes "store.toml") refl refl bytes t names once
+      (open_new folder names t once new))
 
 -- ---- a buildpack
 
@@ -207,8 +216,9 @@ module _ (folder : List ℕ) (path : is_path folder ≡ true) where
 abbrev Room : List ℕ → Tree → Type 0
 Room layers t = IsTrue (can_make_folder t layers)
 
+-- and all caches tell what they hold
 abbrev Ready : List ℕ → WorldAndCaches → Tree → Type 0
-Ready layers s = Room layers
+Ready layers s t = Room layers t × AllTell s.caches
 
 module _ (layers : List ℕ) (short : IsTrue (is_short_path layers)) where
   parts_of_short : (nat_le (length layers) 4096 ≡ true) × (is_path layers ≡ true)
@@ -238,8 +248,8 @@ module _ (layers : List ℕ) (short : IsTrue (is_short_path layers)) where
       leads_bind itself (λ s. Room layers) (λ done s. IsClean folder) (λ done s. IsOpen folder names) _ _
       (leads_removes (Room layers) (IsClean folder) cause_of folder (child_plain layers (folder_of id) part)
       (λ t room. removed layers (folder_of id) t part room))
-      (λ removed. leads_bind itself (λ s. IsClean folder) (λ done s. IsClean folder)
-      (λ done s. IsOpen folder names) _ _ (leads_makes (IsClean folder) (IsClean folder) cause_of folder
+      (λ removed. leads_bind itself (λ s. IsClean folder) (λ done s. IsNew folder)
+      (λ done s. IsOpen folder names) _ _ (leads_makes (IsClean folder) (IsNew folder) cause_of folder
       (λ t clean. clean.made) (λ t clean. made_anew folder t clean))
       (λ made. store_leads folder (folder_path id is) names _ once))
 
@@ -255,14 +265,17 @@ module _ (layers : List ℕ) (short : IsTrue (is_short_path layers)) where
       let once : AreOnce names = names_once old gathered
       (all_filter IsPlainRow _ (layers_of sources.previous) app) (all_filter IsPlainRow _ sources.rows cache)
       in
-      let Fit : WorldAndCaches → Tree → Type 0 = λ s. IsOpen folder names in
+      let Fit : WorldAndCaches → Tree → Type 0 = λ s t. IsOpen folder names t × AllTell s.caches in
+      let End : WorldAndCaches → Tree → Type 0 = λ s t. IsOpen folder [] t × AllTell s.caches in
       leads_bind beside_caches (Ready layers) (λ done. Fit) (λ so_far. Ready layers) _ _
-      (leads_in_world (λ caches. Room layers) (λ done caches. IsOpen folder names) _
-      (λ caches. prepares_leads id _ names is once))
+      (leads_in_world (λ caches t. Room layers t × AllTell caches)
+      (λ done caches t. IsOpen folder names t × AllTell caches) _
+      (λ caches. leads_kept itself (AllTell caches) (λ s. Room layers) (λ done s. IsOpen folder names) _
+      (prepares_leads id _ names is once)))
       (λ prepared. leads_bind beside_caches Fit (λ made. Fit) (λ so_far. Ready layers) _ _
       (leads_gives beside_caches Fit cause_of _)
-      (λ made. leads_so beside_caches Fit Fit (λ so_far s. IsOpen folder []) (λ so_far. Ready layers) _
-      (λ s t fit. fit) (λ so_far s t fit. make_parent layers (folder_of id) t some_layers fit.made)
+      (λ made. leads_so beside_caches Fit Fit (λ so_far. End) (λ so_far. Ready layers) _ (λ s t fit. fit)
+      (λ so_far s t fit. (make_parent layers (folder_of id) t some_layers fit.0.made, fit.1))
       (layers_leads folder (folder_path id is) old gathered restored once)))
 
   group_leads : (sources : Sources) (group : List GroupRow) (restored : Restored)
@@ -383,11 +396,31 @@ gathered_plain old places gathered new standing plain h =
     (first_plain [] (all_rows h.given) tt (all_given_plain (left_of h.turns) h.given
     (all_filter IsToldPlain _ h.turns told) h.gave))
 
+-- and all caches tell what they hold
+held_told : (held : Option Held) (document : Option (List ℕ)) → tells_plain_names held document ≡ true
+    → IsTrue (is_some held)
+held_told None None plain = absurd (cc)
+held_told None (Some document) plain = absurd (cc)
+held_told (Some held) document plain = refl
+
+shelves_told : (shelves : List ShelfState) → list_all is_plain_shelf shelves ≡ true → AllByRecursion Tells shelves
+shelves_told [] plain = tt
+shelves_told (shelf ∷ shelves) plain =
+    let parts = and_parts (is_plain_shelf shelf) (list_all is_plain_shelf shelves) plain in
+    (held_told shelf.held shelf.rows parts.0, shelves_told shelves parts.1)
+
+gathered_told : (old : List ShelfState) (places : List ℕ) (gathered : Gathered) (new : List ShelfState)
+    (standing : List ℕ) → list_all is_plain_shelf old ≡ true → Gathers old places gathered new standing
+    → AllByRecursion Tells new
+gathered_told old places gathered new standing plain h = drops_tell h.turns old new places standing gathered.gone
+    h.drops h.same (shelves_told old plain)
+
 -- ---- the command
 
 gathers_leads : (P : Tree → Type 0) → Leads beside_caches
     (λ s t. P t × (list_all is_plain_shelf s.caches.shelves ≡ true))
-    (λ gathered s t. P t × AllByRecursion IsPlainRow gathered.rows) (in_caches (gathers cause_of))
+    (λ gathered s t. (P t × AllTell s.caches) × AllByRecursion IsPlainRow gathered.rows)
+    (in_caches (gathers cause_of))
 unfolding in_caches gathers
 gathers_leads P old new (Ok gathered) h = (
   minds_same _ old.world.files old.world.misused new.world.misused
@@ -397,13 +430,17 @@ gathers_leads P old new (Ok gathered) h = (
   where
     known : (o o1 : Option Tree) → o1 ≡ o → Brings (λ t. P t
         × (list_all is_plain_shelf old.caches.shelves ≡ true))
-        (λ t. P t × AllByRecursion IsPlainRow gathered.rows) o o1
+        (λ t. (P t × AllTell new.caches) × AllByRecursion IsPlainRow gathered.rows) o o1
     known None o1 same = tt
     known (Some t) o1 same = λ both. (
       t,
       same,
       (
-        both.0,
+        (
+          both.0,
+          gathered_told old.caches.shelves old.caches.standing
+              gathered new.caches.shelves new.caches.standing both.1 h.0,
+        ),
         gathered_plain old.caches.shelves old.caches.standing
             gathered new.caches.shelves new.caches.standing both.1 h.0,
       ),
@@ -426,7 +463,7 @@ module _ (words : RestoreWords) (short : IsTrue (is_short_path words.layers)) wh
       let Fit : Tree → Type 0 = Room words.layers in
       let Told : WorldAndCaches → Tree → Type 0 = λ s t. Fit t × (list_all is_plain_shelf s.caches.shelves ≡ true) in
       leads_bind beside_caches Start (λ previous s t. Told s t × AllByRecursion IsPlainRow (layers_of previous))
-      (λ restored s. Fit) _ _
+      (λ restored. Ready words.layers) _ _
       (leads_in_world (λ caches. FitsRestore words caches.shelves)
       (λ previous caches t. (Fit t × (list_all is_plain_shelf caches.shelves ≡ true))
       × AllByRecursion IsPlainRow (layers_of previous)) _
@@ -440,12 +477,15 @@ module _ (words : RestoreWords) (short : IsTrue (is_short_path words.layers)) wh
             previous known.0.names known.1,
       ))
       (leads_reads (FitsRestore words caches.shelves) cause_of _ _ _ (λ t fit. fit_image name t fit.images))))
-      (λ previous. leads_given beside_caches (AllByRecursion IsPlainRow (layers_of previous)) Told (λ restored s. Fit) _
-      (λ app. leads_bind beside_caches Told (λ gathered s t. Fit t × AllByRecursion IsPlainRow gathered.rows)
-      (λ restored s. Fit) _ _ (gathers_leads Fit)
-      (λ gathered. leads_given beside_caches (AllByRecursion IsPlainRow gathered.rows) (λ s. Fit) (λ restored s. Fit) _
-      (λ cache. leads_bind beside_caches (λ s. Fit) (λ restored s. Fit) (λ restored s. Fit) _ _
-      (leads_gives beside_caches (λ s. Fit) cause_of _)
+      (λ previous. leads_given beside_caches (AllByRecursion IsPlainRow (layers_of previous)) Told
+      (λ restored. Ready words.layers) _
+      (λ app. leads_bind beside_caches Told
+      (λ gathered s t. Ready words.layers s t × AllByRecursion IsPlainRow gathered.rows)
+      (λ restored. Ready words.layers) _ _ (gathers_leads Fit)
+      (λ gathered. leads_given beside_caches (AllByRecursion IsPlainRow gathered.rows) (Ready words.layers)
+      (λ restored. Ready words.layers) _
+      (λ cache. leads_bind beside_caches (Ready words.layers) (λ restored. Ready words.layers)
+      (λ restored. Ready words.layers) _ _ (leads_gives beside_caches (Ready words.layers) cause_of _)
       (λ restored. group_leads words.layers short (record { previous = previous; rows = gathered.rows }) group
       restored ids app cache)))))
     where

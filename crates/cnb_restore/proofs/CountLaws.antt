@@ -3,27 +3,27 @@ use Rattle.std.proofs.Common.{◌≡◌, ◌∙◌, refl, sym, ap, subst, ℕ, B
 use Rattle.std.proofs.Common.{Ok, Err}
 use Rattle.cnb_words.specs.declared.analyze.AnalyzeWords.{AnalyzeWords}
 use Rattle.cnb_words.specs.declared.restore.RestoreWords.{RestoreWords}
+use Rattle.cnb_world.specs.Path.{joined}
 use Rattle.image_docs.specs.declared.analyzed.Analyzed.{Analyzed}
 use Rattle.image_docs.specs.declared.layer_row.LayerRow.{LayerRow}
 use Rattle.image_docs.specs.declared.store_row.StoreRow.{StoreRow}
 use Rattle.layer_flags.specs.declared.restore.RestoreRow.{RestoreRow}
 use Rattle.layer_flags.specs.declared.restore.RestoreRow.TheVariants as part
 use Rattle.run_docs.specs.declared.group.GroupRow.{GroupRow}
-use Rattle.shelf_set.proofs.CountLaws.{BesideCaches, beside_link, beside_rest, finds_ends, gathers_ends}
-use Rattle.shelf_set.proofs.CountLaws.{obeys_in_caches, obeys_in_world}
+use Rattle.shelf_set.proofs.CountLaws.{BesideCaches, beside_link, beside_rest, gathers_ends, obeys_in_caches}
+use Rattle.shelf_set.proofs.CountLaws.{obeys_in_world, restores_tree_counts}
 use Rattle.shelf_set.specs.Caches.{WorldAndCaches, in_world}
-use Rattle.shelf_set.specs.declared.finding.Found.{Found}
-use Rattle.shelf_set.specs.declared.finding.Found.TheVariants as found
+use Rattle.shelf_set.specs.Restoring.{restores_tree}
+use Rattle.shelf_set.specs.declared.restoring.Found.{Found}
+use Rattle.shelf_set.specs.declared.restoring.Found.TheVariants as found
 use Rattle.steps.specs.Causes.{Cause}
 use Rattle.steps.specs.Counts.{FileCounts}
 use Rattle.steps.specs.Outside.{Seen}
 use Rattle.steps.specs.Steps.{◌>>=◌, gives, map_err, yields}
 use Rattle.steps.proofs.EndLaws.{Obeys, files_link, files_rest, makes_folder_counts, obeys_bind, obeys_each}
 use Rattle.steps.proofs.EndLaws.{obeys_gives, obeys_told, obeys_yields, reads_counts, removes_counts, writes_counts}
-use Rattle.tree_canon.specs.declared.node.Node.{Node}
-use Rattle.tree_store.proofs.CountLaws.{lay_tree_counts}
 use Rattle.tree_store.specs.Answers as tree_store
-use Rattle.tree_store.specs.Steps.{IsCauseWithin, lays_tree}
+use Rattle.tree_store.specs.Steps.{IsCauseWithin}
 use Rattle.tree_store.specs.declared.fault.StoreFault.{StoreFault}
 use Rattle.tree_store.specs.declared.fault.StoreFault.TheVariants as store
 use Rattle.cnb_restore.specs.declared.fault.RestoreFault.{RestoreFault}
@@ -33,9 +33,9 @@ use Rattle.cnb_restore.specs.declared.sources.Sources.{Sources}
 use Rattle.cnb_restore.specs.Analyzes.{analyzes}
 use Rattle.cnb_restore.specs.Commands.{analyzes_command, refusal_cause, restores_analyzed, restores_command}
 use Rattle.cnb_restore.specs.Faults.{cause_of, of_laying_fault}
-use Rattle.cnb_restore.specs.Layers.{lays_contents, writes_layer, writes_store}
+use Rattle.cnb_restore.specs.Layers.{writes_layer, writes_store}
 use Rattle.cnb_restore.specs.Restores.{prepares_folder, restores, restores_buildpack, restores_contents}
-use Rattle.cnb_restore.specs.Restores.{restores_document, restores_each, restores_found, restores_group, restores_laid}
+use Rattle.cnb_restore.specs.Restores.{restores_document, restores_each, restores_found, restores_group}
 use Rattle.cnb_restore.specs.Restores.{restores_layer, restores_layers, restores_part, restores_rows}
 
 -- ---- `analyze`
@@ -64,30 +64,6 @@ store_counts : (folder : List ℕ) (kept : Option StoreRow) → Obeys FileCounts
 unfolding writes_store
 store_counts folder None = obeys_yields FileCounts cause_of tt files_rest
 store_counts folder (Some row) = writes_counts cause_of _ _
-
--- a tree that is laid is refused for a failed call, or for want of memory
-laid_cause : (root : List ℕ) (fault : StoreFault) → IsCauseWithin root (tree_store.cause_of fault)
-    → cause_of (of_laying_fault fault) ≡ tree_store.cause_of fault
-laid_cause root (store.File path) h = refl
-laid_cause root store.Memory h = refl
-laid_cause root (store.OddFile path) h = absurd h
-laid_cause root (store.Limit kind) h = absurd h
-laid_cause root (store.NoTree digest) h = absurd h
-laid_cause root (store.Damaged asked is bad) h = absurd h
-laid_cause root (store.Clash digest) h = absurd h
-
-laid_counts : (root place : List ℕ) (tree : Node) → Obeys FileCounts cause_of
-    (map_err of_laying_fault (lays_tree root place tree))
-unfolding map_err lays_tree
-laid_counts root place tree old new (Ok done) h = lay_tree_counts root place tree old new (Ok done) h
-laid_counts root place tree old new (Err refusal) (fault, is, h) =
-    subst (λ (cause : Cause). FileCounts (Some cause) old new) (sym (ap cause_of is ∙ laid_cause root fault h.0))
-    (lay_tree_counts root place tree old new (Err fault) h)
-
-contents_counts : (folder : List ℕ) (row : LayerRow) (tree : Node)
-    → Obeys FileCounts cause_of (lays_contents folder row tree)
-unfolding lays_contents
-contents_counts folder row tree = laid_counts _ _ tree
 
 folder_counts : (folder id : List ℕ) (kept : List StoreRow) → Obeys FileCounts cause_of (prepares_folder folder id kept)
 unfolding prepares_folder
@@ -123,24 +99,37 @@ unfolding restores_document
 document_counts folder row contents restored = follows _ _ _ (over_world _ _ (layer_counts folder row))
     (λ written. known _ _)
 
-laid_layer_counts : (folder : List ℕ) (row : LayerRow) (restored : Restored) (tree : Node)
-    → Beside cause_of (restores_laid folder row restored tree)
-unfolding restores_laid
-laid_layer_counts folder row restored tree = follows _ _ _ (over_world _ _ (contents_counts folder row tree))
-    (λ laid. document_counts folder row true restored)
-
 found_counts : (folder : List ℕ) (row : LayerRow) (restored : Restored) (answer : Found)
     → Beside cause_of (restores_found folder row restored answer)
 unfolding restores_found
 found_counts folder row restored found.None = kept restored
 found_counts folder row restored (found.Damaged asked is bad) = known _ _
-found_counts folder row restored (found.Tree tree) = laid_layer_counts folder row restored tree
+found_counts folder row restored found.Laid = document_counts folder row true restored
 
-searched_counts : (folder : List ℕ) (row : LayerRow) (restored : Restored)
+-- a tree that is restored is refused for a failed call, or for want of memory
+laid_cause : (root : List ℕ) (fault : StoreFault) → IsCauseWithin root (tree_store.cause_of fault)
+    → cause_of (of_laying_fault fault) ≡ tree_store.cause_of fault
+laid_cause root (store.File path) h = refl
+laid_cause root store.Memory h = refl
+laid_cause root (store.OddFile path) h = absurd h
+laid_cause root (store.Limit kind) h = absurd h
+laid_cause root (store.NoTree digest) h = absurd h
+laid_cause root (store.Damaged asked is bad) h = absurd h
+laid_cause root (store.Clash digest) h = absurd h
+
+tree_counts : (digest root : List ℕ) → Beside cause_of (map_err of_laying_fault (restores_tree digest root))
+unfolding map_err restores_tree
+tree_counts digest root old new (Ok search) h = restores_tree_counts digest root old new (Ok search) h
+tree_counts digest root old new (Err refusal) (fault, is, h) =
+    subst (λ (cause : Cause). FileCounts (Some cause) old.world new.world)
+    (sym (ap cause_of is ∙ laid_cause root fault h.by.0))
+    (restores_tree_counts digest root old new (Err fault) h)
+
+contents_counts : (folder : List ℕ) (row : LayerRow) (restored : Restored)
     → Beside cause_of (restores_contents folder row restored)
 unfolding restores_contents
-searched_counts folder row restored =
-    follows _ _ _ (obeys_in_caches FileCounts cause_of _ files_rest (finds_ends cause_of row.digest))
+contents_counts folder row restored =
+    follows _ _ _ (tree_counts row.digest (joined folder row.layer))
     (λ search. follows _ _ _ (known _ _) (λ counted. found_counts folder row counted search.found))
 
 part_counts : (folder : List ℕ) (source : Option LayerRow) (line : RestoreRow) (restored : Restored)
@@ -149,7 +138,7 @@ unfolding restores_part
 part_counts folder None line restored = kept restored
 part_counts folder (Some row) part.Nothing restored = kept restored
 part_counts folder (Some row) part.Meta restored = document_counts folder row false restored
-part_counts folder (Some row) part.Both restored = searched_counts folder row restored
+part_counts folder (Some row) part.Both restored = contents_counts folder row restored
 
 each_counts : (folder : List ℕ) (app cache : List LayerRow) (names : List (List ℕ)) (restored : Restored)
     → Beside cause_of (restores_each folder app cache names restored)

@@ -147,7 +147,7 @@ above_name front (c ∷ cs) n q other out h = by (c == 47 && not (bytes_eq front
     by false h later = later h
 
 -- what is before the last slash of a path
-front_more : (xs n : List ℕ) → front_of (xs ++ 47 ∷ n) ≡ xs ++ cond (has_slash n) (47 ∷ front_of n) []
+pub front_more : (xs n : List ℕ) → front_of (xs ++ 47 ∷ n) ≡ xs ++ cond (has_slash n) (47 ∷ front_of n) []
 front_more [] n = refl
 front_more (c ∷ xs) n = ap (λ v. cond v (c ∷ front_of (xs ++ 47 ∷ n)) [])
     (list_any-append (λ b. b == 47) xs (47 ∷ n) ∙ or_right (has_slash xs) (has_slash (47 ∷ n)) refl)

@@ -3,6 +3,7 @@ pub mod CommandLemmas
 pub mod CountLaws
 pub mod FilesLaws
 pub mod FilesLemmas
+pub mod FolderLemmas
 pub mod LayingLemmas
 pub mod ReadLemmas
 pub mod RestoreLemmas

@@ -1,18 +1,20 @@
 -- Layers and buildpacks, one after another.
-use Rattle.std.proofs.Common.{◌≡◌, sym, subst, arith, ℕ, ◌<◌, ◌≤◌, Bor, List, get_or, length, map, Option, Some, Result}
-use Rattle.std.proofs.Common.{false}
-use Rattle.std.proofs.lemmas.List.{get_or-map, length-map}
+use Rattle.std.proofs.Common.{◌≡◌, ◌∙◌, sym, ap, subst, arith, ℕ, ◌<◌, ◌≤◌, Bor, List, get_or, length, map, Option}
+use Rattle.std.proofs.Common.{Some, Result}
+use Rattle.std.proofs.Common.{false, true, ◌++◌, ◌+◌, ◌∷◌, [], take}
+use Rattle.std.proofs.lemmas.List.{get_or-map, length-map, take_all, take_more}
+use Rattle.std.specs.List.{AllByRecursion}
+use Rattle.std.specs.Prelude.{IsTrue}
 use Rattle.image_docs.specs.declared.image.ImageDoc.{ImageDoc}
 use Rattle.image_docs.specs.declared.layer_row.LayerRow.{LayerRow}
 use Rattle.image_docs.specs.declared.store_row.StoreRow.{StoreRow}
 use Rattle.layer_flags.specs.declared.restore.RestoreRow.{RestoreRow}
 use Rattle.layer_flags.specs.declared.restore.RestoreRow.TheVariants as parts
-use Rattle.shelf_set.specs.declared.finding.Found.{Found}
-use Rattle.shelf_set.specs.declared.finding.Found.TheVariants as kinds
-use Rattle.tree_canon.specs.declared.node.Node.{Node}
+use Rattle.shelf_set.specs.declared.restoring.Found.{Found}
+use Rattle.shelf_set.specs.declared.restoring.Found.TheVariants as kinds
 use Rattle.run_docs.specs.declared.group.GroupRow.{GroupRow}
 use Rattle.shelf_set.specs.Caches.{WorldAndCaches}
-use Rattle.cnb_world.specs.Path.{joined}
+use Rattle.cnb_world.specs.Path.{is_part, joined}
 use Rattle.steps.specs.Outside.{Seen}
 use Rattle.steps.specs.Steps.{writes}
 use Rattle.cnb_restore.specs.declared.fault.RestoreFault.{RestoreFault}
@@ -20,9 +22,9 @@ use Rattle.cnb_restore.specs.declared.restored.Restored.{Restored}
 use Rattle.cnb_restore.specs.declared.sources.Sources.{Sources}
 use Rattle.cnb_restore.specs.Faults.{cause_of}
 use Rattle.cnb_restore.specs.Layers.{writes_store}
-use Rattle.cnb_restore.specs.Restores.{prepares_folder, restores_document, restores_each, restores_found, restores_laid}
+use Rattle.cnb_restore.specs.Restores.{prepares_folder, restores_document, restores_each, restores_found}
 use Rattle.cnb_restore.specs.Restores.{restores_layer, restores_layers, restores_part, restores_rows}
-use Rattle.cnb_restore.specs.RestoresFrom.{restores_from}
+use Rattle.cnb_restore.specs.RestoresFrom.{HavePartNames, restores_named}
 use Rattle.cnb_restore.specs.Rows.{restored_part, row_of, source_of}
 
 -- a layer by its rows
@@ -78,10 +80,10 @@ stored_as folder kept row old result new same h = subst (λ k. writes_store fold
 
 pub group_from : (layers : List ℕ) (group rows : List GroupRow) (previous : Option ImageDoc)
     (old : WorldAndCaches) (result : Result Restored RestoreFault) (new : WorldAndCaches)
-    → group ≡ rows → restores_from layers group previous old result new
-    → restores_from layers rows previous old result new
+    → group ≡ rows → restores_named layers group previous old result new
+    → restores_named layers rows previous old result new
 group_from layers group rows previous old result new same h = subst
-    (λ g. restores_from layers g previous old result new) same h
+    (λ g. restores_named layers g previous old result new) same h
 
 -- a name in a list of borrowed names
 abbrev pub texts_of : List (Bor (List ℕ)) → List (List ℕ)
@@ -107,12 +109,12 @@ pub document_as : (folder name want : List ℕ) (Says : List ℕ → Type 0) (ol
 document_as folder name want Says old result new same h = subst
     (λ n. writes cause_of (joined folder n) Says old result new) same h
 
-pub found_so : (folder : List ℕ) (row : LayerRow) (restored : Restored) (answer : Found) (tree : Node)
-    (old : WorldAndCaches) (result : Result Restored RestoreFault) (new : WorldAndCaches)
-    → answer ≡ kinds.Tree tree → restores_laid folder row restored tree old result new
+pub found_so : (folder : List ℕ) (row : LayerRow) (restored : Restored) (answer : Found) (old : WorldAndCaches)
+    (result : Result Restored RestoreFault) (new : WorldAndCaches)
+    → answer ≡ kinds.Laid → restores_document folder row true restored old result new
     → restores_found folder row restored answer old result new
 unfolding restores_found
-found_so folder row restored answer tree old result new is h = subst
+found_so folder row restored answer old result new is h = subst
     (λ f. restores_found folder row restored f old result new) (sym is) h
 
 pub meta_so : (folder : List ℕ) (row : LayerRow) (line : RestoreRow) (restored : Restored) (old : WorldAndCaches)
@@ -122,3 +124,18 @@ pub meta_so : (folder : List ℕ) (row : LayerRow) (line : RestoreRow) (restored
 unfolding restores_part
 meta_so folder row line restored old result new is h = subst
     (λ p. restores_part folder (Some row) p restored old result new) (sym is) h
+
+-- names seen row by row
+all_append : {X : Type 0} (P : X → Type 0) (xs ys : List X) → AllByRecursion P xs → AllByRecursion P ys
+    → AllByRecursion P (xs ++ ys)
+all_append P [] ys p q = q
+all_append P (x ∷ xs) ys p q = (p.0, all_append P xs ys p.1 q)
+
+pub one_more_named : (rows : List LayerRow) (i : ℕ) (row : LayerRow) → i < length rows → row ≡ get_or rows i row
+    → HavePartNames (take i rows) → IsTrue (is_part row.layer) → HavePartNames (take (i + 1) rows)
+one_more_named rows i row lt is named one = subst HavePartNames
+    (sym (take_more rows i row lt ∙ ap (λ r. take i rows ++ r ∷ []) (sym is)))
+    (all_append (λ (row : LayerRow). IsTrue (is_part row.layer)) (take i rows) (row ∷ []) named (one, tt))
+
+pub all_named : (rows : List LayerRow) (i : ℕ) → length rows ≤ i → HavePartNames (take i rows) → HavePartNames rows
+all_named rows i le named = subst HavePartNames (take_all i rows le) named

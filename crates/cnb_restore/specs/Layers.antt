@@ -9,11 +9,9 @@ use Rattle.run_docs.specs.Layer.{layer_in}
 use Rattle.run_docs.specs.Store.{store_in}
 use Rattle.run_docs.specs.declared.layer.LayerDoc.{LayerDoc}
 use Rattle.steps.specs.Outside.{Seen}
-use Rattle.steps.specs.Steps.{map_err, writes, yields}
-use Rattle.tree_canon.specs.declared.node.Node.{Node}
-use Rattle.tree_store.specs.Steps.{lays_tree}
+use Rattle.steps.specs.Steps.{writes, yields}
 use Rattle.cnb_restore.specs.declared.fault.RestoreFault.{RestoreFault}
-use Rattle.cnb_restore.specs.Faults.{cause_of, of_laying_fault}
+use Rattle.cnb_restore.specs.Faults.{cause_of}
 use Rattle.image_files.specs.Paths.{document_name}
 
 -- its document: the metadata, for nothing yet
@@ -34,7 +32,3 @@ writes_layer folder row = writes cause_of (joined folder (document_name row.laye
 unfoldable pub writes_store : List ℕ → Option StoreRow → Seen → Result (Unit {0}) RestoreFault → Seen → Type 0
 writes_store folder None = yields tt
 writes_store folder (Some row) = writes cause_of (joined folder (codes "store.toml")) (ReadsAsStore row.meta)
-
--- a layer's contents, in its folder
-unfoldable pub lays_contents : List ℕ → LayerRow → Node → Seen → Result (Unit {0}) RestoreFault → Seen → Type 0
-lays_contents folder row tree = map_err of_laying_fault (lays_tree (joined folder row.layer) (codes "/") tree)

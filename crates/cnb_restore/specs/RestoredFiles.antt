@@ -18,11 +18,9 @@ use Rattle.layer_flags.specs.declared.restore.RestoreRow.TheVariants as line
 use Rattle.layer_paths.specs.Paths.{layers_folder}
 use Rattle.run_docs.specs.declared.group.GroupRow.{GroupRow}
 use Rattle.shelf_set.specs.Caches.{Caches, WorldAndCaches}
-use Rattle.shelf_set.specs.Finding.{Finds}
+use Rattle.shelf_set.specs.Finding.{Finds, InCaches, Whole, Missing, Broken}
 use Rattle.shelf_set.specs.Gathering.{Gathers}
-use Rattle.shelf_set.specs.declared.finding.Found.{Found}
-use Rattle.shelf_set.specs.declared.finding.Found.TheVariants as found
-use Rattle.shelf_set.specs.declared.finding.Search.{Search}
+use Rattle.shelf_set.specs.Restoring.{AllTell}
 use Rattle.shelf_set.specs.declared.gathering.Gathered.{Gathered}
 use Rattle.steps.specs.Keeping.{folder_paths}
 use Rattle.tree_canon.specs.declared.node.Node.{Node}
@@ -67,8 +65,13 @@ digests_of [] = []
 digests_of (Metadata row ∷ wanted) = digests_of wanted
 digests_of (Contents row ∷ wanted) = row.digest ∷ digests_of wanted
 
--- caches are searched for digests, one after another, and this is what each search found and dropped
-abbrev pub Searched : List (List ℕ) → Caches → List Search → Caches → Type 0
+-- what a search found and dropped
+pub record CacheSearch : Type 0 where
+  pub found : InCaches
+  pub gone : List ℕ
+
+-- caches are searched for digests, one after another
+abbrev pub Searched : List (List ℕ) → Caches → List CacheSearch → Caches → Type 0
 Searched [] old [] new = new ≡ old
 Searched (digest ∷ digests) old (search ∷ searches) new = (mid : Caches)
     × Finds old.shelves old.standing digest search.found mid.shelves mid.standing search.gone
@@ -86,23 +89,23 @@ abbrev pub layer : LayerRow → Option Node → Layer
 layer row contents = record { row = row; contents = contents }
 
 -- nothing of a layer whose contents no cache holds; and damaged contents end a restoration
-abbrev pub found_layer : LayerRow → Found → List Layer → List Layer
-found_layer row found.None later = later
-found_layer row (found.Damaged asked is bad) later = []
-found_layer row (found.Tree tree) later = layer row (Some tree) ∷ later
+abbrev pub found_layer : LayerRow → InCaches → List Layer → List Layer
+found_layer row Missing later = later
+found_layer row (Broken asked is bad) later = []
+found_layer row (Whole tree) later = layer row (Some tree) ∷ later
 
 -- the layers that come of those that are wanted, by what the searches found
-abbrev pub layers_found : List Wanted → List Search → List Layer
+abbrev pub layers_found : List Wanted → List CacheSearch → List Layer
 layers_found [] searches = []
 layers_found (Metadata row ∷ wanted) searches = layer row None ∷ layers_found wanted searches
 layers_found (Contents row ∷ wanted) [] = []
 layers_found (Contents row ∷ wanted) (search ∷ searches) = found_layer row search.found (layers_found wanted searches)
 
 -- what was found is not damaged
-abbrev pub IsSound : Found → Type 0
-IsSound found.None = Unit {0}
-IsSound (found.Damaged asked is bad) = ⊥
-IsSound (found.Tree tree) = Unit {0}
+abbrev pub IsSound : InCaches → Type 0
+IsSound Missing = Unit {0}
+IsSound (Broken asked is bad) = ⊥
+IsSound (Whole tree) = Unit {0}
 
 -- a layer that is restored, and the bytes of its document
 pub record Part : Type 0 where
@@ -114,7 +117,7 @@ pub record Part : Type 0 where
 pub record Restoration : Type 0 where
   pub folder : List ℕ
   pub store : Option (List ℕ)
-  pub searches : List Search
+  pub searches : List CacheSearch
   pub parts : List Part
 
 -- `store.toml` is there where the previous image keeps something for the buildpack, and reads as that
@@ -143,7 +146,7 @@ RestoresEach layers sources _ old _ new = ⊥
 
 -- ---- what is told of it
 
-abbrev pub told_search : Restored → Search → Restored
+abbrev pub told_search : Restored → CacheSearch → Restored
 told_search restored search = after_search search.gone restored
 
 abbrev pub told_layer : Restored → Layer → Restored
@@ -208,7 +211,7 @@ AreLeft found (Some files) new = (left : Tree) × (new ≡ Some left)
 -- ---- the whole
 
 -- The previous image is read, the rows of the caches are gathered, what these say of the buildpacks is restored and
--- told, and the files are as they were but for that.
+-- told, and where all caches tell what they hold, the files are as they were but for that.
 pub record LeavesRestored (store : List ℕ) (name : Option (List ℕ)) (group : List GroupRow) (layers : List ℕ)
     (old : WorldAndCaches) (restored : Restored) (new : WorldAndCaches) : Type 0 where
   pub previous : Option ImageDoc
@@ -219,4 +222,4 @@ pub record LeavesRestored (store : List ℕ) (name : Option (List ℕ)) (group :
   pub all : List Restoration
   pub each : RestoresEach layers (record { previous = previous; rows = gathered.rows }) group between all new.caches
   pub told : restored ≡ told_of gathered all
-  pub files : AreLeft (with_buildpacks all) old.world.files new.world.files
+  pub files : AllTell old.caches → AreLeft (with_buildpacks all) old.world.files new.world.files

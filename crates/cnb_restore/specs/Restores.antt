@@ -1,25 +1,27 @@
 -- What `restore` does, in the order of its work (platform.md, "restorer").
 use Rattle.std.specs.Prelude.{ℕ, Bool, true, false, List, Option, Some, None, Result, Ok, Err}
+use Rattle.cnb_world.specs.Path.{joined}
 use Rattle.image_docs.specs.declared.layer_row.LayerRow.{LayerRow}
 use Rattle.image_docs.specs.declared.store_row.StoreRow.{StoreRow}
 use Rattle.layer_flags.specs.declared.restore.RestoreRow.{RestoreRow}
 use Rattle.layer_flags.specs.declared.restore.RestoreRow.TheVariants as part
 use Rattle.run_docs.specs.declared.group.GroupRow.{GroupRow}
 use Rattle.shelf_set.specs.Caches.{WorldAndCaches, in_caches, in_world}
-use Rattle.shelf_set.specs.CacheSteps.{finds, gathers}
-use Rattle.shelf_set.specs.declared.finding.Found.{Found}
-use Rattle.shelf_set.specs.declared.finding.Found.TheVariants as found
+use Rattle.shelf_set.specs.CacheSteps.{gathers}
+use Rattle.shelf_set.specs.Restoring.{restores_tree}
+use Rattle.shelf_set.specs.declared.restoring.Found.{Found}
+use Rattle.shelf_set.specs.declared.restoring.Found.TheVariants as found
+use Rattle.shelf_set.specs.declared.restoring.Search.{Search}
 use Rattle.steps.specs.Each.{for_each}
 use Rattle.steps.specs.Outside.{Seen}
-use Rattle.steps.specs.Steps.{◌>>=◌, gives, makes_folder, reads, removes, yields}
-use Rattle.tree_canon.specs.declared.node.Node.{Node}
+use Rattle.steps.specs.Steps.{◌>>=◌, gives, makes_folder, map_err, reads, removes, yields}
 use Rattle.cnb_restore.specs.declared.fault.RestoreFault.{RestoreFault}
 use Rattle.cnb_restore.specs.declared.fault.RestoreFault.TheVariants.{Damaged}
 use Rattle.cnb_restore.specs.declared.restored.Restored.{Restored}
 use Rattle.cnb_restore.specs.declared.sources.Sources.{Sources}
 use Rattle.cnb_restore.specs.Analyzes.{OnlyImage, is_fit_image, previous_in}
-use Rattle.cnb_restore.specs.Faults.{cause_of}
-use Rattle.cnb_restore.specs.Layers.{lays_contents, writes_layer, writes_store}
+use Rattle.cnb_restore.specs.Faults.{cause_of, of_laying_fault}
+use Rattle.cnb_restore.specs.Layers.{writes_layer, writes_store}
 use Rattle.layer_paths.specs.Paths.{layers_folder}
 use Rattle.cnb_restore.specs.Images.{kept_for, layers_of, store_of}
 use Rattle.cnb_restore.specs.Restored.{after_search, gathered_first, with_layer}
@@ -35,21 +37,20 @@ restores_document folder row contents restored = do
   written ← in_world (writes_layer folder row)
   gives cause_of (Ok (with_layer row contents restored))
 
--- a layer's contents, and its document
-unfoldable pub restores_laid : List ℕ → LayerRow → Restored → Node → Restoring
-restores_laid folder row restored tree = do
-  laid ← in_world (lays_contents folder row tree)
-  restores_document folder row true restored
-
--- a layer by what the caches hold under its digest: nothing of it where no cache has them
+-- a layer by what was found under its digest: nothing of it where no cache has its contents, and where they are laid
+-- its document
 unfoldable pub restores_found : List ℕ → LayerRow → Restored → Found → Restoring
 restores_found folder row restored found.None = yields restored
 restores_found folder row restored (found.Damaged asked is bad) = gives cause_of (Err (Damaged asked is bad))
-restores_found folder row restored (found.Tree tree) = restores_laid folder row restored tree
+restores_found folder row restored found.Laid = restores_document folder row true restored
+
+-- a layer's contents, where caches have them
+abbrev pub restores_held : List ℕ → LayerRow → WorldAndCaches → Result Search RestoreFault → WorldAndCaches → Type 0
+restores_held folder row = map_err of_laying_fault (restores_tree row.digest (joined folder row.layer))
 
 unfoldable pub restores_contents : List ℕ → LayerRow → Restored → Restoring
 restores_contents folder row restored = do
-  search ← in_caches (finds cause_of row.digest)
+  search ← restores_held folder row
   counted ← gives cause_of (Ok (after_search search.gone restored))
   restores_found folder row counted search.found
 

@@ -1,22 +1,17 @@
 // What is written of a restored layer.
-ghost use Rattle.std.specs.Prelude.{◌≡◌, ◌≤◌, IfOk, Some, codes, length};
+ghost use Rattle.std.specs.Prelude.{◌≤◌, IfOk, Some, length};
 ghost use Rattle.std.specs.Option.{option_copied};
 ghost use Rattle.steps.specs.Outside.{seen};
-ghost use Rattle.steps.specs.Results.{with_fault};
-ghost use Rattle.cnb_restore.specs.Faults.{of_laying_fault};
-ghost use Rattle.cnb_restore.specs.Layers.{ReadsAsLayer, ReadsAsStore, lays_contents, writes_layer, writes_store};
+ghost use Rattle.cnb_restore.specs.Layers.{ReadsAsLayer, ReadsAsStore, writes_layer, writes_store};
 
 use crate::fault::RestoreFault;
 use crate::paths::document_name;
 use cnb_toml::Meta;
-use cnb_world::{Bytes, Memory, Path, PathFault, World};
+use cnb_world::{Bytes, Memory, Path, World};
 use doc_files::write_document;
 use image_docs::{LayerRow, StoreRow};
-use layer_paths::contents_path;
 use run_docs::{LayerDoc, StoreToml, write_layer, write_store};
 use std::alloc::Global;
-use tree_canon::Tree;
-use tree_store::{StoreFault, write_tree};
 
 fn layer_bytes(alloc: Global, meta: &Meta) -> Result<Bytes, Memory>
     ensures { IfOk result (ReadsAsLayer meta.now) }
@@ -85,40 +80,4 @@ pub(crate) fn write_store_document<W: World>(
         Some(row) => write_kept(alloc, world, folder, row),
         None => Ok(()),
     }
-}
-
-fn root(alloc: Global) -> Result<Path, Memory>
-    ensures { IfOk result (λ path. path ≡ codes "/") }
-{
-    match Path::parse(alloc, "/") {
-        Ok(path) => Ok(path),
-        Err(PathFault::Memory) => Err(Memory),
-        Err(PathFault::NotPath) => unreachable!(),
-    }
-}
-
-fn laid(answer: Result<(), StoreFault>) -> Result<(), RestoreFault>
-    ensures { result ≡ with_fault of_laying_fault answer }
-{
-    match answer {
-        Ok(()) => Ok(()),
-        Err(StoreFault::File(path)) => Err(RestoreFault::File(path)),
-        Err(_) => Err(RestoreFault::Memory),
-    }
-}
-
-/// Lays the contents of a layer, in its folder.
-pub(crate) fn lay_contents<W: World>(
-    alloc: Global,
-    world: &mut W,
-    folder: &Path,
-    row: &LayerRow,
-    tree: &Tree,
-) -> Result<(), RestoreFault>
-    requires { length folder.now ≤ 4352 }
-    ensures step { lays_contents folder.now row.now tree.now (seen W.World world.old) result (seen W.World world.new) }
-{
-    let path = contents_path(alloc, folder, &row.layer)?;
-    let place = root(alloc)?;
-    laid(write_tree(alloc, world, &path, &place, tree))
 }

@@ -1,24 +1,28 @@
 // The layers of a buildpack.
-ghost use Rattle.std.specs.Prelude.{◌≡◌, ◌≤◌, ◌<◌, ◌+◌, ◌^◌, IfOk, Some, length, map};
+ghost use Rattle.std.specs.Prelude.{◌≡◌, ◌≤◌, ◌<◌, ◌+◌, ◌^◌, false, IfOk, Some, length, map};
 ghost use Rattle.std.specs.Option.{option_copied};
 ghost use Rattle.shelf_set.specs.Caches.{caches_seen, world_and_caches};
 ghost use Rattle.shelf_set.specs.Caches as seen_caches;
-ghost use Rattle.shelf_set.specs.CacheSteps.{finds};
 ghost use Rattle.steps.specs.Outside.{seen};
-ghost use Rattle.cnb_restore.specs.Faults.{cause_of};
+ghost use Rattle.steps.specs.Results.{with_fault};
+ghost use Rattle.cnb_world.specs.Path.{joined};
+ghost use Rattle.cnb_world.specs.Tree.{is_root};
+ghost use Rattle.cnb_restore.specs.Faults.{of_laying_fault};
 ghost use Rattle.cnb_restore.specs.Restores.{restores_contents, restores_document, restores_each, restores_found};
-ghost use Rattle.cnb_restore.specs.Restores.{restores_laid, restores_layer, restores_layers, restores_part};
+ghost use Rattle.cnb_restore.specs.Restores.{restores_held, restores_layer, restores_layers, restores_part};
 
 use crate::fault::RestoreFault;
-use crate::layer::{lay_contents, write_layer_document};
+use crate::layer::write_layer_document;
 use crate::restored::{Restored, after_search, with_layer};
 use crate::rows::{layer_names, restored_part, row_of, source_of};
-use cnb_world::{Path, Shelf, World};
+use cnb_toml::LayerName;
+use cnb_world::{Memory, Path, Shelf, World};
 use image_docs::LayerRow;
 use layer_flags::RestoreRow;
-use shelf_set::{Caches, Found, Search, find};
+use layer_paths::contents_path;
+use shelf_set::{Caches, Found, Search, restore_tree};
 use std::alloc::Global;
-use tree_canon::{Digest, Tree};
+use tree_store::StoreFault;
 
 // Writes the document of a layer, with its contents there or not.
 fn restore_document<W: World>(
@@ -39,25 +43,7 @@ fn restore_document<W: World>(
     Ok(after)
 }
 
-// Lays the contents of a layer and writes its document.
-fn restore_laid<W: World>(
-    alloc: Global,
-    world: &mut W,
-    folder: &Path,
-    row: &LayerRow,
-    tree: &Tree,
-    restored: Restored,
-) -> Result<Restored, RestoreFault>
-    requires { length folder.now ≤ 4352 }
-    ensures step { (caches : seen_caches.Caches) → restores_laid folder.now row.now restored tree.now
-        (world_and_caches (seen W.World world.old) caches) result (world_and_caches (seen W.World world.new) caches) }
-    ensures gone { IfOk result (λ after. after.gone ≡ restored.gone) }
-{
-    lay_contents(alloc, world, folder, row, tree)?;
-    restore_document(alloc, world, folder, row, true, restored)
-}
-
-// Restores a layer by what the caches hold under its digest.
+// Restores a layer by what was found under its digest.
 #[tactic(auto, unfolding(crate::specs::Restores::restores_found, steps::specs::Steps::yields, steps::specs::Steps::gives))]
 fn restore_found<W: World>(
     alloc: Global,
@@ -75,20 +61,59 @@ fn restore_found<W: World>(
     match found {
         Found::None => Ok(restored),
         Found::Damaged { asked, found, bad } => Err(RestoreFault::Damaged { asked, found, bad }),
-        Found::Tree(tree) => restore_laid(alloc, world, folder, row, &tree, restored),
+        Found::Laid => restore_document(alloc, world, folder, row, true, restored),
     }
 }
 
-// Searches the caches for a tree.
-#[tactic(auto, unfolding(shelf_set::specs::CacheSteps::finds), using(shelf_set::proofs::CountLemmas::finds_count))]
-fn find_tree(alloc: Global, caches: &mut Caches, digest: &Digest) -> Result<Search, RestoreFault>
-    ensures step { finds cause_of digest.now (caches_seen ⟦<dyn Shelf as Shelf>⟧ caches.old) result
-        (caches_seen ⟦<dyn Shelf as Shelf>⟧ caches.new) }
+// Where the contents of a layer stand. It isn't `/`: its last part is the layer's name, which is looked at to see that it
+// isn't empty.
+#[tactic(auto, using(crate::proofs::FolderLemmas::below_plain))]
+fn contents_below(alloc: Global, folder: &Path, layer: &LayerName) -> Result<Path, Memory>
+    requires { length folder.now ≤ 4352 }
+    ensures path { IfOk result (λ path. path ≡ joined folder.now layer.now) }
+    ensures short { IfOk result (λ path. length path ≤ 8192) }
+    ensures plain { IfOk result (λ path. is_root path ≡ false) }
+{
+    let _name = layer.as_str();
+    let path = contents_path(alloc, folder, layer)?;
+    Ok(path)
+}
+
+// What was found, or why nothing could be: laying a tree is refused for a failed call or for want of memory alone.
+fn searched(answer: Result<Search, StoreFault>) -> Result<Search, RestoreFault>
+    ensures { result ≡ with_fault of_laying_fault answer }
+{
+    match answer {
+        Ok(search) => Ok(search),
+        Err(StoreFault::File(path)) => Err(RestoreFault::File(path)),
+        Err(_) => Err(RestoreFault::Memory),
+    }
+}
+
+// Searches the caches for the contents of a layer, and lays them where a cache has them.
+fn restore_held<W: World>(
+    alloc: Global,
+    world: &mut W,
+    caches: &mut Caches,
+    folder: &Path,
+    row: &LayerRow,
+) -> Result<Search, RestoreFault>
+    requires { length folder.now ≤ 4352 }
+    ensures step { restores_held folder.now row.now
+        (world_and_caches (seen W.World world.old) (caches_seen ⟦<dyn Shelf as Shelf>⟧ caches.old)) result
+        (world_and_caches (seen W.World world.new) (caches_seen ⟦<dyn Shelf as Shelf>⟧ caches.new)) }
     ensures count { IfOk result (λ search.
         length search.gone + length caches.new.places ≡ length caches.old.places) }
 {
-    let search = find(alloc, &mut caches.shelves, &mut caches.places, digest)?;
-    Ok(search)
+    let path = contents_below(alloc, folder, &row.layer)?;
+    searched(restore_tree(
+        alloc,
+        world,
+        &mut caches.shelves,
+        &mut caches.places,
+        &row.digest,
+        &path,
+    ))
 }
 
 // Restores a layer with its contents, where a cache has them.
@@ -108,7 +133,7 @@ fn restore_contents<W: World>(
     ensures count { IfOk result (λ after. length after.gone + length caches.new.places
         ≡ length restored.gone + length caches.old.places) }
 {
-    let Search { found, gone } = find_tree(alloc, caches, &row.digest)?;
+    let Search { found, gone } = restore_held(alloc, world, caches, folder, row)?;
     let counted = after_search(restored, &gone)?;
     restore_found(alloc, world, folder, row, found, counted)
 }

@@ -2,6 +2,7 @@
 ghost use Rattle.std.specs.Prelude.{◌≡◌, ◌++◌, IfOk, OnOk, map};
 ghost use Rattle.std.specs.Option.{option_copied};
 ghost use Rattle.cnb_restore.specs.Images.{kept_for};
+ghost use Rattle.cnb_restore.specs.RestoresFrom.{HavePartNames};
 ghost use Rattle.cnb_restore.specs.Rows.{are_same, flags_of, layer_names, restored_part, row_of, rows_of, source_of};
 
 use cnb_toml::{BpId, ascending};
@@ -110,5 +111,14 @@ pub(crate) fn source_of<'a>(
         Some(row) if row.flags.launch => app,
         Some(_) => cache,
         None => cache,
+    }
+}
+
+/// Looks at the name of each layer, to see that it is a part of a path.
+pub(crate) fn see_names(rows: &[LayerRow])
+    ensures { HavePartNames rows.now }
+{
+    for row in rows {
+        let _name = row.layer.as_str();
     }
 }

@@ -15,7 +15,10 @@ use Rattle.cnb_world.specs.declared.shelf.ShelfFault.TheVariants as shelf
 use Rattle.tree_canon.specs.Judging.{IsJudged}
 use Rattle.tree_canon.specs.declared.judging.Judged.{Judged}
 use Rattle.shelf_set.specs.ShelfState.{ShelfState}
-use Rattle.shelf_set.specs.Searching.{Asks, Reads}
+use Rattle.shelf_set.specs.Searching.{Asks, IsChecked, IsSpelled, Reads}
+use Rattle.shelf_set.specs.declared.ask.Checked.{Checked}
+use Rattle.shelf_set.specs.declared.ask.Checked.TheVariants as checked
+use Rattle.tree_canon.specs.declared.judging.Judged.TheVariants as kinds
 
 -- these are the first of the bytes under a digest, so many pieces
 abbrev pub AreFirst : Option (List ℕ) → ℕ → List ℕ → Type 0
@@ -100,6 +103,11 @@ answered_so : (digest : List ℕ) (at : ℕ) (result : Result (Option (List ℕ)
     (now new : ShelfState) → result ≡ Ok answer → Reads digest at result now new → Reads digest at (Ok answer) now new
 answered_so digest at result answer now new is reads = subst (λ r. Reads digest at r now new) is reads
 
+-- what is answered, by what a shelf was asked
+abbrev pub ChecksSo : List ℕ → Result (Option Checked) ShelfFault → ShelfState → ShelfState → Type 0
+ChecksSo digest result before after = (asked : Result (Option Judged) ShelfFault) × IsChecked asked result
+    × Asks digest asked before after
+
 module _ (digest piece view : List ℕ) (number : ℕ) (result : Result (Option (List ℕ)) ShelfFault)
     (found : Option (List ℕ)) (Holds More : List ℕ → Type 0) (before now new : ShelfState)
     (so_far : Reading digest number Holds before now) (is : result ≡ Ok found) (some : found ≡ Some piece)
@@ -122,17 +130,34 @@ module _ (digest piece view : List ℕ) (number : ℕ) (result : Result (Option 
         (piece_read before.held digest so_far.bytes piece number so_far.told told_before);
   }
 
-  pub reading_last : (judged : Judged) → length piece < 65536
-      → ((bytes : List ℕ) → More bytes → IsJudged digest bytes judged) → Asks digest (Ok (Some judged)) before new
-  reading_last judged short ends = record {
+  last_so : (judged : Judged) → length piece < 65536 → IsJudged digest (so_far.bytes ++ view) judged
+      → Asks digest (Ok (Some judged)) before new
+  last_so judged short is_judged = record {
     held = answered.held ∙ so_far.held;
     rows = answered.rows ∙ so_far.rows;
     faults = answered.faults ∙ so_far.faults;
     bytes = Some (so_far.bytes ++ view);
-    judged = ends (so_far.bytes ++ view) (more so_far.bytes so_far.holds);
+    judged = is_judged;
     told = subst (λ v. IfSome before.held (λ h. Some (so_far.bytes ++ v) ≡ get h digest)) (sym seen)
         (last_read before.held digest so_far.bytes piece number so_far.told told_before short);
   }
+
+  pub reading_last : (judged : Judged) → length piece < 65536
+      → ((bytes : List ℕ) → More bytes → IsJudged digest bytes judged) → Asks digest (Ok (Some judged)) before new
+  reading_last judged short ends = last_so judged short (ends (so_far.bytes ++ view) (more so_far.bytes so_far.holds))
+
+  -- the same of bytes of which nothing is kept
+  pub check_last : (is : Checked) → length piece < 65536 → ((bytes : List ℕ) → More bytes → IsSpelled digest bytes is)
+      → ChecksSo digest (Ok (Some is)) before new
+  check_last is short ends = by is (ends (so_far.bytes ++ view) (more so_far.bytes so_far.holds))
+    where
+      by : (is : Checked) → IsSpelled digest (so_far.bytes ++ view) is → ChecksSo digest (Ok (Some is)) before new
+      by checked.Tree (tree, j) = (Ok (Some (kinds.Tree tree)), refl, last_so (kinds.Tree tree) short j)
+      by (checked.Damaged asked found bad) j = (
+        Ok (Some (kinds.Damaged asked found bad)),
+        refl,
+        last_so (kinds.Damaged asked found bad) short j,
+      )
 
 nothing_so : (held : Option Held) (digest : List ℕ) (number : ℕ) → Told held digest number None
     → IfSome held (λ h. (let o : Option (List ℕ) = None in o) ≡ get h digest)
@@ -200,3 +225,29 @@ reading_stops digest number Holds before now so_far = record {
   judged = tt;
   told = nothing_said before.held;
 }
+
+-- ---- the same of bytes of which nothing is kept
+
+pub check_fails : (digest : List ℕ) (number : ℕ) (result : Result (Option (List ℕ)) ShelfFault)
+    (fault : ShelfFault) (end : Result (Option Checked) ShelfFault) (Holds : List ℕ → Type 0)
+    (before now new : ShelfState) → Reading digest number Holds before now → result ≡ Err fault → end ≡ Err fault
+    → Reads digest (number * 65536) result now new → ChecksSo digest end before new
+check_fails digest number result fault end Holds before now new so_far is ends reads =
+    (Err fault, ends, reading_fails digest number result fault Holds before now new so_far is reads)
+
+pub check_nothing : (digest : List ℕ) (number : ℕ) (result : Result (Option (List ℕ)) ShelfFault)
+    (found : Option (List ℕ)) (Holds : List ℕ → Type 0) (before now new : ShelfState)
+    → Reading digest number Holds before now → result ≡ Ok found → found ≡ None
+    → Reads digest (number * 65536) result now new → ChecksSo digest (Ok None) before new
+check_nothing digest number result found Holds before now new so_far is none reads =
+    (Ok None, refl, reading_nothing digest number result found Holds before now new so_far is none reads)
+
+-- memory ran out behind a piece
+pub check_stops : (digest : List ℕ) (number : ℕ) (Holds : List ℕ → Type 0) (before now : ShelfState)
+    (end : Result (Option Checked) ShelfFault) → Reading digest number Holds before now → end ≡ Err shelf.Memory
+    → ChecksSo digest end before now
+check_stops digest number Holds before now end so_far is = (
+  Err shelf.Memory,
+  is,
+  reading_stops digest number Holds before now so_far,
+)

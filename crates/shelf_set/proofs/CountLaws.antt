@@ -5,9 +5,12 @@ use Rattle.image_docs.specs.declared.layer_row.LayerRow.{LayerRow}
 use Rattle.steps.specs.Causes.{Cause, FileFailed, ChildFailed, OutOfMemory, Decided}
 use Rattle.steps.specs.Outside.{Seen}
 use Rattle.steps.proofs.EndLaws.{Links, Obeys, Relation, Rests}
-use Rattle.shelf_set.specs.CacheSteps.{finds, gathers}
+use Rattle.shelf_set.specs.CacheSteps.{gathers}
 use Rattle.shelf_set.specs.Caches.{Caches, WorldAndCaches, in_caches, in_world}
 use Rattle.shelf_set.specs.Caching.{stores_rows}
+use Rattle.shelf_set.specs.Restoring.{restores_tree}
+use Rattle.steps.specs.Counts.{FileCounts}
+use Rattle.tree_store.specs.Answers as tree_store
 
 -- a relation of worlds, whatever the caches are
 abbrev pub BesideCaches : Relation Seen → Relation WorldAndCaches
@@ -51,12 +54,6 @@ unfolding gathers
 gathers_ends cause_of old new (Ok gathered) h = tt
 gathers_ends cause_of old new (Err fault) h = memory_end (cause_of fault) h.0
 
-pub finds_ends : {E : Type 0} (cause_of : E → Cause) (digest : List ℕ)
-    → Obeys WantsMemory cause_of (finds cause_of digest)
-unfolding finds
-finds_ends cause_of digest old new (Ok search) h = tt
-finds_ends cause_of digest old new (Err fault) h = memory_end (cause_of fault) h.0
-
 pub stores_rows_ends : {E : Type 0} (cause_of : E → Cause) (readable : Bool) (rows : List LayerRow)
     (trees : List Node) → Obeys WantsMemory cause_of (stores_rows cause_of readable rows trees)
 unfolding stores_rows
@@ -79,3 +76,10 @@ obeys_in_caches R cause_of step rests p old new (Ok value) h = subst (R None old
 obeys_in_caches R cause_of step rests p old new (Err fault) h =
     subst (R (Some (cause_of fault)) old.world) (sym h.1)
     (memory_rests R rests (Some (cause_of fault)) old.world (p old.caches new.caches (Err fault) h.0))
+
+-- ---- a tree that is restored
+
+pub restores_tree_counts : (digest root : List ℕ)
+    → Obeys (BesideCaches FileCounts) tree_store.cause_of (restores_tree digest root)
+unfolding restores_tree
+restores_tree_counts digest root old new result h = h.counts

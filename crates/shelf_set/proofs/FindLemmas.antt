@@ -5,12 +5,11 @@ use Rattle.tree_canon.specs.declared.judging.Judged.{Judged}
 use Rattle.shelf_set.specs.ShelfState.{ShelfState}
 use Rattle.shelf_set.specs.Dropping.{Drops, AreStanding}
 use Rattle.shelf_set.specs.Searching.{HoldsJudged, Searches}
-use Rattle.shelf_set.specs.Finding.{Finds, LeavesSearched, IsFound}
-use Rattle.shelf_set.specs.declared.finding.Found.{Found}
+use Rattle.shelf_set.specs.Finding.{Finds, InCaches, IsFound, LeavesSearched}
 use Rattle.shelf_set.proofs.TurnLemmas.{standing_again}
 
 pub finds : (old : List ShelfState) (places digest : List ℕ) (found : Result (Option Judged) Memory)
-    (judged : Option Judged) (answer : Found) (new : List ShelfState) (numbers standing gone : List ℕ) (n : ℕ)
+    (judged : Option Judged) (answer : InCaches) (new : List ShelfState) (numbers standing gone : List ℕ) (n : ℕ)
     → Searches old places digest found new numbers n
     → found ≡ Ok judged → standing ≡ take n numbers → gone ≡ drop n numbers
     → ((digest : List ℕ) (held : Option (List ℕ)) → HoldsJudged digest held judged → IsFound digest held answer)

@@ -2,6 +2,10 @@ pub mod Lists
 pub mod TurnLemmas
 pub mod SearchLemmas
 pub mod FindLemmas
+pub mod LayLemmas
+pub mod SearchTrees
+pub mod RestoreLemmas
+pub mod RestoredLemmas
 pub mod StoreLemmas
 pub mod GatherLemmas
 pub mod CountLemmas

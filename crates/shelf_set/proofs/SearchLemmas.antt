@@ -1,10 +1,11 @@
 -- Searching shelves for bytes.
 use Rattle.std.proofs.Common.{◌≡◌, ℕ, ◌+◌, ◌-◌, ◌<◌, ◌≤◌, Bool, true, false, cond, not, List, [], ◌∷◌, ◌++◌, map}
-use Rattle.std.proofs.Common.{length, refl, sym, ap, subst, ◌∙◌, arith, Result, Ok, Err, Option, is_some, append-nil}
+use Rattle.std.proofs.Common.{length, drop, refl, sym, ap, subst, ◌∙◌, arith, Result, Ok, Err, Option, is_some}
+use Rattle.std.proofs.Common.{append-nil}
 use Rattle.std.specs.Prelude.{Some, None, IfSome}
 use Rattle.std.specs.List.{AllByRecursion}
 use Rattle.std.specs.FinMap.{get}
-use Rattle.std.proofs.lemmas.List.{length-append}
+use Rattle.std.proofs.lemmas.List.{length-append, take_all}
 use Rattle.cnb_world.specs.Shelf.{Held}
 use Rattle.cnb_world.specs.declared.shelf.ShelfFault.{ShelfFault}
 use Rattle.cnb_world.specs.declared.shelf.ShelfFault.TheVariants as shelf
@@ -12,13 +13,13 @@ use Rattle.cnb_world.specs.declared.values.Memory.{Memory}
 use Rattle.tree_canon.specs.Judging.{IsJudged}
 use Rattle.tree_canon.specs.declared.judging.Judged.{Judged}
 use Rattle.shelf_set.specs.ShelfState.{ShelfState}
-use Rattle.shelf_set.specs.Dropping.{Turn, after_of, has_failed, left_of}
+use Rattle.shelf_set.specs.Dropping.{Drops, Turn, after_of, has_failed, left_of}
 use Rattle.shelf_set.specs.Turns.{TakesTurn, is_failed}
-use Rattle.shelf_set.specs.Finding.{TellsSame, IsFirst, IsUnasked, NoneBehind, holds_first, tells_of}
+use Rattle.shelf_set.specs.Finding.{LeavesSearched, TellsSame, IsFirst, IsUnasked, NoneBehind, holds_first, tells_of}
 use Rattle.shelf_set.specs.Searching.{Asks, HoldsJudged, Lacks, Searching, Searches}
 use Rattle.shelf_set.proofs.Lists.{map-last, onto, all_both}
 use Rattle.shelf_set.proofs.TurnLemmas.{counted, OneMore, one_more, left-kept, left-dropped, still, all_still, none_yet}
-use Rattle.shelf_set.proofs.TurnLemmas.{finish, left_tell, ends_at}
+use Rattle.shelf_set.proofs.TurnLemmas.{finish, left_tell, ends_at, standing_of}
 
 first_none : (ss : List ShelfState) (digest : List ℕ) → AllByRecursion (Lacks digest) ss → IsFirst ss digest None
 first_none [] digest all = refl
@@ -165,17 +166,17 @@ module _ (old now new : List ShelfState) (places numbers later digest : List ℕ
   total_then : next + (length places - asked - 1) + (asked + 1) ≡ next + length places
   total_then = omega (arith, lt)
 
-  pub out_of_memory : (e : Memory) → Answers (Err shelf.Memory)
+  pub stopped : (fault : ShelfFault) (e : Memory) → Answers (Err fault)
       → Searches old places digest (Err e) new later (next + (length places - asked - 1))
-  out_of_memory e k =
-      let m = next_turn (Err shelf.Memory) k in
+  stopped fault e k =
+      let m = next_turn (Err fault) k in
       let g = m.goes in
       let turns : List Turn = s.turns ++ m.turn ∷ [] in
       let end = ends_at turns old new places later next (asked + 1) _ g (count_more m.turn) total_then in
       record {
         turns = turns ++ still g.rest g.later;
         drops = finish turns old new places later next _ g end.stands;
-        same = all_both TellsSame turns (still g.rest g.later) (same_more (Err shelf.Memory) m)
+        same = all_both TellsSame turns (still g.rest g.later) (same_more (Err fault) m)
             (same_still g.rest g.later);
         bytes = None;
         judged = tt;
@@ -229,29 +230,6 @@ module _ (old now new : List ShelfState) (places numbers later digest : List ℕ
       by m None is told = absurd (cc)
       by m (Some bytes) is told = holding_bytes judged m bytes is told
 
-  -- the same of what a call answered
-  pub lacking_then : (result : Result (Option Judged) ShelfFault) (found : Option Judged) → Answers result
-      → result ≡ Ok found → found ≡ None → Searching old new places later digest next (asked + 1)
-  lacking_then result found k is none = lacking (subst (λ r. Answers r) (is ∙ ap (λ f. Ok f) none) k)
-
-  pub failing_then : (result : Result (Option Judged) ShelfFault) (fault : ShelfFault) → Answers result
-      → result ≡ Err fault → fault ≡ shelf.Failed → Searching old new places later digest next (asked + 1)
-  failing_then result fault k is failed = failing (subst (λ r. Answers r) (is ∙ ap (λ f. Err f) failed) k)
-
-  pub ended_then : (result : Result (Option Judged) ShelfFault) (fault : ShelfFault) (e : Memory) (count : ℕ)
-      → Answers result → result ≡ Err fault → fault ≡ shelf.Memory → count ≡ length places
-      → Searches old places digest (Err e) new later (next + (count - asked - 1))
-  ended_then result fault e count k is ended all = subst
-      (λ n. Searches old places digest (Err e) new later (next + (n - asked - 1))) (sym all)
-      (out_of_memory e (subst (λ r. Answers r) (is ∙ ap (λ f. Err f) ended) k))
-
-  pub holding_then : (result : Result (Option Judged) ShelfFault) (found : Option Judged) (judged : Judged)
-      (count : ℕ) → Answers result → result ≡ Ok found → found ≡ Some judged → count ≡ length places
-      → Searches old places digest (Ok (Some judged)) new later (next + (count - asked - 1))
-  holding_then result found judged count k is some all = subst
-      (λ n. Searches old places digest (Ok (Some judged)) new later (next + (n - asked - 1))) (sym all)
-      (holding judged (subst (λ r. Answers r) (is ∙ ap (λ f. Ok f) some) k))
-
 -- all were asked
 pub nowhere : (old new : List ShelfState) (places numbers digest : List ℕ) (at asked : ℕ)
     → Searching old new places numbers digest at asked → asked ≡ length places
@@ -278,3 +256,19 @@ nowhere old new places numbers digest at asked s all =
         ≡ map after_of (left_of s.turns)
     no_rest [] h = append-nil (map after_of (left_of s.turns))
     no_rest (r ∷ rest) h = absurd (omega (arith, h))
+
+-- nobody was asked
+pub none_asked : (old : List ShelfState) (places digest : List ℕ) → length places ≤ length old
+    → LeavesSearched old places digest old places
+none_asked old places digest h =
+    let g = none_yet old places h in
+    record {
+      turns = still g.rest g.later;
+      gone = drop (length places) places;
+      drops = subst (λ x. Drops (still g.rest g.later) old old places x (drop (length places) places))
+          (take_all (length places) places (let e : length places ≡ length places = refl in omega (arith, e)))
+          (finish [] old old places places 0 (length places) g
+          (let all = standing_of [] old old places places 0 g in omega (arith, all)));
+      same = same_still g.rest g.later;
+      unasked = behind_still digest g.rest g.later;
+    }

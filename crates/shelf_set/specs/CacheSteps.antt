@@ -1,10 +1,9 @@
 -- What the calls on caches do, as steps. One that is refused wants memory: failing caches are dropped, and no refusal.
-use Rattle.std.specs.Prelude.{ℕ, ◌≡◌, List, Result, Ok, Err}
+use Rattle.std.specs.Prelude.{◌≡◌, Result, Ok, Err}
 use Rattle.steps.specs.Causes.{Cause, OutOfMemory}
 use Rattle.shelf_set.specs.Caches.{Caches}
-use Rattle.shelf_set.specs.Finding.{Finds, LeavesSame, LeavesSearched}
+use Rattle.shelf_set.specs.Finding.{LeavesSame}
 use Rattle.shelf_set.specs.Gathering.{Gathers}
-use Rattle.shelf_set.specs.declared.finding.Search.{Search}
 use Rattle.shelf_set.specs.declared.gathering.Gathered.{Gathered}
 
 -- the rows of all caches are gathered
@@ -12,10 +11,3 @@ unfoldable pub gathers : {E : Type 0} → (E → Cause) → Caches → Result Ga
 gathers cause_of old (Ok gathered) new = Gathers old.shelves old.standing gathered new.shelves new.standing
 gathers cause_of old (Err fault) new = (cause_of fault ≡ OutOfMemory)
     × LeavesSame old.shelves old.standing new.shelves new.standing
-
--- the tree of a digest is searched
-unfoldable pub finds : {E : Type 0} → (E → Cause) → List ℕ → Caches → Result Search E → Caches → Type 0
-finds cause_of digest old (Ok search) new = Finds old.shelves old.standing digest search.found new.shelves
-    new.standing search.gone
-finds cause_of digest old (Err fault) new = (cause_of fault ≡ OutOfMemory)
-    × LeavesSearched old.shelves old.standing digest new.shelves new.standing

@@ -3,12 +3,18 @@ use Rattle.std.specs.Prelude.{ℕ, Bool, true, false, ◌≡◌, List, [], ◌�
 use Rattle.std.specs.List.{AllByRecursion}
 use Rattle.std.specs.FinMap.{get}
 use Rattle.cnb_world.specs.Shelf.{Held}
+use Rattle.tree_canon.specs.declared.fault.Reason.{Reason}
 use Rattle.tree_canon.specs.declared.judging.Judged.TheVariants as judged
+use Rattle.tree_canon.specs.declared.node.Node.{Node}
 use Rattle.tree_canon.specs.Judging.{IsJudged}
 use Rattle.shelf_set.specs.ShelfState.{ShelfState}
 use Rattle.shelf_set.specs.Dropping.{Turn, after_of, left_of, Drops}
-use Rattle.shelf_set.specs.declared.finding.Found.{Found}
-use Rattle.shelf_set.specs.declared.finding.Found.TheVariants as found
+
+-- what caches hold under a digest: the bytes of a tree, none, or bytes that are damaged
+pub data InCaches : Type 0 where
+  Whole : Node → InCaches
+  Missing : InCaches
+  Broken : List ℕ → List ℕ → Option Reason → InCaches
 
 -- it tells the same before and after
 abbrev pub TellsSame : Turn → Type 0
@@ -40,15 +46,15 @@ NoneBehind digest (t ∷ ts) = (t.failed ≡ false → tells_of digest t.before.
     → AllByRecursion IsUnasked ts) × NoneBehind digest ts
 
 -- what is found: nothing where no shelf holds the digest, and else what these bytes are under it
-abbrev pub IsFound : List ℕ → Option (List ℕ) → Found → Type 0
-IsFound digest None answer = answer ≡ found.None
-IsFound digest (Some bytes) found.None = ⊥
-IsFound digest (Some bytes) (found.Tree tree) = IsJudged digest bytes (judged.Tree tree)
-IsFound digest (Some bytes) (found.Damaged asked is bad) = IsJudged digest bytes (judged.Damaged asked is bad)
+abbrev pub IsFound : List ℕ → Option (List ℕ) → InCaches → Type 0
+IsFound digest None answer = answer ≡ Missing
+IsFound digest (Some bytes) Missing = ⊥
+IsFound digest (Some bytes) (Whole tree) = IsJudged digest bytes (judged.Tree tree)
+IsFound digest (Some bytes) (Broken asked is bad) = IsJudged digest bytes (judged.Damaged asked is bad)
 
 -- What is answered and left: the failed shelves are dropped, all shelves tell what they told, and the first of those
 -- left that holds the digest decides. Those behind it aren't asked.
-pub record Finds (old : List ShelfState) (places digest : List ℕ) (answer : Found) (new : List ShelfState)
+pub record Finds (old : List ShelfState) (places digest : List ℕ) (answer : InCaches) (new : List ShelfState)
     (standing gone : List ℕ) : Type 0 where
   pub turns : List Turn
   pub drops : Drops turns old new places standing gone

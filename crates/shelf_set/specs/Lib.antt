@@ -4,6 +4,8 @@ pub mod ShelfState
 pub mod Dropping
 pub mod Turns
 pub mod Finding
+pub mod Restoring
+pub mod Laying
 pub mod Gathering
 pub mod Giving
 pub mod Searching

@@ -1,5 +1,6 @@
 -- Searching shelves for bytes, which private calls alone speak of.
-use Rattle.std.specs.Prelude.{ℕ, ◌≡◌, ◌≤◌, List, length, map, take, drop, Option, Some, None, Result, IfSome, IfOk}
+use Rattle.std.specs.Prelude.{ℕ, ◌≡◌, ◌≤◌, List, length, map, take, drop, Option, Some, None, Result, Ok, Err, IfSome}
+use Rattle.std.specs.Prelude.{IfOk}
 use Rattle.std.specs.Prelude.{OnOk}
 use Rattle.std.specs.List.{AllByRecursion}
 use Rattle.std.specs.FinMap.{get}
@@ -9,10 +10,14 @@ use Rattle.cnb_world.specs.declared.shelf.ShelfFault.{ShelfFault}
 use Rattle.cnb_world.specs.declared.values.Memory.{Memory}
 use Rattle.tree_canon.specs.Judging.{IsJudged}
 use Rattle.tree_canon.specs.declared.judging.Judged.{Judged}
+use Rattle.tree_canon.specs.declared.judging.Judged.TheVariants as judged
+use Rattle.tree_canon.specs.declared.node.Node.{Node}
 use Rattle.shelf_set.specs.ShelfState.{ShelfState}
 use Rattle.shelf_set.specs.Dropping.{Turn, after_of, left_of, Drops}
 use Rattle.shelf_set.specs.Turns.{Goes}
 use Rattle.shelf_set.specs.Finding.{TellsSame, IsFirst, NoneBehind}
+use Rattle.shelf_set.specs.declared.ask.Checked.{Checked}
+use Rattle.shelf_set.specs.declared.ask.Checked.TheVariants as checked
 
 -- what one shelf gives of the bytes under a digest, from a place on
 pub record Reads (digest : List ℕ) (at : ℕ) (result : Result (Option (List ℕ)) ShelfFault)
@@ -38,6 +43,19 @@ pub record Asks (digest : List ℕ) (result : Result (Option Judged) ShelfFault)
   pub bytes : Option (List ℕ)
   pub judged : IfOk result (HoldsJudged digest bytes)
   pub told : IfSome before.held (λ h. OnOk result (bytes ≡ get h digest))
+
+-- the same of bytes of which nothing is kept
+abbrev pub IsSpelled : List ℕ → List ℕ → Checked → Type 0
+IsSpelled digest bytes checked.Tree = (tree : Node) × IsJudged digest bytes (judged.Tree tree)
+IsSpelled digest bytes (checked.Damaged asked is bad) = IsJudged digest bytes (judged.Damaged asked is bad)
+
+abbrev pub checked_of : Judged → Checked
+checked_of (judged.Tree tree) = checked.Tree
+checked_of (judged.Damaged asked is bad) = checked.Damaged asked is bad
+
+abbrev pub IsChecked : Result (Option Judged) ShelfFault → Result (Option Checked) ShelfFault → Type 0
+IsChecked (Ok found) result = result ≡ Ok (option_map checked_of found)
+IsChecked (Err fault) result = result ≡ Err fault
 
 -- a shelf that tells doesn't hold the digest
 abbrev pub Lacks : List ℕ → ShelfState → Type 0

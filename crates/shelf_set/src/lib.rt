@@ -6,15 +6,16 @@
 mod ask;
 mod caches;
 mod caching;
-mod finding;
 mod gathering;
 mod giving;
+mod laying;
+mod restoring;
 mod searching;
 mod storing;
 mod turns;
 
 pub use caches::Caches;
 pub use caching::store_all;
-pub use finding::{Found, Search, find};
 pub use gathering::{Gathered, gather};
+pub use restoring::{Found, Search, restore_tree};
 pub use turns::Shelves;

@@ -1,77 +1,81 @@
 // Searching the shelves that stand for a tree.
-ghost use Rattle.std.specs.Prelude.{◌<◌, length};
-ghost use Rattle.shelf_set.specs.ShelfState.{shelves_seen};
+ghost use Rattle.std.specs.Prelude.{◌≡◌, ◌<◌, ◌≤◌, false, length};
+ghost use Rattle.cnb_world.specs.Tree.{is_root};
 ghost use Rattle.shelf_set.specs.Dropping.{AreStanding};
-ghost use Rattle.shelf_set.specs.Turns.{TakesTurn, is_failed};
-ghost use Rattle.shelf_set.specs.Searching.{Asks, Searches};
+ghost use Rattle.shelf_set.specs.Laying.{SearchesTree, TakesTree};
+ghost use Rattle.shelf_set.specs.ShelfState.{shelves_seen};
+ghost use Rattle.steps.specs.Outside.{seen};
 
-use crate::ask::ask_at;
-use crate::turns::{Shelves, has_failed, settle};
-use cnb_world::{Memory, Shelf, ShelfFault};
+use crate::laying::{Turned, lay_at};
+use crate::restoring::Found;
+use crate::turns::{Shelves, settle};
+use cnb_world::{Path, Shelf, World};
 use std::alloc::Global;
-use tree_canon::{Digest, Judged};
+use tree_canon::Digest;
+use tree_store::StoreFault;
 
-fn take_turn(
+fn take_turn<W: World>(
     alloc: Global,
+    world: &mut W,
     shelves: &mut Shelves,
     numbers: &mut Vec<u32>,
     at: &mut usize,
     digest: &Digest,
-) -> Result<Option<Judged>, ShelfFault>
+    root: &Path,
+    free: bool,
+) -> Option<Result<Found, StoreFault>>
     requires within { at.old < length shelves.old.items }
     requires numbered { at.old < length numbers.old.items }
-    ensures { TakesTurn
-        (shelves_seen ⟦<dyn Shelf as Shelf>⟧ shelves.old.items) numbers.old.items at.old
-        (Asks digest.now result) (is_failed result)
-        (shelves_seen ⟦<dyn Shelf as Shelf>⟧ shelves.new.items) numbers.new.items at.new }
+    requires root { length root.now ≤ 8192 }
+    requires plain { is_root root.now ≡ false }
+    ensures { TakesTree free digest.now root.now
+        (shelves_seen ⟦<dyn Shelf as Shelf>⟧ shelves.old.items) numbers.old.items at.old result
+        (shelves_seen ⟦<dyn Shelf as Shelf>⟧ shelves.new.items) numbers.new.items at.new
+        (seen W.World world.old) (seen W.World world.new) }
 {
-    let answer = ask_at(alloc, shelves, *at, digest);
-    let failed = has_failed(&answer);
+    let Turned { failed, end } = lay_at(alloc, world, shelves, *at, digest, root, free);
     settle(shelves, numbers, at, failed);
-    answer
+    end
 }
 
-/// What was found, and how many shelves stand.
+/// What came of a search, and how many shelves stand.
 pub(crate) struct Searched {
-    pub found: Result<Option<Judged>, Memory>,
-    pub standing: usize,
+    pub(crate) found: Result<Found, StoreFault>,
+    pub(crate) standing: usize,
 }
 
-/// Asks one shelf after another, until one holds the digest or memory runs out.
-pub(crate) fn search(
+/// Asks one shelf after another, until one has the tree, which is laid at a path, or the search is refused.
+pub(crate) fn search<W: World>(
     alloc: Global,
+    world: &mut W,
     shelves: &mut Shelves,
     numbers: &mut Vec<u32>,
     digest: &Digest,
+    root: &Path,
+    free: bool,
 ) -> Searched
-    requires { AreStanding numbers.old.items (shelves_seen ⟦<dyn Shelf as Shelf>⟧ shelves.old.items) }
-    ensures { Searches
-        (shelves_seen ⟦<dyn Shelf as Shelf>⟧ shelves.old.items) numbers.old.items
-        digest.now result.found
-        (shelves_seen ⟦<dyn Shelf as Shelf>⟧ shelves.new.items) numbers.new.items result.standing }
+    requires standing { AreStanding numbers.old.items (shelves_seen ⟦<dyn Shelf as Shelf>⟧ shelves.old.items) }
+    requires root { length root.now ≤ 8192 }
+    requires plain { is_root root.now ≡ false }
+    ensures { SearchesTree free digest.now root.now
+        (shelves_seen ⟦<dyn Shelf as Shelf>⟧ shelves.old.items) numbers.old.items result.found
+        (shelves_seen ⟦<dyn Shelf as Shelf>⟧ shelves.new.items) numbers.new.items result.standing
+        (seen W.World world.old) (seen W.World world.new) }
 {
     let count = numbers.len();
     let mut at = 0usize;
     for asked in 0..count {
-        match take_turn(alloc, shelves, numbers, &mut at, digest) {
-            Ok(None) => {}
-            Err(ShelfFault::Failed) => {}
-            Ok(Some(judged)) => {
-                return Searched {
-                    found: Ok(Some(judged)),
-                    standing: at + (count - asked - 1),
-                };
-            }
-            Err(ShelfFault::Memory) => {
-                return Searched {
-                    found: Err(Memory),
-                    standing: at + (count - asked - 1),
-                };
-            }
+        if let Some(found) = take_turn(
+            alloc, world, shelves, numbers, &mut at, digest, root, free,
+        ) {
+            return Searched {
+                found,
+                standing: at + (count - asked - 1),
+            };
         }
     }
     Searched {
-        found: Ok(None),
+        found: Ok(Found::None),
         standing: at,
     }
 }

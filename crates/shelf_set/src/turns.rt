@@ -57,3 +57,23 @@ pub(crate) fn part(
     *places = List::from_vec(numbers);
     Ok(List::from_vec(gone?))
 }
+
+/// The same, where the others go into a list of as many as there are numbers.
+pub(crate) fn part_into(
+    places: &mut List<u32>,
+    mut numbers: Vec<u32>,
+    standing: usize,
+    mut spare: Vec<u32>,
+) -> List<u32>
+    requires within { standing ≤ length numbers.items }
+    requires room { length spare.items ≡ length numbers.items }
+    ensures left { places.new ≡ take standing numbers.items }
+    ensures gone { result ≡ drop standing numbers.items }
+{
+    let others = &numbers[standing..];
+    spare.truncate(others.len());
+    spare.as_mut_slice().copy_from_slice(others);
+    numbers.truncate(standing);
+    *places = List::from_vec(numbers);
+    List::from_vec(spare)
+}

@@ -1,20 +1,24 @@
-// Calls of shelf_set: trees that are searched in caches, rows that are gathered, and layers that are stored.
-ghost use Rattle.std.specs.Prelude.{◌≡◌, ◌≤◌, IfOk, IfSome, length, map};
+// Calls of shelf_set: trees that are restored from caches, rows that are gathered, and layers that are stored.
+ghost use Rattle.std.specs.Prelude.{◌≡◌, ◌≤◌, IfOk, IfSome, IsTrue, length, map};
+ghost use Rattle.cnb_world.specs.Path.{is_path};
 ghost use Rattle.shelf_set.specs.Caching.{digest_of_row, digest_of_tree};
 
 use crate::reading::{bytes_given, cut};
+use crate::stores::{put_fault, put_laid};
 use crate::watched::{Marks, Watched};
-use crate::words::{put_bytes, put_damage, put_tree};
+use crate::words::{put_bytes, put_damage};
+use crate::worlds::world_with_folder;
 use cnb_toml::{BpId, LayerName, Meta};
-use cnb_world::{Bytes, Held, List, MemShelf, Memory};
+use cnb_world::{Bytes, Held, List, MemShelf, MemWorld, Memory, Path, PathFault};
 use image_docs::{CacheDoc, LayerRow, write_cache};
 use layer_flags::Flags;
 use row_files::{Answer, Row};
-use shelf_set::{Found, Shelves, find, gather, store_all};
+use shelf_set::{Found, Shelves, gather, restore_tree, store_all};
 use std::alloc::Global;
 use std::cell::Cell;
 use std::rc::Rc;
 use tree_canon::{Digest, Tree, decode, encode};
+use tree_store::read_tree;
 
 /// Caches, and the numbers of those that stand.
 #[derive(Drop)]
@@ -91,25 +95,52 @@ fn rows_of(answer: &mut Answer, row: &Row, name: &str) -> Bytes {
     answer.bytes(text.as_bytes())
 }
 
-fn put_find(answer: &mut Answer, caches: &mut Caches, digest: &Digest) {
-    let found = find(
-        answer.alloc,
-        &mut caches.shelves,
-        &mut caches.places,
-        digest,
-    );
-    if let Some(search) = answer.made(found) {
-        put_found(answer, &search.found);
-        put_numbers(answer, "\ngone ", search.gone.as_slice());
+// The path that a text is.
+fn path_of(alloc: Global, text: &str) -> Result<Path, Memory>
+    requires { IsTrue (is_path text.now) }
+    ensures { IfOk result (λ path. path ≡ text.now) }
+{
+    match Path::parse(alloc, text) {
+        Ok(path) => Ok(path),
+        Err(PathFault::Memory) => Err(Memory),
+        Err(PathFault::NotPath) => unreachable!(),
     }
 }
 
-fn put_found(answer: &mut Answer, found: &Found) {
-    match found {
-        Found::Tree(tree) => {
-            answer.put("a tree\n");
-            put_tree(answer, tree);
+// Restores a tree at `/t/x`, in the row's world, which is made anew.
+fn put_find(answer: &mut Answer, row: &Row, caches: &mut Caches, digest: &Digest) {
+    let (alloc, world) = (answer.alloc, world_with_folder(answer, row));
+    let (Some(mut world), Ok(folder), Ok(place)) = (
+        world,
+        path_of(alloc, "/t"),
+        path_of(alloc, "/t/x"),
+    ) else {
+        answer.run_out();
+        return;
+    };
+    let search = restore_tree(
+        alloc,
+        &mut world,
+        &mut caches.shelves,
+        &mut caches.places,
+        digest,
+        &place,
+    );
+    match &search {
+        Ok(search) => {
+            put_found(answer, &mut world, &folder, &search.found);
+            put_numbers(answer, "\ngone ", search.gone.as_slice());
         }
+        Err(fault) => put_fault(answer, fault),
+    }
+}
+
+// Adds what was found. A tree is read from the folder that it was laid in.
+fn put_found(answer: &mut Answer, world: &mut MemWorld, folder: &Path, found: &Found)
+    requires { length folder.now ≤ 8192 }
+{
+    match found {
+        Found::Laid => put_laid(answer, &read_tree(answer.alloc, world, folder)),
         Found::None => answer.put("none"),
         Found::Damaged { asked, found, bad } => put_damage(answer, asked, found, *bad),
     }
@@ -243,7 +274,7 @@ fn call_once(answer: &mut Answer, row: &Row, caches: &mut Caches, line: &str) {
     match call {
         "find" => {
             let digest = digest_given(answer, row, words);
-            put_find(answer, caches, &digest);
+            put_find(answer, row, caches, &digest);
         }
         "gather" => put_gather(answer, caches),
         "store_all" => put_store(answer, row, caches, words),

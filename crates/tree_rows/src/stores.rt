@@ -3,7 +3,7 @@ ghost use Rattle.std.specs.Prelude.{◌≤◌, length};
 
 use crate::reading::text_or_none;
 use crate::shared::Shared;
-use crate::words::{put_damage, put_digest, put_tree, yes_or_no};
+use crate::words::{put_damage, put_digest, put_inside, put_tree, yes_or_no};
 use crate::worlds::tree_of;
 use cnb_world::{FileFault, Path, World};
 use row_files::{Answer, Row};
@@ -12,7 +12,8 @@ use tree_store::{
     StoreFault, check_tree, get, has, lay_stored, put, put_folder, read_tree, write_tree,
 };
 
-fn put_fault(answer: &mut Answer, fault: &StoreFault) {
+/// Adds why a call was refused.
+pub(crate) fn put_fault(answer: &mut Answer, fault: &StoreFault) {
     match fault {
         StoreFault::OddFile(path) => answer.put_all(&["OddFile ", path.as_str()]),
         StoreFault::Limit(kind) => {
@@ -53,6 +54,17 @@ fn put_read(answer: &mut Answer, tree: &Result<Tree, StoreFault>) {
         Ok(tree) => {
             answer.put("a tree\n");
             put_tree(answer, tree);
+        }
+        Err(fault) => put_fault(answer, fault),
+    }
+}
+
+/// Adds what is in a folder that was read, as trees.
+pub(crate) fn put_laid(answer: &mut Answer, folder: &Result<Tree, StoreFault>) {
+    match folder {
+        Ok(folder) => {
+            answer.put("a tree\n");
+            put_inside(answer, folder);
         }
         Err(fault) => put_fault(answer, fault),
     }

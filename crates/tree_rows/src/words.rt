@@ -47,6 +47,15 @@ pub(crate) fn put_tree(answer: &mut Answer, tree: &Tree) {
     put_node(answer, ".", tree.node());
 }
 
+/// Adds what is in a folder, each as a tree.
+pub(crate) fn put_inside(answer: &mut Answer, folder: &Tree) {
+    if let Node::Folder(entries) = folder.node() {
+        for entry in entries.as_slice() {
+            put_node(answer, ".", &entry.node);
+        }
+    }
+}
+
 fn put_contents(answer: &mut Answer, bytes: &[u8]) {
     if !bytes.is_empty() {
         answer.put(" ");

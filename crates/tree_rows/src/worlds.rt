@@ -13,7 +13,18 @@ fn world_with(answer: &mut Answer, items: List<Placed>, fails: &str) -> Option<M
 
 /// The world of a row: the items of `world`, the texts that are given under paths, and the calls that fail.
 pub(crate) fn world_of(answer: &mut Answer, row: &Row) -> Option<MemWorld> {
+    world_over(answer, row, "")
+}
+
+/// The same, with a folder at `/t`.
+pub(crate) fn world_with_folder(answer: &mut Answer, row: &Row) -> Option<MemWorld> {
+    world_over(answer, row, "folder /t")
+}
+
+// The world of a row, over the items of these lines.
+fn world_over(answer: &mut Answer, row: &Row, lines: &str) -> Option<MemWorld> {
     let mut items = List::new(answer.alloc);
+    push_items(answer, &mut items, "", lines);
     push_items(answer, &mut items, "", text_or_none(row, "world"));
     push_documents(answer, &mut items, row);
     world_with(answer, items, text_or_none(row, "fails"))

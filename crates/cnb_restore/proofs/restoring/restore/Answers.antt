@@ -1,11 +1,11 @@
-use Rattle.std.proofs.Common.{Err, Ok}
+use Rattle.std.proofs.Common.{subst, Err, Ok}
 use Rattle.std.proofs.lemmas.Result.{err_from_is_err_and}
 use Rattle.steps.specs.Outside.{seen}
 use Rattle.steps.proofs.StepLemmas.{ended, went}
 use Rattle.shelf_set.proofs.CacheLemmas.{within}
 use Rattle.cnb_restore.specs.Restores.{restores}
-use Rattle.cnb_restore.specs.RestoresFrom.{restores_from}
-use Rattle.cnb_restore.proofs.FilesLaws.{leaves_restored}
+use Rattle.cnb_restore.specs.RestoresFrom.{HavePartNames, restores_from}
+use Rattle.cnb_restore.proofs.FilesLaws.{leaves_restored, unnamed}
 use Rattle.cnb_restore.proofs.ReadLemmas.{previous_as}
 use Rattle.cnb_restore.proofs.RestoreLemmas.{group_from}
 use Rattle.cnb_restore.proofs.restoring.restore.Goals as goal
@@ -24,7 +24,12 @@ returns-clause-steps g c =
     went _ _ _ _ _ _ _ (within _ _ _ _ _ (previous_as c.args.store.now _ _ (seen g.W.World c.args.world.now)
     (Ok c.in_ok-previous.previous) (seen g.W.World c.read_previous.new.world) c.as_ref.ensures.value
     c.in_ok-previous.ensures.step))
-    (group_from _ _ _ _ _ _ _ c.as_slice.ensures c.restore_from.ensures.steps)
+    (unnamed _ _ _ _ _ _ (group_from _ _ _ _ _ _ _ c.as_slice.ensures c.restore_from.ensures.steps))
 
 pub returns-clause-files : goal.returns-clause-files
-returns-clause-files g c = leaves_restored _ _ _ _ _ _ _ (returns-clause-steps g c)
+returns-clause-files g c =
+    leaves_restored _ _ _ _ _ _ _ _ _ (within _ _ _ _ _ (previous_as c.args.store.now _ _
+    (seen g.W.World c.args.world.now) (Ok c.in_ok-previous.previous) (seen g.W.World c.read_previous.new.world)
+    c.as_ref.ensures.value c.in_ok-previous.ensures.step))
+    (subst HavePartNames c.layers_of.ensures c.see_names.ensures)
+    (group_from _ _ _ _ _ _ _ c.as_slice.ensures c.restore_from.ensures.steps)
