@@ -1,5 +1,5 @@
 -- What was laid at a path where nothing was, and is removed again.
-use Rattle.std.proofs.Common.{◌≡◌, ◌∙◌, refl, sym, ap, subst, arith, ℕ, ◌<◌, ◌≤◌, ◌+◌, Bool, true, false, cond, not}
+use Rattle.std.proofs.Common.{◌≡◌, ◌∙◌, refl, sym, ap, subst, arith, ℕ, ◌≤◌, ◌+◌, Bool, true, false, cond, not}
 use Rattle.std.proofs.Common.{◌||◌, ◌&&◌, ◌==◌}
 use Rattle.std.proofs.Common.{◌⊎◌, inl, inr, List, [], ◌∷◌, ◌++◌, length, drop, nat_eq, is_some, codes, Option, Some}
 use Rattle.std.proofs.Common.{None}
@@ -7,7 +7,6 @@ use Rattle.std.specs.FinMap.{get, retain_keys}
 use Rattle.std.specs.List.{list_all, list_any, starts_with}
 use Rattle.std.proofs.lemmas.Bool.{and_from}
 use Rattle.cnb_world.specs.Calls.{RemovesSome}
-use Rattle.std.specs.Prelude.{IsTrue}
 use Rattle.std.specs.Str.{bytes_eq}
 use Rattle.std.proofs.lemmas.Slice.Eq.{bytes_eq-Decides}
 use Rattle.cnb_world.proofs.Folders.{get-without, not_longer}

@@ -33,11 +33,9 @@ use Rattle.tree_store.specs.Around.{KeepsAround, KeptAround}
 use Rattle.tree_store.specs.Reading.{◌>>=◌, FitsFrom, Sized, in_order, entry_in_front, folder_of, link_of, node_at}
 use Rattle.tree_store.specs.Reading.{node_of, room, sized, tree_in}
 use Rattle.tree_store.specs.Writing.{Added, AreApart, AreEntriesOf, HasLength, HasWritten, IsNodeOf, IsPart, IsRootOf}
-use Rattle.tree_store.specs.Writing.{IsTreeOf, LeavesNew, Refuses, new_path, sized_as, trees_of}
+use Rattle.tree_store.specs.Writing.{IsTreeOf, LeavesNew, Refuses, WriterState, new_path, sized_as, trees_of}
 use Rattle.tree_store.specs.declared.fault.StoreFault.{StoreFault}
 use Rattle.tree_store.specs.declared.fault.StoreFault.TheVariants.{Limit}
-use Rattle.tree_store.specs.declared.writing.Writer.{Writer}
-use Rattle.tree_store.proofs.Blames.{blames_at}
 use Rattle.tree_store.proofs.Apart.{again, apart_child, item_kept, still}
 use Rattle.tree_store.proofs.Places.{longer_child, part_form}
 use Rattle.cnb_world.proofs.Listing.{names_listed}
@@ -48,7 +46,7 @@ use Rattle.tree_store.proofs.Fitting.{pushed_behind, pushed_bytes, pushed_fits, 
 use Rattle.tree_store.proofs.Nodes.{deep_file_told, deep_folder_told, folder_is, folder_reads, folder_refused, link_is}
 use Rattle.tree_store.proofs.Nodes.{link_node, node_above}
 use Rattle.tree_store.proofs.Puts.{unless_free}
-use Rattle.tree_store.proofs.Written.{others_read, leaves_local}
+use Rattle.tree_store.proofs.Written.{leaves_local, leaves_reading}
 use Rattle.tree_store.proofs.Roots.{below, root_read, root_refused}
 
 pub where_so : (cause : Cause) (P : Type 0) → P → WhereDecided cause P
@@ -64,21 +62,17 @@ may_rise None x y h = omega (arith, h)
 may_rise (Some true) x y h = omega (arith, h)
 may_rise (Some false) x y h = h
 
-pub leaves_read : {A : Type 0} {path : List ℕ} (o : Option Bool) (s : Writer) (r : Result A StoreFault)
+pub leaves_read : {A : Type 0} {path : List ℕ} (o : Option Bool) (s : WriterState) (r : Result A StoreFault)
     (a b : Seen) → LeavesUnchanged cause_of r a b → IfErr r (BlamesAt path) → MayMisuse o a.misused b.misused
     → LeavesNew path s a r s b
-leaves_read {path = path} o s r a b left blames may = record {
-  stays = refl;
-  others = others_read s.path left (may_rise o a.misused b.misused may);
-  blames = blames_at path
-      s.path r blames;
-}
+leaves_read {path = path} o s r a b left blames may = leaves_reading path s left
+    (may_rise o a.misused b.misused may) blames
 
 pub no_misuse : (x y : ℕ) → y ≡ x → MayMisuse None x y
 no_misuse x y e = e
 
 -- what was written stays, where files are as before
-pub written_read : {store bytes : List ℕ} {before now next : Option Tree} {s : Writer} → next ≡ now
+pub written_read : {store bytes : List ℕ} {before now next : Option Tree} {s : WriterState} → next ≡ now
     → HasWritten store before s bytes now → HasWritten store before s bytes next
 written_read {store} {bytes} {before} {now} {next} {s} same h = subst (λ o. HasWritten store before s bytes o)
     (sym same) h
@@ -90,12 +84,12 @@ is_there : (o : Option Tree) (path : List ℕ) (len : ℕ) → IfSome o (λ file
 is_there None path len h x y m = m
 is_there (Some files) path len h x y m = subst (λ v. MayMisuse (Some v) x y) h.file m
 
-pub read_right : {store bytes path : List ℕ} {before now : Option Tree} {s : Writer} (len x y : ℕ)
+pub read_right : {store bytes path : List ℕ} {before now : Option Tree} {s : WriterState} (len x y : ℕ)
     → HasWritten store before s bytes now → AreApart (new_path store) path
     → IfSome before (λ files. HasLength len (item_at files path))
     → MayMisuse (option_map (λ t. is_file (item_at t path)) now) x y → y ≡ x
 read_right {store} {bytes} {path} {before} {now} len x y h apart file m = is_there now path len
-    (again (HasLength len) (new_path store) path before now apart h.kept file) x y m
+    (again (HasLength len) (new_path store) path before now apart h.gone.kept file) x y m
 
 -- the first of a list are as many
 as_many : (n : ℕ) (xs p : List ℕ) (size : ℕ) → p ≡ take n xs → length p ≡ size → p ≡ take size xs
@@ -120,14 +114,14 @@ part_more xs p done size is long = ap (λ q. take done xs ++ q) (as_many 65536 (
     ∙ sym (take-add done size xs)
 
 -- a piece that was read
-pub part_read : {store bytes path : List ℕ} {before now : Option Tree} {s : Writer} (p : List ℕ) (done size : ℕ)
+pub part_read : {store bytes path : List ℕ} {before now : Option Tree} {s : WriterState} (p : List ℕ) (done size : ℕ)
     → HasWritten store before s bytes now → AreApart (new_path store) path
     → IfSome now (λ files. p ≡ take 65536 (drop done (bytes_of (item_at files path)))) → length p ≡ size
     → IsPart before path done (done + size) p
 part_read {store} {bytes} {path} {before} {now} p done size h apart told long = record {
   length_is = ap (λ n. done + n) long;
   told = some before (still (λ found. p ≡ take 65536 (drop done (bytes_of found)))
-      (new_path store) path before now apart h.kept told);
+      (new_path store) path before now apart h.gone.kept told);
 }
   where
     some : (o : Option Tree) → IfSome o (λ files. p ≡ take 65536 (drop done (bytes_of (item_at files path))))
@@ -137,7 +131,7 @@ part_read {store} {bytes} {path} {before} {now} p done size h apart told long = 
     some (Some files) h = part_more (bytes_of (item_at files path)) p done size h long
 
 -- a piece of another length isn't one of a file of this length
-pub never_odd : {store bytes path : List ℕ} {before now : Option Tree} {s : Writer} (p : List ℕ)
+pub never_odd : {store bytes path : List ℕ} {before now : Option Tree} {s : WriterState} (p : List ℕ)
     (len done size : ℕ) (P : Tree → Type 0) → HasWritten store before s bytes now → AreApart (new_path store) path
     → IfSome before (λ files. HasLength len (item_at files path))
     → IfSome now (λ files. p ≡ take 65536 (drop done (bytes_of (item_at files path))))
@@ -145,7 +139,7 @@ pub never_odd : {store bytes path : List ℕ} {before now : Option Tree} {s : Wr
     → IfSome before P
 never_odd {store} {bytes} {path} {before} {now} p len done size P h apart file told within left most all ne = some
     before file (still (λ found. p ≡ take 65536 (drop done (bytes_of found)))
-    (new_path store) path before now apart h.kept told)
+    (new_path store) path before now apart h.gone.kept told)
   where
     size_is : (xs : List ℕ) → length xs ≡ len → p ≡ take 65536 (drop done xs) → length p ≡ min 65536 (len - done)
     size_is xs long is = ap length is ∙ length-take 65536 (drop done xs)
@@ -220,12 +214,12 @@ file_is (Some (item.File e b)) exec len k = (
 pub file_length : (o : Option Item) (exec : Bool) (len : ℕ) → kind.File exec len ≡ kind_of o → HasLength len o
 file_length o exec len k = let is = file_is o exec len k in record { file = ap is_file is.0; length_is = is.1 }
 
-pub has_length : {store bytes path : List ℕ} {before now : Option Tree} {s : Writer} (exec : Bool) (len : ℕ)
+pub has_length : {store bytes path : List ℕ} {before now : Option Tree} {s : WriterState} (exec : Bool) (len : ℕ)
     → HasWritten store before s bytes now → AreApart (new_path store) path
     → IfSome now (λ files. kind.File exec len ≡ kind_of (item_at files path))
     → IfSome before (λ files. HasLength len (item_at files path))
 has_length {store} {bytes} {path} {before} {now} exec len h apart told = some before
-    (still (λ found. kind.File exec len ≡ kind_of found) (new_path store) path before now apart h.kept told)
+    (still (λ found. kind.File exec len ≡ kind_of found) (new_path store) path before now apart h.gone.kept told)
   where
     some : (o : Option Tree) → IfSome o (λ files. kind.File exec len ≡ kind_of (item_at files path))
         → IfSome o (λ files. HasLength len (item_at files path))
@@ -243,7 +237,7 @@ file_node files levels path size exec len some k =
     (file_is (item_at files path) exec len k).1
 
 -- a file whose bytes were written
-pub file_put : {store taken path : List ℕ} {before now : Option Tree} {s : Writer} (levels size total : ℕ)
+pub file_put : {store taken path : List ℕ} {before now : Option Tree} {s : WriterState} (levels size total : ℕ)
     (exec : Bool) (len : ℕ) (text : List ℕ) → HasWritten store before s taken now → AreApart (new_path store) path
     → IfSome now (λ files. kind.File exec len ≡ kind_of (item_at files path)) → 0 < levels → levels ≤ 65
     → Ok total ≡ room (size + (10 + len)) → IsPart before path 0 len text
@@ -253,7 +247,7 @@ file_put {store} {taken} {path} {before} {now} levels size total exec len text h
       node = node.File exec text;
       bytes = ap (λ n. file_head exec n ++ text) (sym long) ∙ sym (node_bytes_file exec text);
       read = by before (still (λ found. kind.File exec len ≡ kind_of found)
-          (new_path store) path before now apart h.kept told) part.told;
+          (new_path store) path before now apart h.gone.kept told) part.told;
       fit = file_fits exec text size total len (65 - levels) (sym long)
           (room_is (nat_le (size + (10 + len)) limit) fits) (omega arith);
     }
@@ -280,13 +274,13 @@ file_put {store} {taken} {path} {before} {now} levels size total exec len text h
         (sym fits) ∙ ap (λ b. Ok (node.File exec b, total)) (sym text_is)
 
 -- there is no room for it
-pub file_refused : {store taken path : List ℕ} {before now : Option Tree} {s : Writer} (levels size : ℕ)
+pub file_refused : {store taken path : List ℕ} {before now : Option Tree} {s : WriterState} (levels size : ℕ)
     (exec : Bool) (len : ℕ) (fault : StoreFault) → HasWritten store before s taken now
     → AreApart (new_path store) path
     → IfSome now (λ files. kind.File exec len ≡ kind_of (item_at files path)) → 0 < levels
     → Err fault ≡ room (size + (10 + len)) → Refuses before (λ files. node_at levels files path size) fault
 file_refused {store} {taken} {path} {before} {now} levels size exec len fault h apart told some fits = by before
-    (still (λ found. kind.File exec len ≡ kind_of found) (new_path store) path before now apart h.kept told)
+    (still (λ found. kind.File exec len ≡ kind_of found) (new_path store) path before now apart h.gone.kept told)
   where
     decided : (want : Result Sized StoreFault) → want ≡ Err fault → IsAnswer {A = Sized} cause_of (Err fault) want
     decided want e = where_so (cause_of fault) (want ≡ Err fault) e
@@ -337,16 +331,16 @@ refuses_as (Some files) want other fault same h = subst (λ w. IsAnswer cause_of
 -- ---- a call behind one that only read
 
 pub added_from : {A : Type 0} {store bytes : List ℕ} {before : Option Tree} {Is : A → List ℕ → Type 0}
-    {Why : StoreFault → Type 0} {a b c : Seen} {s : Writer} {r : Result A StoreFault} → b.misused ≡ a.misused
+    {Why : StoreFault → Type 0} {a b c : Seen} {s : WriterState} {r : Result A StoreFault} → b.misused ≡ a.misused
     → Added store before Is Why bytes b r s c → Added store before Is Why bytes a r s c
 added_from same h = record { added = h.added; refused = h.refused; right = h.right ∙ same }
 
-pub kind_before : {store bytes path : List ℕ} {before now : Option Tree} {s : Writer} (k : Kind)
+pub kind_before : {store bytes path : List ℕ} {before now : Option Tree} {s : WriterState} (k : Kind)
     → HasWritten store before s bytes now → AreApart (new_path store) path
     → IfSome now (λ files. k ≡ kind_of (item_at files path))
     → IfSome before (λ files. k ≡ kind_of (item_at files path))
 kind_before {store} {path = path} {before} {now} k h apart told = still (λ found. k ≡ kind_of found)
-    (new_path store) path before now apart h.kept told
+    (new_path store) path before now apart h.gone.kept told
 
 -- ---- a link
 
@@ -367,14 +361,14 @@ pub link_refused : (before : Option Tree) (path target : List ℕ) (levels size 
 link_refused None path target levels size fault h = tt
 link_refused (Some files) path target levels size fault h = h
 
-pub link_same : {store bytes path : List ℕ} {before now : Option Tree} {s : Writer} (levels size : ℕ)
+pub link_same : {store bytes path : List ℕ} {before now : Option Tree} {s : WriterState} (levels size : ℕ)
     (text target : List ℕ) → text ≡ target → HasWritten store before s bytes now → AreApart (new_path store) path
     → IfSome now (λ files. kind.Link ≡ kind_of (item_at files path))
     → IfSome now (λ files. target ≡ target_of (item_at files path))
     → IfSome before (λ files. link_of path levels size text ≡ node_at levels files path size)
 link_same {store} {path = path} {before} {now} levels size text target same h apart k told =
-    by before (still (λ found. kind.Link ≡ kind_of found) (new_path store) path before now apart h.kept k)
-    (still (λ found. target ≡ target_of found) (new_path store) path before now apart h.kept told)
+    by before (still (λ found. kind.Link ≡ kind_of found) (new_path store) path before now apart h.gone.kept k)
+    (still (λ found. target ≡ target_of found) (new_path store) path before now apart h.gone.kept told)
   where
     by : (o : Option Tree) → IfSome o (λ files. kind.Link ≡ kind_of (item_at files path))
         → IfSome o (λ files. target ≡ target_of (item_at files path))
@@ -392,11 +386,11 @@ lists_kept file path a b names long apart kept are lists = names_listed a path n
     (λ name part. lists name part ∙ ap is_some (item_kept file (joined path name) a b
     (apart_child file path name long (part_form name part).0 (part_form name part).1 apart) kept)) are
 
-pub names_before : {store bytes path : List ℕ} {before now : Option Tree} {s : Writer} (names : List (List ℕ))
+pub names_before : {store bytes path : List ℕ} {before now : Option Tree} {s : WriterState} (names : List (List ℕ))
     → HasWritten store before s bytes now → AreApart (new_path store) path → AreNames names
     → IfSome now (λ files. Lists files path names) → IfSome before (λ files. names ≡ names_in files path)
 unfolding KeptAround
-names_before {store} {path = path} {before} {now} names h apart are lists = by before now h.kept lists
+names_before {store} {path = path} {before} {now} names h apart are lists = by before now h.gone.kept lists
   where
     long : 0 < length (new_path store)
     long = let more : length (trees_of store) < length (new_path store) = longer_child (trees_of store)
@@ -519,7 +513,7 @@ entry_refused {before} {levels} {folder} {names} {index} {size} {so_far} name fa
 
 -- ---- a folder
 
-pub folder_put : {store bytes path : List ℕ} {before now : Option Tree} {s : Writer} {levels size start total : ℕ}
+pub folder_put : {store bytes path : List ℕ} {before now : Option Tree} {s : WriterState} {levels size start total : ℕ}
     {names listed : List (List ℕ)} {next : List ℕ} → HasWritten store before s bytes now
     → AreApart (new_path store) path → levels ≤ 64
     → IfSome now (λ files. kind.Folder ≡ kind_of (item_at files path)) → Ok start ≡ room (size + 5)
@@ -544,7 +538,7 @@ folder_put {store} {path = path} {before} {levels = levels} {size} {start} {tota
         in let sum : total ≡ start + length (entries_bytes es.entries) = es.size_is
         in omega (arith, n, is, sum, few)
 
-pub folder_refuses : {store bytes path : List ℕ} {before now : Option Tree} {s : Writer}
+pub folder_refuses : {store bytes path : List ℕ} {before now : Option Tree} {s : WriterState}
     (levels size : ℕ) {start : ℕ} {names listed : List (List ℕ)} (fault : StoreFault)
     → HasWritten store before s bytes now → AreApart (new_path store) path
     → IfSome now (λ files. kind.Folder ≡ kind_of (item_at files path)) → Ok start ≡ room (size + 5)
@@ -556,7 +550,7 @@ folder_refuses {path = path} {before} levels size {start} {names} {listed} fault
     why = folder_refused before before levels path size start names listed fault refl
     (kind_before kind.Folder h apart k) fits same (names_before listed h apart are lists) why
 
-pub folder_no_room : {store bytes path : List ℕ} {before now : Option Tree} {s : Writer} (levels size : ℕ)
+pub folder_no_room : {store bytes path : List ℕ} {before now : Option Tree} {s : WriterState} (levels size : ℕ)
     (fault : StoreFault) → HasWritten store before s bytes now → AreApart (new_path store) path
     → IfSome now (λ files. kind.Folder ≡ kind_of (item_at files path)) → Err fault ≡ room (size + 5)
     → Refuses before (λ files. node_of files path (λ name. node_at levels files (joined path name)) size
@@ -670,7 +664,7 @@ node_bytes_as same h = record { node = h.node; bytes = same ∙ h.bytes; read = 
 
 -- with what holds of the value besides
 pub added_with : {A : Type 0} {store bytes : List ℕ} {before : Option Tree} {Is1 : A → List ℕ → Type 0}
-    {Why1 : StoreFault → Type 0} {Is : A → List ℕ → Type 0} {Why : StoreFault → Type 0} {a b : Seen} {s1 : Writer}
+    {Why1 : StoreFault → Type 0} {Is : A → List ℕ → Type 0} {Why : StoreFault → Type 0} {a b : Seen} {s1 : WriterState}
     {r : Result A StoreFault} (F : A → Type 0)
     → IfOk r F → ((v : A) (more : List ℕ) → F v → Is1 v more → Is v more)
     → ((fault : StoreFault) → Why1 fault → Why fault) → Added store before Is1 Why1 bytes a r s1 b
@@ -689,7 +683,7 @@ added_with {A} {store} {bytes} {before} {Is1} {Why1} {Is} {Why} {b = b} {s1} {r 
     refused (Err fault) h = why fault h
 
 -- a node that lies too deep
-pub leaves_deep : {A : Type 0} (path : List ℕ) (s : Writer) (a : Seen) (fault : StoreFault) → fault ≡ Limit Depth
+pub leaves_deep : {A : Type 0} (path : List ℕ) (s : WriterState) (a : Seen) (fault : StoreFault) → fault ≡ Limit Depth
     → LeavesNew {A = A} path s a (Err fault) s a
 leaves_deep {A} path s a fault e = leaves_local {A = A} path s s a (Err fault) refl
     (λ n. subst (λ f. CountsFiles {A = A} cause_of (Err f) n n) (sym e) refl)
@@ -736,7 +730,7 @@ tree_put_of {before} {path} {now} {more} {next} is h = record {
       in omega (arith, first, all, rest, sum);
 }
 
-pub root_added : {store bytes path : List ℕ} {before : Option Tree} {a b : Seen} {s1 : Writer}
+pub root_added : {store bytes path : List ℕ} {before : Option Tree} {a b : Seen} {s1 : WriterState}
     {r : Result ℕ StoreFault} (k : Kind) → k ≡ kind.Folder → IfSome before
     (λ files. k ≡ kind_of (item_at files path))
     → Added store before (λ now more. IsNodeOf before

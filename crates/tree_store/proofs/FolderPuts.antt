@@ -22,16 +22,16 @@ use Rattle.tree_store.specs.Steps.{BlamesFolder, LeavesFolder, PutsRead, can_nam
 use Rattle.tree_store.specs.Steps.{puts_folder, reads_tree}
 use Rattle.tree_store.specs.Store.{Keeps, done_of, tree_path}
 use Rattle.tree_store.specs.Writing.{IsCleared, IsClearedOf, KeptFile, LeavesNew, LeavesButFile, LeavesButPut}
-use Rattle.tree_store.specs.Writing.{PutsBytes}
+use Rattle.tree_store.specs.Writing.{PutsBytes, WriterState}
 use Rattle.tree_store.specs.Writing.{Refuses, bytes_put, can_begin, new_path, trees_of}
 use Rattle.tree_store.specs.declared.fault.StoreFault.{StoreFault}
 use Rattle.tree_store.specs.declared.fault.StoreFault.TheVariants.{OddFile, Limit, File, NoTree, Damaged, Clash, Memory}
-use Rattle.tree_store.specs.declared.writing.Writer.{Writer}
+use Rattle.tree_store.specs.Target.{ToFile}
 use Rattle.tree_store.proofs.CountLaws.{counted}
 use Rattle.tree_store.proofs.Around.{kept_itself}
 use Rattle.tree_store.proofs.NewPlace.{place_itself}
 use Rattle.tree_store.proofs.Puts.{free_keeps, unless_free}
-use Rattle.tree_store.proofs.Written.{others_stop, others_then}
+use Rattle.tree_store.proofs.Written.{leaves_file, leaves_others, others_stop, others_then}
 use Rattle.tree_store.proofs.Settled.{decided_is, new_within, where_so, put_others_then, same_right}
 
 -- ---- refusals
@@ -163,8 +163,8 @@ no_memory store path a = record {
 }
 
 -- what was read refuses it
-pub walk_refused : {store path : List ℕ} {writer after : Writer} {a b c d : Seen} {fault answered : StoreFault}
-    → writer.path ≡ new_path store → LeavesButFile {A = Unit {0}} (new_path store) a (Ok tt) b
+pub walk_refused : {store path : List ℕ} {writer after : WriterState} {a b c d : Seen} {fault answered : StoreFault}
+    → writer.target ≡ ToFile (new_path store) → LeavesButFile {A = Unit {0}} (new_path store) a (Ok tt) b
     → MayMisuse (option_map (can_begin store) a.files) a.misused b.misused
     → LeavesNew {A = ℕ} path writer b (Err fault) after c → Refuses a.files (tree_in path) fault
     → c.misused ≡ b.misused → IsClearedOf fault store c answered d
@@ -188,7 +188,7 @@ walk_refused {store} {path} {writer} {after} {a} {b} {c} {d} {fault} {answered} 
     }
   where
     walked : LeavesButFile {A = Unit {0}} (new_path store) b (Err fault) c
-    walked = others_stop (subst (λ f. LeavesButFile {A = ℕ} f b (Err fault) c) at leaves.others)
+    walked = others_stop (leaves_others (new_path store) at leaves)
 
     all : LeavesButFile {A = Unit {0}} (new_path store) a (Err answered) d
     all = clear.others a (others_then begun walked)
@@ -202,7 +202,7 @@ walk_refused {store} {path} {writer} {after} {a} {b} {c} {d} {fault} {answered} 
     blamed : BlamesWithin (trees_of store) answered ⊎ (answered ≡ fault) → BlamesFolder store path answered
     blamed (inl h) = blames_trees store path answered h
     blamed (inr same) = subst (BlamesFolder store path) (sym same)
-        (blames_one store path writer.path fault at leaves.blames)
+        (blames_one store path (new_path store) fault refl (leaves_file (new_path store) at leaves).1)
 
 -- ---- the tree is put
 
@@ -292,12 +292,12 @@ read_refused store path a b fault read blames = record {
 
 -- ---- what the whole walk leaves
 
-pub put_all_others : {A : Type 0} {store path : List ℕ} {w : Writer} {writer after : Writer} {v : A} {a b c d : Seen}
-    {r : Result (List ℕ) StoreFault} → writer.path ≡ new_path store
-    → LeavesButFile {A = Writer} (new_path store) a (Ok w) b → LeavesNew {A = A} path writer b (Ok v) after c
+pub put_all_others : {A B : Type 0} {store path : List ℕ} {w : B} {writer after : WriterState} {v : A}
+    {a b c d : Seen} {r : Result (List ℕ) StoreFault} → writer.target ≡ ToFile (new_path store)
+    → LeavesButFile {A = B} (new_path store) a (Ok w) b → LeavesNew {A = A} path writer b (Ok v) after c
     → LeavesButPut store c r d → LeavesButPut store a r d
-put_all_others {A} {store} {w = w} {writer} {v = v} {a = a} {b} {c} {d} at begun leaves put = put_others_then
-    (others_then begun (subst (λ f. LeavesButFile {A = A} f b (Ok v) c) at leaves.others)) put
+put_all_others {store = store} at begun leaves put = put_others_then
+    (others_then begun (leaves_others (new_path store) at leaves)) put
 
 -- ---- behind a step that changed nothing
 

@@ -3,6 +3,7 @@ pub mod NewPlace
 pub mod Ahead
 pub mod Around
 pub mod Blames
+pub mod Caches
 pub mod CallSteps
 pub mod Cases
 pub mod Checked
@@ -12,6 +13,7 @@ pub mod CountLaws
 pub mod Entries
 pub mod Fit
 pub mod Fitting
+pub mod Givings
 pub mod HeldLaid
 pub mod Kept
 pub mod Laid
@@ -24,6 +26,7 @@ pub mod Places
 pub mod Pieces
 pub mod Puts
 pub mod Fields
+pub mod Receivings
 pub mod Right
 pub mod Roots
 pub mod Standing

@@ -36,7 +36,8 @@ use Rattle.tree_store.specs.Writing.{AreApart, ClashesUnless, HasWritten, IsClea
 use Rattle.tree_store.specs.Writing.{LeavesButFile, LeavesButPut, PutsBytes, begun_with, bytes_put, named_or_left}
 use Rattle.tree_store.specs.Writing.{new_path}
 use Rattle.tree_store.specs.Writing.{trees_of}
-use Rattle.tree_store.specs.declared.writing.Writer.{Writer}
+use Rattle.tree_store.specs.Writing.{WriterState}
+use Rattle.tree_store.specs.Target.{ToFile, WentTo}
 use Rattle.tree_store.specs.declared.fault.StoreFault.{StoreFault}
 use Rattle.tree_store.specs.declared.fault.StoreFault.TheVariants.{OddFile, Limit, File, NoTree, Damaged, Clash, Memory}
 use Rattle.tree_store.proofs.Apart.{item_kept, siblings_apart, still}
@@ -530,18 +531,20 @@ either_in folder path (Err (Clash digest)) within h = tt
 either_in folder path (Err Memory) within h = tt
 
 -- all bytes that were taken stand in the file, where none is held
-pub record IsFlushed (store bytes : List ℕ) (before : Option Tree) (s : Writer) (now : Option Tree) : Type 0 where
+pub record IsFlushed (store bytes : List ℕ) (before : Option Tree) (s : WriterState) (now : Option Tree) : Type 0 where
   pub hashed : Holds256 s.hasher bytes
   pub files : now ≡ option_map (begun_with store bytes) before
   pub kept : KeptAround (new_path store) before now
 
-pub is_flushed : {store bytes more : List ℕ} {before now : Option Tree} {s : Writer} → more ≡ []
-    → s.piece.items ≡ [] → HasWritten store before s (bytes ++ more) now → IsFlushed store bytes before s now
-is_flushed {store} {bytes} {more} {before} {now} {s} none empty h = record {
+pub is_flushed : {store bytes more : List ℕ} {before now : Option Tree} {s : WriterState} (file : List ℕ)
+    → s.target ≡ ToFile file → more ≡ [] → s.piece ≡ [] → HasWritten store before s (bytes ++ more) now
+    → IsFlushed store bytes before s now
+is_flushed {store} {bytes} {more} {before} {now} {s} file at none empty h = record {
   hashed = subst (Holds256 s.hasher) all h.hashed;
-  files = h.files ∙ ap (λ b. option_map (begun_with store b) before)
+  files = (subst (λ t. WentTo store before t h.first now) at h.gone.went).1
+      ∙ ap (λ b. option_map (begun_with store b) before)
       (sym (append-nil h.first) ∙ ap (λ p. h.first ++ p) (sym empty) ∙ sym h.is ∙ all);
-  kept = h.kept;
+  kept = h.gone.kept;
 }
   where
     all : bytes ++ more ≡ bytes

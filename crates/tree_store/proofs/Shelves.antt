@@ -22,12 +22,12 @@ use Rattle.tree_store.specs.declared.fault.StoreFault.TheVariants.{Memory}
 
 -- ---- an item of a list is replaced
 
-split_at : {X : Type 0} (xs : List X) (i : ℕ) (x : X) → i < length xs → x ≡ get_or xs i x
+pub split_at : {X : Type 0} (xs : List X) (i : ℕ) (x : X) → i < length xs → x ≡ get_or xs i x
     → xs ≡ take i xs ++ x ∷ drop (suc i) xs
 split_at xs i x lt is = sym (take-append-drop i xs) ∙ ap (λ r. take i xs ++ r)
     (drop-cons xs i x lt ∙ ap (λ y. y ∷ drop (suc i) xs) (sym is))
 
-set_split : {X : Type 0} (xs : List X) (i : ℕ) (x y : X) → i < length xs → x ≡ get_or xs i x
+pub set_split : {X : Type 0} (xs : List X) (i : ℕ) (x y : X) → i < length xs → x ≡ get_or xs i x
     → set xs i y ≡ take i xs ++ y ∷ drop (suc i) xs
 set_split xs i x y lt is =
     let len : length (take i xs) ≡ i = length-take-le i xs (omega arith) in

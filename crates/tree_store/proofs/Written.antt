@@ -1,8 +1,9 @@
 -- Calls that write a tree's file in pieces, one after another.
-use Rattle.std.proofs.Common.{◌≡◌, ◌≤◌, ◌<◌, ◌∙◌, refl, sym, ap, subst, arith, ℕ, Bool, true, false, cond, ◌++◌, List}
+use Rattle.std.proofs.Common.{inl, inr, ◌≡◌, ◌≤◌, ◌<◌, ◌∙◌, refl, sym, ap, subst, arith, ℕ, Bool, true, false, cond}
+use Rattle.std.proofs.Common.{◌++◌, List}
 use Rattle.std.proofs.Common.{[], append-nil, append_assoc, ◌+◌, ◌-◌, drop, take, length, Option, Some, None, Result}
 use Rattle.std.proofs.Common.{Ok, Err}
-use Rattle.std.specs.Prelude.{nat_le, IfErr, IfOk, IfSome, IsTrue, OnOk, OnErr, codes}
+use Rattle.std.specs.Prelude.{is_ok, nat_le, IfErr, IfOk, IfSome, IsTrue, OnOk, OnErr, codes}
 use Rattle.std.specs.Option.{option_map}
 use Rattle.std.specs.FinMap.{get}
 use Rattle.std.proofs.Math.Seq.{take-add}
@@ -21,25 +22,28 @@ use Rattle.std.proofs.lemmas.Bool.{and_from, and_parts}
 use Rattle.steps.specs.Causes.{CountsFiles, Decided, FilesBy, IsReadCause}
 use Rattle.steps.specs.Outside.{Seen, seen}
 use Rattle.steps.specs.Reading.{LeavesUnchanged}
-use Rattle.tree_store.specs.Answers.{BlamesAt, BlamesEither, BlamesWithin, cause_of, is_odd_file}
+use Rattle.tree_store.specs.Answers.{BlamesAt, BlamesEither, BlamesWithin, cause_of, is_free, is_odd_file}
 use Rattle.tree_store.specs.Around.{KeptAround, LeavesAround}
 use Rattle.tree_store.specs.Reading.{room}
 use Rattle.tree_canon.specs.Spelling.{limit}
 use Rattle.cnb_world.specs.declared.limits.LimitKind.TheVariants.{Tree as TreeLimit}
-use Rattle.tree_store.specs.Writing.{Added, HasWritten, KeptFile, LeavesNew, LeavesButFile, begun_with, can_begin}
-use Rattle.tree_store.specs.Writing.{new_path}
-use Rattle.tree_store.specs.Writing.{trees_of}
+use Rattle.tree_store.specs.Target.{AppendsTo, AsTold, BlamesTarget, HasGone, KeepsTarget, LeavesFiles, LeavesOthers}
+use Rattle.tree_store.specs.Target.{LeavesTarget, Receiver}
+use Rattle.tree_store.specs.Target.{StaysTarget, TargetState, ToFile, ToShelves, shelf_of}
+use Rattle.tree_store.specs.Writing.{Added, HasWritten, KeptFile, LeavesButFile, LeavesNew, WriterState, begun_with}
+use Rattle.tree_store.specs.Writing.{can_begin, new_path, trees_of}
 use Rattle.tree_store.specs.declared.fault.StoreFault.{StoreFault}
 use Rattle.tree_store.specs.declared.fault.StoreFault.TheVariants.{OddFile, Limit, File, NoTree, Damaged, Clash, Memory}
-use Rattle.tree_store.specs.declared.writing.Writer.{Writer}
 use Rattle.tree_store.proofs.Around as around
 use Rattle.tree_store.proofs.Apart.{keeps_made_above}
-use Rattle.tree_store.proofs.Blames.{at_within, blames_file, blames_wider, names_none, part_within}
+use Rattle.tree_store.proofs.Blames.{at_within, blames_at, blames_file, blames_wider, names_none, part_within}
+use Rattle.tree_store.proofs.Caches.{each_then}
 use Rattle.tree_store.proofs.Kept.{may_begin}
 use Rattle.tree_store.proofs.NewPlace.{place_itself, place_on}
 use Rattle.tree_store.proofs.Pieces.{appended-set}
 use Rattle.tree_store.proofs.Places.{child_not_root, longer_child, part_form}
 use Rattle.tree_store.proofs.Right.{right}
+use Rattle.tree_store.proofs.Ways.{when_ok}
 
 -- ---- what calls leave
 
@@ -117,46 +121,177 @@ no_blame path file (Err (Damaged asked found bad)) h = tt
 no_blame path file (Err (Clash digest)) h = tt
 no_blame path file (Err Memory) h = tt
 
--- a call at the writer's path
-pub leaves_called : {W : Type 0} (ghosts : world.Ghosts W) (path : List ℕ) (s s1 : Writer)
-    (answer : Result (Unit {0}) FileFault) (result : Result (Unit {0}) StoreFault) (old new : W)
-    → s1.path ≡ s.path → LeavesAround s.path (seen ghosts old) (seen ghosts new)
-    → KeptFile s.path (ghosts.tree old) (ghosts.tree new) → ghosts.child_faults new ≡ ghosts.child_faults old
-    → CountsFailed answer (ghosts.file_faults old) (ghosts.file_faults new)
-    → LastFailed s.path answer (ghosts.failed_at old) (ghosts.failed_at new)
-    → ((before now : ℕ) → CountsFailed answer before now → CountsFiles cause_of result before now)
-    → ((before now : Option (List ℕ)) → LastFailed s.path answer before now
-    → IfErr result (λ fault. IsReadCause now (cause_of fault))) → IfErr result (BlamesAt s.path)
-    → LeavesNew path s (seen ghosts old) result s1 (seen ghosts new)
-leaves_called ghosts path s s1 answer result old new stays kept place children counted failed counts cause
-    blames = record {
-      stays = stays;
-      others = others_called ghosts s.path s.path answer result old new kept place children counted failed counts cause;
-      blames = blames_file path s.path result blames;
-    }
+no_blame_within : {A : Type 0} (path : List ℕ) (r : Result A StoreFault) → ((n : ℕ) → CountsFiles cause_of r n n)
+    → IfErr r (BlamesWithin path)
+no_blame_within path (Ok value) h = tt
+no_blame_within path (Err (File failed)) h = let rose = h 0 in let up = rose.up in absurd (omega arith)
+no_blame_within path (Err (OddFile odd)) h = tt
+no_blame_within path (Err (Limit kind)) h = tt
+no_blame_within path (Err (NoTree digest)) h = tt
+no_blame_within path (Err (Damaged asked found bad)) h = tt
+no_blame_within path (Err (Clash digest)) h = tt
+no_blame_within path (Err Memory) h = tt
 
-pub leaves_then : {A B : Type 0} {path : List ℕ} {s0 s1 s2 : Writer} {a b c : Seen} {v : A}
-    {r : Result B StoreFault} → LeavesNew path s0 a (Ok v) s1 b → LeavesNew path s1 b r s2 c
-    → LeavesNew path s0 a r s2 c
-leaves_then {path = path} {s0} {s1} {s2} {a} {b} {c} {v} {r} first next = record {
-  stays = next.stays ∙ first.stays;
-  others = others_then first.others (subst (λ f. LeavesButFile f b r c) first.stays next.others);
-  blames = subst (λ f. IfErr r (BlamesEither path f)) first.stays next.blames;
+at_if : {A : Type 0} (path : List ℕ) (r : Result A StoreFault) → IfErr r (BlamesAt path) → IfErr r (BlamesWithin path)
+at_if path (Ok value) h = tt
+at_if path (Err fault) h = at_within path fault h
+
+-- two answers that are counted and told alike
+record CountsSame {A B : Type 0} (r : Result A StoreFault) (q : Result B StoreFault) : Type 0 where
+  counts : (x y : ℕ) → CountsFiles cause_of r x y → CountsFiles cause_of q x y
+  cause : (last : Option (List ℕ)) → IfErr r (λ fault. IsReadCause last (cause_of fault))
+      → IfErr q (λ fault. IsReadCause last (cause_of fault))
+
+same_value : {A B : Type 0} (v : A) (w : B) → CountsSame {A = A} {B = B} (Ok v) (Ok w)
+same_value v w = record { counts = λ x y h. h; cause = λ last h. h }
+
+same_refusal : (A B : Type 0) (fault : StoreFault) → CountsSame {A = A} {B = B} (Err fault) (Err fault)
+same_refusal A B fault = record { counts = λ x y h. h; cause = λ last h. h }
+
+-- ---- the same where the bytes may go to shelves
+
+files_then : {A B : Type 0} {a b c : Seen} {v : A} {r : Result B StoreFault} → LeavesFiles a (Ok v) b
+    → LeavesFiles b r c → LeavesFiles a r c
+files_then {r = r} first next = record {
+  files = next.files ∙ first.files;
+  runs = next.runs ∙ first.runs;
+  misused = omega (arith, first.misused, next.misused);
+  children = next.children ∙ first.children;
+  counts = counts_on r _ _ _ first.counts next.counts;
+  cause = next.cause;
 }
 
-pub leaves_stop : {A B : Type 0} {path : List ℕ} {s0 s1 : Writer} {a b : Seen} {fault : StoreFault}
-    → LeavesNew {A = A} path s0 a (Err fault) s1 b → LeavesNew {A = B} path s0 a (Err fault) s1 b
-leaves_stop h = record { stays = h.stays; others = others_stop h.others; blames = h.blames }
+others_as : {A B : Type 0} (t : TargetState) (a b : Seen) {r : Result A StoreFault} {q : Result B StoreFault}
+    → CountsSame r q → LeavesOthers t a r b → LeavesOthers t a q b
+others_as (ToFile p) a b same h = record {
+  around = h.around;
+  place = h.place;
+  children = h.children;
+  counts = same.counts _ _ h.counts;
+  cause = same.cause _ h.cause;
+}
+others_as (ToShelves d rs fs) a b same h = record {
+  files = h.files;
+  runs = h.runs;
+  misused = h.misused;
+  children = h.children;
+  counts = same.counts _ _ h.counts;
+  cause = same.cause _ h.cause;
+}
 
-pub leaves_value : {A B : Type 0} {path : List ℕ} {s0 s1 : Writer} {a b : Seen} {v : A} (w : B)
+files_local : {A : Type 0} (a : Seen) (r : Result A StoreFault) → ((n : ℕ) → CountsFiles cause_of r n n)
+    → LeavesFiles a r a
+files_local {A} a r counts = record {
+  files = refl;
+  runs = refl;
+  misused = omega arith;
+  children = refl;
+  counts = counts a.file_faults;
+  cause = names_none A r a.failed_at counts;
+}
+
+no_call : {A : Type 0} (t : TargetState) (a : Seen) (r : Result A StoreFault)
+    → ((n : ℕ) → CountsFiles cause_of r n n) → LeavesOthers t a r a
+no_call (ToFile p) a r counts = others_local p a r counts
+no_call (ToShelves d rs fs) a r counts = files_local a r counts
+
+blames_none : {A : Type 0} (path : List ℕ) (t : TargetState) (r : Result A StoreFault)
+    → ((n : ℕ) → CountsFiles cause_of r n n) → IfErr r (BlamesTarget path t)
+blames_none path (ToFile p) r counts = no_blame path p r counts
+blames_none path (ToShelves d rs fs) r counts = no_blame_within path r counts
+
+told_then : (a b c : Receiver) → AsTold a b → AsTold b c → AsTold a c
+told_then a b c h k = (k.0 ∙ h.0, k.1 ∙ h.1)
+
+stays_then : (t0 t1 t2 : TargetState) → KeepsTarget t0 t1 → KeepsTarget t1 t2 → KeepsTarget t0 t2
+stays_then t0 t1 t2 (inl same) k = subst (λ t. KeepsTarget t t2) same k
+stays_then t0 t1 t2 (inr h) (inl same) = inr (subst (StaysTarget t0) (sym same) h)
+stays_then t0 t1 t2 (inr h) (inr k) = inr (both t0 t1 t2 h k)
+  where
+    both : (t0 t1 t2 : TargetState) → StaysTarget t0 t1 → StaysTarget t1 t2 → StaysTarget t0 t2
+    both (ToFile p) (ToFile q) (ToFile s) h k = k ∙ h
+    both (ToFile p) (ToFile q) (ToShelves d rs fs) h k = absurd k
+    both (ToFile p) (ToShelves d rs fs) t2 h k = absurd h
+    both (ToShelves d rs fs) (ToFile q) t2 h k = absurd h
+    both (ToShelves d rs fs) (ToShelves e ss gs) (ToFile q) h k = absurd k
+    both (ToShelves d rs fs) (ToShelves e ss gs) (ToShelves f us hs) h k = (
+      k.0 ∙ h.0,
+      each_then shelf_of AsTold AsTold AsTold (λ a b t. t) told_then fs gs hs rs ss us h.1 k.1,
+    )
+
+-- a file stays the same
+pub same_file : (path other : List ℕ) → KeepsTarget (ToFile path) (ToFile other) → other ≡ path
+same_file path other (inl same) = file_path same
+  where
+    file_path : ToFile other ≡ ToFile path → other ≡ path
+    file_path e = cc
+same_file path other (inr same) = same
+
+onward : {A B : Type 0} (path : List ℕ) (t0 t1 : TargetState) (a b c : Seen) (v : A) (r : Result B StoreFault)
+    → KeepsTarget t0 t1 → LeavesOthers t0 a (Ok v) b → LeavesOthers t1 b r c → IfErr r (BlamesTarget path t1)
+    → LeavesOthers t0 a r c × IfErr r (BlamesTarget path t0)
+onward path t0 t1 a b c v r stays first next blames = by stays
+  where
+    from : (t : TargetState) → LeavesOthers t a (Ok v) b → LeavesOthers t b r c → LeavesOthers t a r c
+    from (ToFile p) first next = others_then first next
+    from (ToShelves d rs fs) first next = files_then first next
+
+    moved : (t0 t1 : TargetState) → StaysTarget t0 t1 → LeavesOthers t0 a (Ok v) b → LeavesOthers t1 b r c
+        → IfErr r (BlamesTarget path t1) → LeavesOthers t0 a r c × IfErr r (BlamesTarget path t0)
+    moved (ToFile p) (ToFile q) same first next blames = (
+      others_then first (subst (λ f. LeavesButFile f b r c) same next),
+      subst (λ f. IfErr r (BlamesEither path f)) same blames,
+    )
+    moved (ToFile p) (ToShelves d rs fs) same first next blames = absurd same
+    moved (ToShelves d rs fs) (ToFile q) same first next blames = absurd same
+    moved (ToShelves d rs fs) (ToShelves e ss gs) same first next blames = (files_then first next, blames)
+
+    by : KeepsTarget t0 t1 → LeavesOthers t0 a r c × IfErr r (BlamesTarget path t0)
+    by (inl same) = (
+      from t0 first (subst (λ t. LeavesOthers t b r c) same next),
+      subst (λ t. IfErr r (BlamesTarget path t)) same blames,
+    )
+    by (inr moves) = moved t0 t1 moves first next blames
+
+pub leaves_then : {A B : Type 0} {path : List ℕ} {s0 s1 s2 : WriterState} {a b c : Seen} {v : A}
+    {r : Result B StoreFault} → LeavesNew path s0 a (Ok v) s1 b → LeavesNew path s1 b r s2 c
+    → LeavesNew path s0 a r s2 c
+leaves_then {path = path} {s0} {s1} {s2} {a} {b} {c} {v} {r} first next =
+    let on = onward path s0.target s1.target a b c v r first.stays first.others next.others next.blames in record {
+      stays = stays_then s0.target s1.target s2.target first.stays next.stays;
+      others = on.0;
+      blames = on.1;
+    }
+
+pub leaves_stop : {A B : Type 0} {path : List ℕ} {s0 s1 : WriterState} {a b : Seen} {fault : StoreFault}
+    → LeavesNew {A = A} path s0 a (Err fault) s1 b → LeavesNew {A = B} path s0 a (Err fault) s1 b
+leaves_stop {A} {B} {s0 = s0} {a = a} {b} {fault = fault} h = record {
+  stays = h.stays;
+  others = others_as s0.target a b (same_refusal A B fault) h.others;
+  blames = h.blames;
+}
+
+pub leaves_value : {A B : Type 0} {path : List ℕ} {s0 s1 : WriterState} {a b : Seen} {v : A} (w : B)
     → LeavesNew path s0 a (Ok v) s1 b → LeavesNew path s0 a (Ok w) s1 b
-leaves_value w h = record { stays = h.stays; others = others_value w h.others; blames = tt }
+leaves_value {s0 = s0} {a = a} {b} {v = v} w h = record {
+  stays = h.stays;
+  others = others_as s0.target a b (same_value v w) h.others;
+  blames = tt;
+}
+
+-- what a target leaves
+pub leaves_at : {A : Type 0} {path : List ℕ} (s s1 : WriterState) {a b : Seen} {r : Result A StoreFault}
+    → LeavesTarget path s.target a r s1.target b → LeavesNew path s a r s1 b
+leaves_at s s1 h = record { stays = h.stays; others = h.others; blames = h.blames }
 
 -- no call on files
-pub leaves_local : {A : Type 0} (path : List ℕ) (s s1 : Writer) (a : Seen) (r : Result A StoreFault)
-    → s1.path ≡ s.path → ((n : ℕ) → CountsFiles cause_of r n n) → LeavesNew path s a r s1 a
-leaves_local path s s1 a r stays counts = record
-    { stays = stays; others = others_local s.path a r counts; blames = no_blame path s.path r counts }
+pub leaves_local : {A : Type 0} (path : List ℕ) (s s1 : WriterState) (a : Seen) (r : Result A StoreFault)
+    → s1.target ≡ s.target → ((n : ℕ) → CountsFiles cause_of r n n) → LeavesNew path s a r s1 a
+leaves_local path s s1 a r stays counts = record {
+  stays = inl stays;
+  others = no_call s.target a r counts;
+  blames = blames_none path s.target r counts;
+}
 
 pub odd_counts : (A : Type 0) (path : List ℕ) (fault : StoreFault) → is_odd_file path fault → (n : ℕ)
     → CountsFiles {A = A} cause_of (Err fault) n n
@@ -168,14 +303,14 @@ odd_counts A path (NoTree digest) h n = absurd h
 odd_counts A path (Damaged asked found bad) h n = absurd h
 odd_counts A path (Clash digest) h n = absurd h
 
-pub leaves_memory : {A : Type 0} (path : List ℕ) (s s1 : Writer) (a : Seen) → s1.path ≡ s.path
+pub leaves_memory : {A : Type 0} (path : List ℕ) (s s1 : WriterState) (a : Seen) → s1.target ≡ s.target
     → LeavesNew {A = A} path s a (Err Memory) s1 a
 leaves_memory {A} path s s1 a stays = leaves_local {A = A} path s s1 a (Err Memory) stays (λ n. omega arith)
 
 pub others_memory : {A : Type 0} (file : List ℕ) (a : Seen) → LeavesButFile {A = A} file a (Err Memory) a
 others_memory {A} file a = others_local {A = A} file a (Err Memory) (λ n. omega arith)
 
-pub leaves_odd : {A : Type 0} (path : List ℕ) (s : Writer) (a : Seen) (odd : List ℕ) (fault : StoreFault)
+pub leaves_odd : {A : Type 0} (path : List ℕ) (s : WriterState) (a : Seen) (odd : List ℕ) (fault : StoreFault)
     → is_odd_file odd fault → LeavesNew {A = A} path s a (Err fault) s a
 leaves_odd {A} path s a odd fault h = leaves_local {A = A} path s s a (Err fault) refl (odd_counts A odd fault h)
 
@@ -187,10 +322,34 @@ room_counts n fault e = by (nat_le n limit) e
     by true e = absurd (cc)
     by false e = let same : fault ≡ Limit TreeLimit = cc in ap cause_of same
 
-pub leaves_room : {A : Type 0} (path : List ℕ) (s : Writer) (a : Seen) (n : ℕ) (fault : StoreFault)
+pub leaves_room : {A : Type 0} (path : List ℕ) (s : WriterState) (a : Seen) (n : ℕ) (fault : StoreFault)
     → Err fault ≡ room n → LeavesNew {A = A} path s a (Err fault) s a
 leaves_room {A} path s a n fault e = leaves_local {A = A} path s s a (Err fault) refl
     (λ m. subst (λ cause. FilesBy cause m m) (sym (room_counts n fault e)) refl)
+
+-- a call that reads
+pub leaves_reading : {A : Type 0} (path : List ℕ) (s : WriterState) {a b : Seen} {r : Result A StoreFault}
+    → LeavesUnchanged cause_of r a b → a.misused ≤ b.misused → IfErr r (BlamesAt path) → LeavesNew path s a r s b
+leaves_reading {A} path s {a} {b} {r} left rises blames = record {
+  stays = inl refl;
+  others = others s.target;
+  blames = blamed s.target;
+}
+  where
+    others : (t : TargetState) → LeavesOthers t a r b
+    others (ToFile p) = others_read p left rises
+    others (ToShelves d rs fs) = record {
+      files = left.files;
+      runs = left.runs;
+      misused = rises;
+      children = left.children;
+      counts = left.counts;
+      cause = left.cause;
+    }
+
+    blamed : (t : TargetState) → IfErr r (BlamesTarget path t)
+    blamed (ToFile p) = blames_at path p r blames
+    blamed (ToShelves d rs fs) = at_if path r blames
 
 -- ---- what was written
 
@@ -204,17 +363,14 @@ begun_stands store bytes files = by (is_root (new_path store))
     by false e = ap is_file (get-insert_same _ (new_path store) (item.File false bytes))
 
 -- bytes were held
-pub written_held : (store bytes more : List ℕ) (before now : Option Tree) (s s1 : Writer) → s1.path ≡ s.path
-    → s1.piece.items ≡ s.piece.items ++ more → ((taken : List ℕ) → Holds256 s.hasher taken
-    → Holds256 s1.hasher (taken ++ more))
+pub written_held : (store bytes more : List ℕ) (before now : Option Tree) (s s1 : WriterState) → s1.target ≡ s.target
+    → s1.piece ≡ s.piece ++ more → ((taken : List ℕ) → Holds256 s.hasher taken → Holds256 s1.hasher (taken ++ more))
     → HasWritten store before s bytes now → HasWritten store before s1 (bytes ++ more) now
 written_held store bytes more before now s s1 stays held hashed h = record {
   first = h.first;
-  is = ap (λ b. b ++ more) h.is ∙ append_assoc h.first s.piece.items more ∙ ap (λ p. h.first ++ p) (sym held);
+  is = ap (λ b. b ++ more) h.is ∙ append_assoc h.first s.piece more ∙ ap (λ p. h.first ++ p) (sym held);
   hashed = hashed bytes h.hashed;
-  path = stays ∙ h.path;
-  files = h.files;
-  kept = h.kept;
+  gone = subst (λ t. HasGone store before t h.first now) (sym stays) h.gone;
 }
 
 appended_so : (store first piece path : List ℕ) (before a b : Option Tree) → path ≡ new_path store
@@ -225,22 +381,34 @@ appended_so store first piece path (Some files) a b at is e = e ∙ ap (option_m
     ∙ ap (λ p. Some (appended p piece (begun_with store first files))) at
     ∙ ap Some (appended-set (new_path store) first piece false _)
 
--- bytes that were held were appended
-pub written_appended : {store bytes : List ℕ} {before : Option Tree} (s s1 : Writer) (a b : Seen) (text : List ℕ)
-    → s1.path ≡ s.path → s1.hasher ≡ s.hasher → s1.piece.items ≡ [] → text ≡ s.piece.items
-    → b.files ≡ option_map (appended s.path text) a.files → LeavesAround s.path a b
-    → HasWritten store before s bytes a.files → HasWritten store before s1 (bytes ++ []) b.files
-written_appended {store} {bytes} {before} s s1 a b text stays hasher empty held changed kept h = record {
+-- bytes that were held were handed on
+pub written_on : {store bytes : List ℕ} {before now next : Option Tree} (s s1 : WriterState) (text : List ℕ)
+    → s1.hasher ≡ s.hasher → s1.piece ≡ [] → text ≡ s.piece
+    → ((first : List ℕ) → HasGone store before s.target first now
+    → HasGone store before s1.target (first ++ text) next)
+    → HasWritten store before s bytes now → HasWritten store before s1 (bytes ++ []) next
+written_on {store} {bytes} {before} {now} {next} s s1 text hasher empty held went h = record {
   first = bytes;
   is = ap (λ p. bytes ++ p) (sym empty);
   hashed = subst (λ m. Holds256 m (bytes ++ [])) (sym hasher)
       (subst (Holds256 s.hasher) (sym (append-nil bytes)) h.hashed);
-  path = stays ∙ h.path;
-  files = appended_so store h.first s.piece.items s.path before a.files b.files h.path h.files
-      (changed ∙ ap (λ p. option_map (appended s.path p) a.files) held)
-      ∙ ap (λ m. option_map (begun_with store m) before) (sym h.is);
+  gone = subst (λ m. HasGone store before s1.target m next)
+      (ap (λ p. h.first ++ p) held ∙ sym h.is) (went h.first h.gone);
+}
+
+-- nothing was taken yet
+pub written_first : {store : List ℕ} {before now : Option Tree} (s : WriterState) → s.piece ≡ []
+    → Holds256 s.hasher [] → HasGone store before s.target [] now → HasWritten store before s [] now
+written_first s none hashed gone = record { first = []; is = sym none; hashed = hashed; gone = gone }
+
+-- they were appended to the file
+pub gone_on : {store first : List ℕ} {before : Option Tree} (path : List ℕ) (a b : Seen) (text : List ℕ)
+    → b.files ≡ option_map (appended path text) a.files → LeavesAround path a b
+    → HasGone store before (ToFile path) first a.files → HasGone store before (ToFile path) (first ++ text) b.files
+gone_on {store} {first} {before} path a b text changed kept h = record {
+  went = (h.went.0, appended_so store first text path before a.files b.files h.went.0 h.went.1 changed);
   kept = around.kept_on (new_path store) before a.files b.files h.kept
-      (subst (λ p. KeptAround p a.files b.files) h.path kept.files);
+      (subst (λ p. KeptAround p a.files b.files) h.went.0 kept.files);
 }
 
 can_append : (store first : List ℕ) (path : List ℕ) (before now : Option Tree) → path ≡ new_path store
@@ -250,23 +418,60 @@ can_append store first path (Some files) now at is = subst (λ o. IfSome o (λ t
     (sym is) (subst (λ p. IsTrue (can_read (begun_with store first files) p)) (sym at)
     (begun_stands store first files))
 
-pub written_same : {store bytes : List ℕ} {before now : Option Tree} (s : Writer)
+pub written_same : {store bytes : List ℕ} {before now : Option Tree} (s : WriterState)
     → HasWritten store before s bytes now → HasWritten store before s (bytes ++ []) now
 written_same {store} {bytes} {before} {now} s h = subst (λ m. HasWritten store before s m now)
     (sym (append-nil bytes)) h
 
 -- and the call was of the right kind
-pub append_right : {store bytes : List ℕ} {before now : Option Tree} (s : Writer)
+pub append_right : {store first : List ℕ} {before now : Option Tree} (path : List ℕ)
     (answer : Result (Unit {0}) FileFault) (x y : ℕ) → CountsMisuse
-    (option_map (λ t. can_read t s.path) now) answer x y → HasWritten store before s bytes now → y ≡ x
-append_right {store} {bytes} {before} {now} s answer x y counts h = right (λ t. can_read t s.path) now answer x y
-    (can_append store h.first s.path before now h.path h.files) counts
+    (option_map (λ t. can_read t path) now) answer x y → HasGone store before (ToFile path) first now → y ≡ x
+append_right {store} {first} {before} {now} path answer x y counts h = right (λ t. can_read t path) now answer x y
+    (can_append store first path before now h.went.0 h.went.1) counts
+
+-- a call that appends to the file
+pub appended_file : {W : Type 0} (ghosts : world.Ghosts W) (path bytes : List ℕ)
+    (answer : Result (Unit {0}) FileFault) (result : Result (Unit {0}) StoreFault) (old new : W)
+    → LeavesAround path (seen ghosts old) (seen ghosts new) → KeptFile path (ghosts.tree old) (ghosts.tree new)
+    → ghosts.child_faults new ≡ ghosts.child_faults old
+    → CountsFailed answer (ghosts.file_faults old) (ghosts.file_faults new)
+    → LastFailed path answer (ghosts.failed_at old) (ghosts.failed_at new)
+    → CountsMisuse (option_map (λ t. can_read t path) (ghosts.tree old)) answer (ghosts.misused old)
+    (ghosts.misused new)
+    → OnOk answer (ghosts.tree new ≡ option_map (appended path bytes) (ghosts.tree old))
+    → OnOk result (IsTrue (is_ok answer)) → IfErr result (λ fault. IsTrue (is_free fault))
+    → IfErr result (BlamesAt path)
+    → ((before now : Option (List ℕ)) → LastFailed path answer before now
+    → IfErr result (λ fault. IsReadCause now (cause_of fault)))
+    → ((before now : ℕ) → CountsFailed answer before now → CountsFiles cause_of result before now)
+    → AppendsTo bytes (ToFile path) (seen ghosts old) result (ToFile path) (seen ghosts new)
+appended_file ghosts path bytes answer result old new kept place children counted failed misused changed ok free blames
+    cause counts = record {
+      leaves = λ at. record {
+        stays = inl refl;
+        others = others_called ghosts path path answer result old new kept place children counted failed counts cause;
+        blames = blames_file at path result blames;
+      };
+      adds = λ store before first gone. (
+        went result ok gone,
+        append_right path answer (ghosts.misused old) (ghosts.misused new) misused gone,
+      );
+      free = free;
+    }
+  where
+    went : {store first : List ℕ} {before : Option Tree} (r : Result (Unit {0}) StoreFault)
+        → OnOk r (IsTrue (is_ok answer)) → HasGone store before (ToFile path) first (ghosts.tree old)
+        → OnOk r (HasGone store before (ToFile path) (first ++ bytes) (ghosts.tree new))
+    went (Ok done) good gone = gone_on path (seen ghosts old) (seen ghosts new) bytes (when_ok answer good changed) kept
+        gone
+    went (Err fault) good gone = tt
 
 -- ---- one call after another
 
 pub added_then : {A B : Type 0} {store bytes : List ℕ} {before : Option Tree} {Is1 : A → List ℕ → Type 0}
     {Why1 : StoreFault → Type 0} {Is : B → List ℕ → Type 0} {Why : StoreFault → Type 0} {a b c : Seen}
-    {s1 s2 : Writer} {v : A} {r : Result B StoreFault}
+    {s1 s2 : WriterState} {v : A} {r : Result B StoreFault}
     → Added store before Is1 Why1 bytes a (Ok v) s1 b
     → ((more : List ℕ) → Is1 v more → HasWritten store before s1 (bytes ++ more) b.files
     → Added store before (λ w next. Is w (more ++ next)) Why (bytes ++ more) b r s2 c)
@@ -294,7 +499,7 @@ added_then {B = B} {store} {bytes} {before} {Is = Is} {Why} {a} {b} {c} {s2 = s2
 
 -- told in another way
 pub added_as : {A : Type 0} {store bytes : List ℕ} {before : Option Tree} {Is1 : A → List ℕ → Type 0}
-    {Why1 : StoreFault → Type 0} {Is : A → List ℕ → Type 0} {Why : StoreFault → Type 0} {a b : Seen} {s1 : Writer}
+    {Why1 : StoreFault → Type 0} {Is : A → List ℕ → Type 0} {Why : StoreFault → Type 0} {a b : Seen} {s1 : WriterState}
     {r : Result A StoreFault}
     → ((v : A) (more : List ℕ) → Is1 v more → Is v more) → ((fault : StoreFault) → Why1 fault → Why fault)
     → Added store before Is1 Why1 bytes a r s1 b → Added store before Is Why bytes a r s1 b
@@ -313,7 +518,7 @@ added_as {A} {store} {bytes} {before} {Is1} {Why1} {Is} {Why} {b = b} {s1} {r = 
 
 -- the first refusal ends them
 pub added_stop : {A B : Type 0} {store bytes : List ℕ} {before : Option Tree} {Is1 : A → List ℕ → Type 0}
-    {Why1 : StoreFault → Type 0} {Is : B → List ℕ → Type 0} {Why : StoreFault → Type 0} {a b : Seen} {s1 : Writer}
+    {Why1 : StoreFault → Type 0} {Is : B → List ℕ → Type 0} {Why : StoreFault → Type 0} {a b : Seen} {s1 : WriterState}
     {fault : StoreFault}
     → (Why1 fault → Why fault) → Added {A = A} store before Is1 Why1 bytes a (Err fault) s1 b
     → Added {A = B} store before Is Why bytes a (Err fault) s1 b
@@ -321,13 +526,13 @@ added_stop why h = record { added = tt; refused = why h.refused; right = h.right
 
 -- refused with nothing added
 pub added_none : {A : Type 0} {store bytes : List ℕ} {before : Option Tree} {Is : A → List ℕ → Type 0}
-    {Why : StoreFault → Type 0} {a b : Seen} {s1 : Writer} {fault : StoreFault} → Why fault
+    {Why : StoreFault → Type 0} {a b : Seen} {s1 : WriterState} {fault : StoreFault} → Why fault
     → b.misused ≡ a.misused → Added {A = A} store before Is Why bytes a (Err fault) s1 b
 added_none why same = record { added = tt; refused = why; right = same }
 
 -- nothing is added
 pub added_nothing : {A : Type 0} {store bytes : List ℕ} {before : Option Tree} {Is : A → List ℕ → Type 0}
-    {Why : StoreFault → Type 0} {a : Seen} {s : Writer} (v : A) → Is v []
+    {Why : StoreFault → Type 0} {a : Seen} {s : WriterState} (v : A) → Is v []
     → HasWritten store before s bytes a.files → Added store before Is Why bytes a (Ok v) s a
 added_nothing {s = s} v is h = record { added = ([], is, written_same s h); refused = tt; right = refl }
 
@@ -443,24 +648,39 @@ next_piece first piece bytes done end le a b = ap (λ p. p ++ piece) a ∙ ap (�
 
 -- another value
 pub added_value : {A B : Type 0} {store bytes : List ℕ} {before : Option Tree} {Is1 : A → List ℕ → Type 0}
-    {Why1 : StoreFault → Type 0} {Is : B → List ℕ → Type 0} {Why : StoreFault → Type 0} {a b : Seen} {s1 : Writer}
+    {Why1 : StoreFault → Type 0} {Is : B → List ℕ → Type 0} {Why : StoreFault → Type 0} {a b : Seen} {s1 : WriterState}
     {v : A} (w : B)
     → ((more : List ℕ) → Is1 v more → Is w more) → Added store before Is1 Why1 bytes a (Ok v) s1 b
     → Added store before Is Why bytes a (Ok w) s1 b
 added_value w of h = record { added = (h.added.0, of h.added.0 h.added.1, h.added.2); refused = tt; right = h.right }
 
 -- what is left below a part of a folder is left below the folder
-pub leaves_wider : {A : Type 0} {folder path : List ℕ} (name : List ℕ) {s0 s1 : Writer} {a b : Seen}
+pub leaves_wider : {A : Type 0} {folder path : List ℕ} (name : List ℕ) {s0 s1 : WriterState} {a b : Seen}
     {r : Result A StoreFault} → path ≡ joined folder name → IsTrue (is_part name) → LeavesNew path s0 a r s1 b
     → LeavesNew folder s0 a r s1 b
-leaves_wider {folder = folder} {path} name {s0} {r = r} is part h = record {
+leaves_wider {A} {folder} {path} name {s0} {r = r} is part h = record {
   stays = h.stays;
   others = h.others;
-  blames = blames_wider folder name path s0.path r is
-      (part_form name part).0 h.blames;
+  blames = wider s0.target h.blames;
 }
+  where
+    inside : (r : Result A StoreFault) → IfErr r (BlamesWithin path) → IfErr r (BlamesWithin folder)
+    inside (Ok value) h = tt
+    inside (Err fault) h = part_within folder name path fault is part h
 
--- the same of a path that the writer's is
-pub leaves_others : {A : Type 0} {path : List ℕ} (file : List ℕ) {s s1 : Writer} {a b : Seen}
-    {r : Result A StoreFault} → s.path ≡ file → LeavesNew path s a r s1 b → LeavesButFile file a r b
-leaves_others file {a = a} {b} {r} at h = subst (λ f. LeavesButFile f a r b) at h.others
+    wider : (t : TargetState) → IfErr r (BlamesTarget path t) → IfErr r (BlamesTarget folder t)
+    wider (ToFile p) blames = blames_wider folder name path p r is (part_form name part).0 blames
+    wider (ToShelves d rs fs) blames = inside r blames
+
+-- what is left of all but a file
+pub leaves_file : {A : Type 0} {path : List ℕ} (file : List ℕ) {s s1 : WriterState} {a b : Seen}
+    {r : Result A StoreFault} → s.target ≡ ToFile file → LeavesNew path s a r s1 b
+    → LeavesButFile file a r b × IfErr r (BlamesEither path file)
+leaves_file {path = path} file {a = a} {b} {r} at h = (
+  subst (λ t. LeavesOthers t a r b) at h.others,
+  subst (λ t. IfErr r (BlamesTarget path t)) at h.blames,
+)
+
+pub leaves_others : {A : Type 0} {path : List ℕ} (file : List ℕ) {s s1 : WriterState} {a b : Seen}
+    {r : Result A StoreFault} → s.target ≡ ToFile file → LeavesNew path s a r s1 b → LeavesButFile file a r b
+leaves_others file at h = (leaves_file file at h).0

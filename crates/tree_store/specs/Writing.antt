@@ -1,14 +1,13 @@
 -- A tree's file that is written beside the others, until its digest is known.
-use Rattle.std.specs.Prelude.{ℕ, false, true, ◌⊎◌, ◌≡◌, ◌≤◌, ◌+◌, ◌&&◌, ◌++◌, Bool, List, codes, length, take, Option}
+use Rattle.std.specs.Prelude.{ℕ, false, true, ◌⊎◌, ◌≡◌, ◌≤◌, ◌+◌, ◌++◌, Bool, List, length, take, Option}
 use Rattle.std.specs.Prelude.{Some, None, Result, Ok, Err, IfErr, IfOk, IfSome, OnErr, OnOk, IsTrue}
 use Rattle.std.specs.FinMap.{insert, remove}
 use Rattle.std.specs.Option.{option_map}
 use Rattle.sha2.specs.Hashers.{Holds256}
 use Rattle.sha2.specs.Sha256.{sha256}
+use Rattle.sha2.specs.declared.Sha256.{Sha256}
 use Rattle.cnb_world.specs.Calls.{MayMisuse}
-use Rattle.cnb_world.specs.Path.{joined}
-use Rattle.cnb_world.specs.Tree.{Tree, bytes_of, can_make_folder, folder_made, is_file, is_file_or_absent, is_within}
-use Rattle.cnb_world.specs.Tree.{item_at, without}
+use Rattle.cnb_world.specs.Tree.{Tree, bytes_of, folder_made, is_file, is_file_or_absent, is_within, item_at, without}
 use Rattle.cnb_world.specs.declared.world.Item.{Item}
 use Rattle.cnb_world.specs.declared.world.Item.TheVariants as item
 use Rattle.steps.specs.Causes.{CountsFiles, IsAnswer, IsReadCause, WhereDecided}
@@ -17,79 +16,54 @@ use Rattle.tree_canon.specs.Fits.{entries_fit}
 use Rattle.tree_canon.specs.Spelling.{entries_bytes, node_bytes, spelling_of}
 use Rattle.tree_canon.specs.declared.node.Named.{Named}
 use Rattle.tree_canon.specs.declared.node.Node.{Node}
-use Rattle.tree_store.specs.Answers.{BlamesEither, cause_of, is_free}
-use Rattle.tree_store.specs.Around.{KeptAround, LeavesAround}
+use Rattle.tree_store.specs.Answers.{cause_of, is_free}
+use Rattle.tree_store.specs.Around.{KeptAround}
+pub use Rattle.tree_store.specs.Places.{KeepsFile, LeavesButFile, begun_with, can_begin, new_path, trees_of}
+unfoldable pub use Rattle.tree_store.specs.Places.{KeptFile}
 use Rattle.tree_store.specs.Reading.{FitsFrom, Sized, tree_in}
 use Rattle.tree_store.specs.Store.{Keeps, done_of, tree_path}
+use Rattle.tree_store.specs.Target.{BlamesTarget, HasGone, KeepsTarget, LeavesOthers, TargetState, ToFile}
+use Rattle.tree_store.specs.declared.target.NewFile.{NewFile}
 use Rattle.tree_store.specs.declared.fault.StoreFault.{StoreFault}
 use Rattle.tree_store.specs.declared.fault.StoreFault.TheVariants.{Clash}
-use Rattle.tree_store.specs.declared.writing.Writer.{Writer}
-
--- the folder of the trees' files
-abbrev pub trees_of : List ℕ → List ℕ
-trees_of store = joined store (codes "trees")
-
--- where the file of a tree is written whose digest isn't known yet
-abbrev pub new_path : List ℕ → List ℕ
-new_path store = joined (trees_of store) (codes "new")
-
--- the files where one of these bytes stands there
-abbrev pub begun_with : List ℕ → List ℕ → Tree → Tree
-begun_with store bytes files = insert (folder_made (trees_of store) files) (new_path store) (item.File false bytes)
-
--- where it may be begun: where a file or nothing stands, and its folder can be made
-abbrev pub can_begin : List ℕ → Tree → Bool
-can_begin store files = is_file_or_absent (item_at files (new_path store)) && can_make_folder files (trees_of store)
-
--- what stands at a path stood there before, or it is a file or nothing
-abbrev pub KeepsFile : List ℕ → Tree → Tree → Type 0
-KeepsFile path old new = (item_at new path ≡ item_at old path) ⊎ IsTrue (is_file_or_absent (item_at new path))
-
--- the same of files that may not be told
-unfoldable pub KeptFile : List ℕ → Option Tree → Option Tree → Type 0
-KeptFile path None None = Unit {0}
-KeptFile path None (Some new) = ⊥
-KeptFile path (Some old) None = ⊥
-KeptFile path (Some old) (Some new) = KeepsFile path old new
+use Rattle.tree_store.specs.declared.writing.Writer as declared
 
 -- neither path is the other or lies in it
 pub record AreApart (file path : List ℕ) : Type 0 where
   pub outside : is_within path file ≡ false
   pub beside : is_within file path ≡ false
 
--- The writer took these bytes, since the files were those: the first of them stand in the file, and it holds the last
+-- What contracts see of a writer: where its bytes go, those that were hashed, and the piece that it holds.
+pub record WriterState : Type 0 where
+  pub target : TargetState
+  pub hasher : Sha256
+  pub piece : List ℕ
+
+abbrev pub writer_seen : {T : Type 0} → (T → TargetState) → declared.Writer T → WriterState
+writer_seen state writer = record { target = state writer.target; hasher = writer.hasher; piece = writer.piece.items }
+
+abbrev pub to_file : NewFile → TargetState
+to_file file = ToFile file.path
+
+-- The writer took these bytes, since the files were those: the first of them went where they go, and it holds the last
 -- ones.
-pub record HasWritten (store : List ℕ) (before : Option Tree) (writer : Writer) (bytes : List ℕ)
+pub record HasWritten (store : List ℕ) (before : Option Tree) (writer : WriterState) (bytes : List ℕ)
     (now : Option Tree) : Type 0 where
   pub first : List ℕ
-  pub is : bytes ≡ first ++ writer.piece.items
+  pub is : bytes ≡ first ++ writer.piece
   pub hashed : Holds256 writer.hasher bytes
-  pub path : writer.path ≡ new_path store
-  pub files : now ≡ option_map (begun_with store first) before
-  pub kept : KeptAround (new_path store) before now
+  pub gone : HasGone store before writer.target first now
 
--- What a call leaves that writes at no path but this one, whatever stands there: all but what is at that path, or a
--- folder above it that was made; and at the path what was there, or a file or nothing. A refusal for a failed call
--- comes where the count rose, with the path whose call failed last.
-pub record LeavesButFile {A : Type 0} (file : List ℕ) (old : Seen) (result : Result A StoreFault)
-    (new : Seen) : Type 0 where
-  pub around : LeavesAround file old new
-  pub place : KeptFile file old.files new.files
-  pub children : new.child_faults ≡ old.child_faults
-  pub counts : CountsFiles cause_of result old.file_faults new.file_faults
-  pub cause : IfErr result (λ fault. IsReadCause new.failed_at (cause_of fault))
-
--- the same of a call that reads at a path or below it and writes at the writer's
-pub record LeavesNew {A : Type 0} (path : List ℕ) (writer : Writer) (old : Seen) (result : Result A StoreFault)
-    (after : Writer) (new : Seen)
-    : Type 0 where
-  pub stays : after.path ≡ writer.path
-  pub others : LeavesButFile writer.path old result new
-  pub blames : IfErr result (BlamesEither path writer.path)
+-- the same of a call that reads at a path or below it and gives bytes to a writer
+pub record LeavesNew {A : Type 0} (path : List ℕ) (writer : WriterState) (old : Seen) (result : Result A StoreFault)
+    (after : WriterState) (new : Seen) : Type 0 where
+  pub stays : KeepsTarget writer.target after.target
+  pub others : LeavesOthers writer.target old result new
+  pub blames : IfErr result (BlamesTarget path writer.target)
 
 -- what a call answers that adds bytes of which this holds
 pub record Added {A : Type 0} (store : List ℕ) (before : Option Tree) (Is : A → List ℕ → Type 0)
-    (Why : StoreFault → Type 0) (bytes : List ℕ) (old : Seen) (result : Result A StoreFault) (after : Writer)
+    (Why : StoreFault → Type 0) (bytes : List ℕ) (old : Seen) (result : Result A StoreFault) (after : WriterState)
     (new : Seen)
     : Type 0 where
   pub added : IfOk result (λ value. (more : List ℕ) × Is value more
@@ -99,8 +73,8 @@ pub record Added {A : Type 0} (store : List ℕ) (before : Option Tree) (Is : A 
 
 -- It adds them to any that were written, where it reads apart from the file: what it reads is then as it was before.
 pub record Adds {A : Type 0} (path : List ℕ) (Is : Option Tree → A → List ℕ → Type 0)
-    (Why : Option Tree → StoreFault → Type 0) (writer : Writer) (old : Seen) (result : Result A StoreFault)
-    (after : Writer) (new : Seen)
+    (Why : Option Tree → StoreFault → Type 0) (writer : WriterState) (old : Seen) (result : Result A StoreFault)
+    (after : WriterState) (new : Seen)
     : Type 0 where
   pub so : (store : List ℕ) (before : Option Tree) (bytes : List ℕ)
       → HasWritten store before writer bytes old.files → AreApart (new_path store) path

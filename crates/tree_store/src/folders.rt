@@ -17,7 +17,7 @@ use crate::origin::TreeFile;
 use crate::putting::put_tree;
 use crate::reading::read_tree;
 use crate::store::{get, tree_file};
-use crate::writing::{Writer, new_file};
+use crate::writing::{begin, new_file};
 use cnb_world::{Path, World};
 use std::alloc::Global;
 use tree_canon::{Digest, encode};
@@ -36,7 +36,7 @@ fn put_walked<W: World>(
     requires apart { AreApart (new_path store.now) path.now }
     ensures steps { puts_folder store.now path.now (seen W.World world.old) result (seen W.World world.new) }
 {
-    let mut writer = Writer::begin(alloc, world, store)?;
+    let mut writer = begin(alloc, world, store)?;
     match put_tree(alloc, world, &mut writer, path) {
         Ok(len) => put_or_clear(alloc, world, store, file, writer, len),
         Err(fault) => Err(cleared(alloc, world, store, file, fault)),
@@ -58,7 +58,7 @@ fn put_whole<W: World>(
 {
     let tree = read_tree(alloc, world, path)?;
     let bytes = encode(alloc, &tree)?;
-    let mut writer = Writer::begin(alloc, world, store)?;
+    let mut writer = begin(alloc, world, store)?;
     let len = bytes.as_slice().len() as u64;
     match writer.add_all(alloc, world, bytes.as_slice()) {
         Ok(()) => put_or_clear(alloc, world, store, file, writer, len),

@@ -2,6 +2,7 @@
 //! digests.
 #![tactic(auto)]
 
+mod caching;
 mod checking;
 mod fault;
 mod folders;
@@ -15,9 +16,12 @@ mod naming;
 mod origin;
 mod putting;
 mod reading;
+mod receivers;
 mod store;
+mod target;
 mod writing;
 
+pub use caching::{cache_folder, cache_rows, digest_folder};
 pub use checking::TreeCheck;
 pub use fault::StoreFault;
 pub use folders::{check_tree, lay_stored, put_folder};

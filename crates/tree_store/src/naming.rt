@@ -12,10 +12,12 @@ ghost use Rattle.tree_store.specs.Around.{KeptAround};
 ghost use Rattle.tree_store.specs.Comparing.{IsCompared};
 ghost use Rattle.tree_store.specs.Store.{tree_path};
 ghost use Rattle.tree_store.specs.Writing.{AreApart, ClashesUnless, HasWritten, IsClearedOf, NamesBytes, LeavesButFile};
-ghost use Rattle.tree_store.specs.Writing.{LeavesButPut, PutsBytes, begun_with, new_path, trees_of};
+ghost use Rattle.tree_store.specs.Writing.{LeavesButPut, PutsBytes, begun_with, new_path, to_file, trees_of};
+ghost use Rattle.tree_store.specs.Writing.{writer_seen};
 
 use crate::fault::{StoreFault, or_blame};
 use crate::store::{PIECE, is_absent_at, is_last, read_piece, tree_file};
+use crate::target::NewFile;
 use crate::writing::Writer;
 use cnb_world::{Bytes, Path, World};
 use std::alloc::Global;
@@ -176,20 +178,20 @@ fn put_written<W: World>(
     alloc: Global,
     world: &mut W,
     store: &Path,
-    mut writer: Writer,
+    mut writer: Writer<NewFile>,
     len: u64,
 ) -> Result<Digest, StoreFault>
     requires store { length store.now ≤ 8192 }
-    requires path { writer.path ≡ new_path store.now }
+    requires path { writer.target.path ≡ new_path store.now }
     ensures leaves { LeavesButPut store.now (seen W.World world.old) result (seen W.World world.new) }
     ensures blames { IfErr result (BlamesWithin (trees_of store.now)) }
-    ensures puts { (before : Option Tree) (bytes : Seq ℕ) → HasWritten store.now before writer bytes (W.tree world.old)
-        → length bytes ≤ len → PutsBytes store.now bytes before (seen W.World world.old) result
+    ensures puts { (before : Option Tree) (bytes : Seq ℕ)
+        → HasWritten store.now before (writer_seen to_file writer) bytes (W.tree world.old) → length bytes ≤ len → PutsBytes store.now bytes before (seen W.World world.old) result
         (seen W.World world.new) }
 {
     writer.flush(alloc, world)?;
-    let (file, digest) = writer.end();
-    name_file(alloc, world, store, &file, &digest, len)?;
+    let (NewFile { path }, digest) = writer.end();
+    name_file(alloc, world, store, &path, &digest, len)?;
     Ok(digest)
 }
 
@@ -233,16 +235,16 @@ pub(crate) fn put_or_clear<W: World>(
     world: &mut W,
     store: &Path,
     file: &Path,
-    writer: Writer,
+    writer: Writer<NewFile>,
     len: u64,
 ) -> Result<Digest, StoreFault>
     requires store { length store.now ≤ 8192 }
     requires file { file.now ≡ new_path store.now }
-    requires path { writer.path ≡ new_path store.now }
+    requires path { writer.target.path ≡ new_path store.now }
     ensures leaves { LeavesButPut store.now (seen W.World world.old) result (seen W.World world.new) }
     ensures blames { IfErr result (BlamesWithin (trees_of store.now)) }
-    ensures puts { (before : Option Tree) (bytes : Seq ℕ) → HasWritten store.now before writer bytes (W.tree world.old)
-        → length bytes ≤ len → PutsBytes store.now bytes before (seen W.World world.old) result
+    ensures puts { (before : Option Tree) (bytes : Seq ℕ)
+        → HasWritten store.now before (writer_seen to_file writer) bytes (W.tree world.old) → length bytes ≤ len → PutsBytes store.now bytes before (seen W.World world.old) result
         (seen W.World world.new) }
 {
     match put_written(alloc, world, store, writer, len) {

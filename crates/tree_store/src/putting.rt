@@ -11,13 +11,14 @@ ghost use Rattle.steps.specs.Outside.{seen};
 ghost use Rattle.tree_store.specs.Answers.{is_free};
 ghost use Rattle.tree_store.specs.Reading.{in_order, link_of, node_at, node_of, tree_in};
 ghost use Rattle.tree_store.specs.Writing.{Added, Adds, AreApart, AreEntriesOf, HasLength, HasWritten, IsNodeOf};
-ghost use Rattle.tree_store.specs.Writing.{IsPart, IsRootOf, IsTreeOf, LeavesNew, Refuses, new_path};
+ghost use Rattle.tree_store.specs.Writing.{IsPart, IsRootOf, IsTreeOf, LeavesNew, Refuses, new_path, writer_seen};
 
 use crate::fault::{StoreFault, odd};
 use crate::reading::{
     MAX_LEVELS, head_length, kind_at, link_size, listed, room, target_at, too_deep,
 };
 use crate::store::read_piece;
+use crate::target::Target;
 use crate::writing::Writer;
 use cnb_world::{Kind, Memory, Path, Text, World};
 use std::alloc::Global;
@@ -81,10 +82,10 @@ fn next_size(left: u64) -> u64
 }
 
 // The bytes of a file from a place on, as many as are read at once; the place behind them.
-fn put_piece<W: World>(
+fn put_piece<W: World, T: Target>(
     alloc: Global,
     world: &mut W,
-    writer: &mut Writer,
+    writer: &mut Writer<T>,
     path: &Path,
     len: u64,
     done: u64,
@@ -92,14 +93,14 @@ fn put_piece<W: World>(
     requires { done ≤ len }
     ensures within { IfOk result (λ next. next ≤ len) }
     ensures more { IfOk result (λ next. done < len → done < next) }
-    ensures leaves { LeavesNew path.now writer.old (seen W.World world.old) result writer.new
+    ensures leaves { LeavesNew path.now (writer_seen T.state writer.old) (seen W.World world.old) result (writer_seen T.state writer.new)
         (seen W.World world.new) }
     ensures puts { (store : Seq ℕ) (before : Option Tree) (bytes : Seq ℕ)
-        → HasWritten store before writer.old bytes (W.tree world.old) → AreApart (new_path store) path.now
+        → HasWritten store before (writer_seen T.state writer.old) bytes (W.tree world.old) → AreApart (new_path store) path.now
         → IfSome before (λ files. HasLength len (item_at files path.now))
         → Added store before (λ next more. IsPart before path.now done next more)
         (λ fault. IfSome before (λ files. IsTrue (is_free fault))) bytes
-        (seen W.World world.old) result writer.new (seen W.World world.new) }
+        (seen W.World world.old) result (writer_seen T.state writer.new) (seen W.World world.new) }
 {
     let piece = read_piece(alloc, world, path, done)?;
     let size = next_size(len - done);
@@ -111,21 +112,21 @@ fn put_piece<W: World>(
 }
 
 // Sees that a file has no more bytes. A last piece that is shorter than what is read at once shows that already.
-fn put_end<W: World>(
+fn put_end<W: World, T: Target>(
     alloc: Global,
     world: &mut W,
-    writer: &mut Writer,
+    writer: &mut Writer<T>,
     path: &Path,
     len: u64,
 ) -> Result<(), StoreFault>
-    ensures leaves { LeavesNew path.now writer.old (seen W.World world.old) result writer.new
+    ensures leaves { LeavesNew path.now (writer_seen T.state writer.old) (seen W.World world.old) result (writer_seen T.state writer.new)
         (seen W.World world.new) }
     ensures puts { (store : Seq ℕ) (before : Option Tree) (bytes : Seq ℕ)
-        → HasWritten store before writer.old bytes (W.tree world.old) → AreApart (new_path store) path.now
+        → HasWritten store before (writer_seen T.state writer.old) bytes (W.tree world.old) → AreApart (new_path store) path.now
         → IfSome before (λ files. HasLength len (item_at files path.now))
         → Added store before (λ done more. IsPart before path.now len len more)
         (λ fault. IfSome before (λ files. IsTrue (is_free fault))) bytes
-        (seen W.World world.old) result writer.new (seen W.World world.new) }
+        (seen W.World world.old) result (writer_seen T.state writer.new) (seen W.World world.new) }
 {
     if len == 0 || len % 65536 != 0 {
         return Ok(());
@@ -135,21 +136,21 @@ fn put_end<W: World>(
 }
 
 // The bytes of a file, so many.
-fn put_contents<W: World>(
+fn put_contents<W: World, T: Target>(
     alloc: Global,
     world: &mut W,
-    writer: &mut Writer,
+    writer: &mut Writer<T>,
     path: &Path,
     len: u64,
 ) -> Result<(), StoreFault>
-    ensures leaves { LeavesNew path.now writer.old (seen W.World world.old) result writer.new
+    ensures leaves { LeavesNew path.now (writer_seen T.state writer.old) (seen W.World world.old) result (writer_seen T.state writer.new)
         (seen W.World world.new) }
     ensures puts { (store : Seq ℕ) (before : Option Tree) (bytes : Seq ℕ)
-        → HasWritten store before writer.old bytes (W.tree world.old) → AreApart (new_path store) path.now
+        → HasWritten store before (writer_seen T.state writer.old) bytes (W.tree world.old) → AreApart (new_path store) path.now
         → IfSome before (λ files. HasLength len (item_at files path.now))
         → Added store before (λ done more. IsPart before path.now 0 len more)
         (λ fault. IfSome before (λ files. IsTrue (is_free fault))) bytes
-        (seen W.World world.old) result writer.new (seen W.World world.new) }
+        (seen W.World world.old) result (writer_seen T.state writer.new) (seen W.World world.new) }
 {
     let mut done = put_piece(alloc, world, writer, path, len, 0)?;
     while done < len {
@@ -160,10 +161,10 @@ fn put_contents<W: World>(
 }
 
 // The file at a path.
-fn put_file<W: World>(
+fn put_file<W: World, T: Target>(
     alloc: Global,
     world: &mut W,
-    writer: &mut Writer,
+    writer: &mut Writer<T>,
     path: &Path,
     exec: bool,
     len: u64,
@@ -171,13 +172,13 @@ fn put_file<W: World>(
 ) -> Result<u64, StoreFault>
     requires size { size ≤ 1073742081 }
     requires kind { IfSome (W.tree world.old) (λ files. kind.File exec len ≡ kind_of (item_at files path.now)) }
-    ensures leaves { LeavesNew path.now writer.old (seen W.World world.old) result writer.new
+    ensures leaves { LeavesNew path.now (writer_seen T.state writer.old) (seen W.World world.old) result (writer_seen T.state writer.new)
         (seen W.World world.new) }
     ensures puts { (levels : ℕ) → 0 < levels → levels ≤ 65
         → Adds path.now (λ before now more. IsNodeOf before (λ files. node_at levels files path.now size)
         (65 - levels) size [] now more)
         (λ before fault. Refuses before (λ files. node_at levels files path.now size) fault)
-        writer.old (seen W.World world.old) result writer.new (seen W.World world.new) }
+        (writer_seen T.state writer.old) (seen W.World world.old) result (writer_seen T.state writer.new) (seen W.World world.new) }
     ensures few { IfOk result (λ now. now ≤ limit) }
 {
     let size = room(size, 10, len)?;
@@ -188,10 +189,10 @@ fn put_file<W: World>(
 }
 
 // A link, where so many levels may stand.
-fn put_target<W: World>(
+fn put_target<W: World, T: Target>(
     alloc: Global,
     world: &mut W,
-    writer: &mut Writer,
+    writer: &mut Writer<T>,
     path: &Path,
     target: &str,
     levels: u32,
@@ -199,12 +200,12 @@ fn put_target<W: World>(
 ) -> Result<u64, StoreFault>
     requires levels { levels ≤ 65 }
     requires size { size ≤ 1073742081 }
-    ensures leaves { LeavesNew path.now writer.old (seen W.World world.old) result writer.new
+    ensures leaves { LeavesNew path.now (writer_seen T.state writer.old) (seen W.World world.old) result (writer_seen T.state writer.new)
         (seen W.World world.new) }
     ensures puts { Adds path.now (λ before now more. IsNodeOf before (λ files. link_of path.now levels size target.now)
         (65 - levels) size [] now more)
         (λ before fault. Refuses before (λ files. link_of path.now levels size target.now) fault)
-        writer.old (seen W.World world.old) result writer.new (seen W.World world.new) }
+        (writer_seen T.state writer.old) (seen W.World world.old) result (writer_seen T.state writer.new) (seen W.World world.new) }
     ensures few { IfOk result (λ now. now ≤ limit) }
 {
     let size = link_size(alloc, path, target, levels, size)?;
@@ -214,10 +215,10 @@ fn put_target<W: World>(
 }
 
 // The link at a path, where so many levels may stand.
-fn put_link<W: World>(
+fn put_link<W: World, T: Target>(
     alloc: Global,
     world: &mut W,
-    writer: &mut Writer,
+    writer: &mut Writer<T>,
     path: &Path,
     levels: u32,
     size: u64,
@@ -225,12 +226,12 @@ fn put_link<W: World>(
     requires levels { levels ≤ 65 }
     requires size { size ≤ 1073742081 }
     requires kind { IfSome (W.tree world.old) (λ files. kind.Link ≡ kind_of (item_at files path.now)) }
-    ensures leaves { LeavesNew path.now writer.old (seen W.World world.old) result writer.new
+    ensures leaves { LeavesNew path.now (writer_seen T.state writer.old) (seen W.World world.old) result (writer_seen T.state writer.new)
         (seen W.World world.new) }
     ensures puts { Adds path.now (λ before now more. IsNodeOf before (λ files. node_at levels files path.now size)
         (65 - levels) size [] now more)
         (λ before fault. Refuses before (λ files. node_at levels files path.now size) fault)
-        writer.old (seen W.World world.old) result writer.new (seen W.World world.new) }
+        (writer_seen T.state writer.old) (seen W.World world.old) result (writer_seen T.state writer.new) (seen W.World world.new) }
     ensures few { IfOk result (λ now. now ≤ limit) }
 {
     let target = target_at(alloc, world, path)?;
@@ -239,10 +240,10 @@ fn put_link<W: World>(
 
 // The name and the node of an entry.
 #[cycle(put)]
-fn put_entry<W: World>(
+fn put_entry<W: World, T: Target>(
     alloc: Global,
     world: &mut W,
-    writer: &mut Writer,
+    writer: &mut Writer<T>,
     folder: &Path,
     name: &Text,
     levels: u32,
@@ -252,14 +253,14 @@ fn put_entry<W: World>(
     requires levels { levels ≤ 64 }
     requires size { size ≤ limit }
     requires short { length folder.now + 256 * (levels + 1) ≤ 32768 }
-    ensures leaves { LeavesNew folder.now writer.old (seen W.World world.old) result writer.new
+    ensures leaves { LeavesNew folder.now (writer_seen T.state writer.old) (seen W.World world.old) result (writer_seen T.state writer.new)
         (seen W.World world.new) }
     ensures puts { Adds folder.now (λ before now more. IsNodeOf before
         (λ files. node_at levels files (joined folder.now name.now) (size + (2 + length name.now)))
         (65 - levels) (size + (2 + length name.now)) (name_bytes name.now) now more)
         (λ before fault. Refuses before
         (λ files. node_at levels files (joined folder.now name.now) (size + (2 + length name.now))) fault)
-        writer.old (seen W.World world.old) result writer.new (seen W.World world.new) }
+        (writer_seen T.state writer.old) (seen W.World world.old) result (writer_seen T.state writer.new) (seen W.World world.new) }
     ensures name { is_name name.now ≡ true }
     ensures few { IfOk result (λ now. now ≤ limit) }
 {
@@ -272,10 +273,10 @@ fn put_entry<W: World>(
 
 // The entries of these names, in order.
 #[cycle(put)]
-fn put_entries<W: World>(
+fn put_entries<W: World, T: Target>(
     alloc: Global,
     world: &mut W,
-    writer: &mut Writer,
+    writer: &mut Writer<T>,
     folder: &Path,
     names: &[Text],
     levels: u32,
@@ -285,14 +286,14 @@ fn put_entries<W: World>(
     requires levels { levels ≤ 64 }
     requires size { size ≤ limit }
     requires short { length folder.now + 256 * (levels + 1) ≤ 32768 }
-    ensures leaves { LeavesNew folder.now writer.old (seen W.World world.old) result writer.new
+    ensures leaves { LeavesNew folder.now (writer_seen T.state writer.old) (seen W.World world.old) result (writer_seen T.state writer.new)
         (seen W.World world.new) }
     ensures puts { Adds folder.now (λ before now more. AreEntriesOf before
         (λ files. in_order (λ name. node_at levels files (joined folder.now name)) names.now size)
         (65 - levels) (length names.now) size now more)
         (λ before fault. Refuses before
         (λ files. in_order (λ name. node_at levels files (joined folder.now name)) names.now size) fault)
-        writer.old (seen W.World world.old) result writer.new (seen W.World world.new) }
+        (writer_seen T.state writer.old) (seen W.World world.old) result (writer_seen T.state writer.new) (seen W.World world.new) }
     ensures few { IfOk result (λ now. now ≤ limit) }
 {
     let mut so_far = size;
@@ -305,10 +306,10 @@ fn put_entries<W: World>(
 
 // The folder at a path, below which so many levels may stand.
 #[cycle(put)]
-fn put_names<W: World>(
+fn put_names<W: World, T: Target>(
     alloc: Global,
     world: &mut W,
-    writer: &mut Writer,
+    writer: &mut Writer<T>,
     path: &Path,
     levels: u32,
     size: u64,
@@ -317,14 +318,14 @@ fn put_names<W: World>(
     requires size { size ≤ 1073742081 }
     requires short { length path.now + 256 * (levels + 1) ≤ 32768 }
     requires kind { IfSome (W.tree world.old) (λ files. kind.Folder ≡ kind_of (item_at files path.now)) }
-    ensures leaves { LeavesNew path.now writer.old (seen W.World world.old) result writer.new
+    ensures leaves { LeavesNew path.now (writer_seen T.state writer.old) (seen W.World world.old) result (writer_seen T.state writer.new)
         (seen W.World world.new) }
     ensures puts { Adds path.now (λ before now more. IsNodeOf before (λ files. node_of files path.now
         (λ name. node_at levels files (joined path.now name)) size (item_at files path.now))
         (64 - levels) size [] now more)
         (λ before fault. Refuses before (λ files. node_of files path.now
         (λ name. node_at levels files (joined path.now name)) size (item_at files path.now)) fault)
-        writer.old (seen W.World world.old) result writer.new (seen W.World world.new) }
+        (writer_seen T.state writer.old) (seen W.World world.old) result (writer_seen T.state writer.new) (seen W.World world.new) }
     ensures few { IfOk result (λ now. now ≤ limit) }
 {
     let size = room(size, 5, 0)?;
@@ -337,10 +338,10 @@ fn put_names<W: World>(
 
 // The node at a path, of which so many levels may stand.
 #[cycle(put)]
-fn put_node<W: World>(
+fn put_node<W: World, T: Target>(
     alloc: Global,
     world: &mut W,
-    writer: &mut Writer,
+    writer: &mut Writer<T>,
     path: &Path,
     levels: u32,
     size: u64,
@@ -348,12 +349,12 @@ fn put_node<W: World>(
     requires levels { levels ≤ 65 }
     requires size { size ≤ 1073742081 }
     requires short { length path.now + 256 * levels ≤ 32768 }
-    ensures leaves { LeavesNew path.now writer.old (seen W.World world.old) result writer.new
+    ensures leaves { LeavesNew path.now (writer_seen T.state writer.old) (seen W.World world.old) result (writer_seen T.state writer.new)
         (seen W.World world.new) }
     ensures puts { Adds path.now (λ before now more. IsNodeOf before (λ files. node_at levels files path.now size)
         (65 - levels) size [] now more)
         (λ before fault. Refuses before (λ files. node_at levels files path.now size) fault)
-        writer.old (seen W.World world.old) result writer.new (seen W.World world.new) }
+        (writer_seen T.state writer.old) (seen W.World world.old) result (writer_seen T.state writer.new) (seen W.World world.new) }
     ensures few { IfOk result (λ now. now ≤ limit) }
 {
     match kind_at(alloc, world, path)? {
@@ -376,18 +377,18 @@ fn put_node<W: World>(
 }
 
 /// Writes the node of the folder at a path, and says how many bytes the spelling has with it.
-pub(crate) fn put_root<W: World>(
+pub(crate) fn put_root<W: World, T: Target>(
     alloc: Global,
     world: &mut W,
-    writer: &mut Writer,
+    writer: &mut Writer<T>,
     path: &Path,
 ) -> Result<u64, StoreFault>
     requires { length path.now ≤ 8192 }
-    ensures leaves { LeavesNew path.now writer.old (seen W.World world.old) result writer.new
+    ensures leaves { LeavesNew path.now (writer_seen T.state writer.old) (seen W.World world.old) result (writer_seen T.state writer.new)
         (seen W.World world.new) }
     ensures puts { Adds path.now (λ before now more. IsRootOf before path.now now more)
         (λ before fault. Refuses before (tree_in path.now) fault)
-        writer.old (seen W.World world.old) result writer.new (seen W.World world.new) }
+        (writer_seen T.state writer.old) (seen W.World world.old) result (writer_seen T.state writer.new) (seen W.World world.new) }
 {
     match kind_at(alloc, world, path)? {
         Kind::Folder => put_names(alloc, world, writer, path, MAX_LEVELS - 1, 5),
@@ -399,18 +400,18 @@ pub(crate) fn put_root<W: World>(
 }
 
 /// Writes the tree of the folder at a path, and says how many bytes its spelling has.
-pub(crate) fn put_tree<W: World>(
+pub(crate) fn put_tree<W: World, T: Target>(
     alloc: Global,
     world: &mut W,
-    writer: &mut Writer,
+    writer: &mut Writer<T>,
     path: &Path,
 ) -> Result<u64, StoreFault>
     requires { length path.now ≤ 8192 }
-    ensures leaves { LeavesNew path.now writer.old (seen W.World world.old) result writer.new
+    ensures leaves { LeavesNew path.now (writer_seen T.state writer.old) (seen W.World world.old) result (writer_seen T.state writer.new)
         (seen W.World world.new) }
     ensures puts { Adds path.now (λ before now more. IsTreeOf before path.now now more)
         (λ before fault. Refuses before (tree_in path.now) fault)
-        writer.old (seen W.World world.old) result writer.new (seen W.World world.new) }
+        (writer_seen T.state writer.old) (seen W.World world.old) result (writer_seen T.state writer.new) (seen W.World world.new) }
 {
     writer.add(alloc, world, b"CNBT\x01")?;
     put_root(alloc, world, writer, path)

@@ -3,11 +3,12 @@ use Rattle.std.proofs.lemmas.Result.{err_from_is_err_and}
 use Rattle.cnb_world.specs.Tree.{is_within}
 use Rattle.tree_store.specs.Writing.{new_path, trees_of}
 use Rattle.std.specs.Option.{option_map}
+use Rattle.tree_store.specs.Target.{ToFile}
 use Rattle.tree_store.specs.Writing.{can_begin}
 use Rattle.tree_store.proofs.FolderPuts.{no_memory, not_added, not_begun, read_refused, read_still, read_then}
 use Rattle.tree_store.proofs.FolderPuts.{tree_named}
 use Rattle.tree_store.proofs.Settled.{apart_name, either_in, may_then, new_within, other_path, put_others_then}
-use Rattle.tree_store.proofs.Written.{others_then, leaves_others}
+use Rattle.tree_store.proofs.Written.{leaves_others, others_then, same_file}
 use Rattle.tree_store.proofs.folders.put_whole.Goals as goal
 
 pub returns-in_err-tree : goal.returns-in_err-tree
@@ -42,7 +43,7 @@ returns g c = record {
       (g.W.World.tree c.read_tree.new.world) [] c.in_ok-writer.ensures.begun (apart_name c.args.store.now)) in
       read_then _ _ _ _ _ _ _ c.in_ok-tree.ensures.steps
       (not_added c.args.store.now c.args.path.now (others_then c.in_ok-writer.ensures.leaves
-      (leaves_others (new_path c.args.store.now) c.in_ok-writer.ensures.path
+      (leaves_others (new_path c.args.store.now) (ap ToFile c.in_ok-writer.ensures.path)
       (c.in-Err.ensures.leaves (trees_of c.args.store.now)))) x.refused
       (either_in {A = Unit {0}} (trees_of c.args.store.now) _ (Err _)
       (ap (is_within (trees_of c.args.store.now)) c.in_ok-writer.ensures.path ∙ new_within c.args.store.now)
@@ -56,8 +57,8 @@ put_or_clear-requires g c =
     record {
       store = c.requires.store;
       file = c.requires.file;
-      path =
-          (c.in-Ok.ensures.leaves (trees_of c.args.store.now)).stays ∙ c.in_ok-writer.ensures.path;
+      path = same_file _ _ (c.in-Ok.ensures.leaves (trees_of c.args.store.now)).stays
+          ∙ c.in_ok-writer.ensures.path;
     }
 
 pub returns-in-Ok : goal.returns-in-Ok
@@ -71,7 +72,7 @@ returns-in-Ok g c = record {
       (read_still _ _ _ _ c.in_ok-tree.ensures.steps)
       (may_then (option_map (can_begin c.args.store.now) (g.W.World.tree c.read_tree.new.world)) _ x.right
       c.in_ok-writer.ensures.misused) (put_others_then c.in_ok-writer.ensures.leaves
-      (put_others_then (leaves_others (new_path c.args.store.now) c.in_ok-writer.ensures.path
+      (put_others_then (leaves_others (new_path c.args.store.now) (ap ToFile c.in_ok-writer.ensures.path)
       (c.in-Ok.ensures.leaves (trees_of c.args.store.now))) c.put_or_clear.ensures.leaves))
       (c.put_or_clear.ensures.puts (g.W.World.tree c.read_tree.new.world) x.added.0 x.added.2
       (let same : length x.added.0 ≡ length c.as_slice.result.now = ap length (is ∙ sym c.as_slice.ensures)

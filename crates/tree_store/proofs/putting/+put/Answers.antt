@@ -5,6 +5,7 @@ use Rattle.cnb_world.specs.Tree.{item_at}
 use Rattle.tree_canon.specs.Spelling.{limit, name_bytes}
 use Rattle.tree_store.specs.Reading.{node_at, node_of}
 use Rattle.tree_store.specs.declared.fault.StoreFault.TheVariants.{Memory}
+use Rattle.tree_store.specs.Writing.{writer_seen}
 use Rattle.tree_store.proofs.Descents.{added_from, added_with, apart_part, deep_file_refuses, deep_folder_refuses}
 use Rattle.tree_store.proofs.Descents.{entries_put, entry_joined, entry_put, entry_refused, folder_above}
 use Rattle.tree_store.proofs.Descents.{folder_no_room, folder_put, folder_refuses, free_refuses, joined_refused}
@@ -150,7 +151,7 @@ put_names-returns-in_err-size-clause-puts g t c =
 pub put_names-returns-in_err-names-clause-leaves : goal.put_names-returns-in_err-names-clause-leaves
 put_names-returns-in_err-names-clause-leaves g t c =
     let exit = err_from_is_err_and c.from_residual-in_err-names.result c.from_residual-in_err-names.ensures.1 in
-    rw (exit.1, exit.2) (leaves_stop (leaves_read None c.args.writer.now
+    rw (exit.1, exit.2) (leaves_stop (leaves_read None (writer_seen g.T.Target.state c.args.writer.now)
     (Err _) _ _ c.in_err-names.ensures.leaves c.in_err-names.ensures.blames c.in_err-names.ensures.misused))
 
 pub put_names-returns-in_err-names-clause-puts : goal.put_names-returns-in_err-names-clause-puts
@@ -166,7 +167,7 @@ put_names-returns-in_err-names-clause-puts g t c =
 pub put_names-returns-in_err-head-clause-leaves : goal.put_names-returns-in_err-head-clause-leaves
 put_names-returns-in_err-head-clause-leaves g t c =
     let exit = err_from_is_err_and c.from_residual-in_err-head.result c.from_residual-in_err-head.ensures.1 in
-    rw (exit.1, exit.2) (leaves_then (leaves_read None c.args.writer.now
+    rw (exit.1, exit.2) (leaves_then (leaves_read None (writer_seen g.T.Target.state c.args.writer.now)
     (Ok c.in_ok-names.names) _ _ c.in_ok-names.ensures.leaves tt c.in_ok-names.ensures.misused)
     (leaves_memory c.args.path.now _ _ _ refl))
 
@@ -183,7 +184,7 @@ put_names-returns-in_err-head-clause-puts g t c =
 pub put_names-returns-in_err-add-clause-leaves : goal.put_names-returns-in_err-add-clause-leaves
 put_names-returns-in_err-add-clause-leaves g t c =
     let exit = err_from_is_err_and c.from_residual-in_err-add.result c.from_residual-in_err-add.ensures.1 in
-    rw (exit.1, exit.2) (leaves_then (leaves_read None c.args.writer.now
+    rw (exit.1, exit.2) (leaves_then (leaves_read None (writer_seen g.T.Target.state c.args.writer.now)
     (Ok c.in_ok-names.names) _ _ c.in_ok-names.ensures.leaves tt c.in_ok-names.ensures.misused)
     (leaves_stop (c.in_err-add.ensures.leaves c.args.path.now)))
 
@@ -200,7 +201,8 @@ put_names-returns-in_err-add-clause-puts g t c =
 
 pub put_names-returns-clause-leaves : goal.put_names-returns-clause-leaves
 put_names-returns-clause-leaves g t c =
-    leaves_then (leaves_read None c.args.writer.now (Ok c.in_ok-names.names) _ _ c.in_ok-names.ensures.leaves tt
+    leaves_then (leaves_read None (writer_seen g.T.Target.state c.args.writer.now)
+    (Ok c.in_ok-names.names) _ _ c.in_ok-names.ensures.leaves tt
     c.in_ok-names.ensures.misused) (leaves_then (c.in_ok-add.ensures.leaves c.args.path.now)
     c.put_entries.ensures.leaves)
 
@@ -224,7 +226,7 @@ put_names-returns-clause-puts g t c =
 pub put_node-returns-in_err-kind_at-clause-leaves : goal.put_node-returns-in_err-kind_at-clause-leaves
 put_node-returns-in_err-kind_at-clause-leaves g t c =
     let exit = err_from_is_err_and c.from_residual.result c.from_residual.ensures.1 in
-    rw (exit.1, exit.2) (leaves_stop (leaves_read None c.args.writer.now
+    rw (exit.1, exit.2) (leaves_stop (leaves_read None (writer_seen g.T.Target.state c.args.writer.now)
     (Err _) _ _ c.in_err-kind_at.ensures.leaves c.in_err-kind_at.ensures.blames
     c.in_err-kind_at.ensures.misused))
 
@@ -239,7 +241,8 @@ put_node-returns-in_err-kind_at-clause-puts g t c =
 
 pub put_node-returns-in-Absent-clause-leaves : goal.put_node-returns-in-Absent-clause-leaves
 put_node-returns-in-Absent-clause-leaves g t c =
-    leaves_then (leaves_read None c.args.writer.now (Ok c.in_ok-kind_at.field-0) _ _ c.in_ok-kind_at.ensures.leaves
+    leaves_then (leaves_read None (writer_seen g.T.Target.state c.args.writer.now)
+    (Ok c.in_ok-kind_at.field-0) _ _ c.in_ok-kind_at.ensures.leaves
     tt c.in_ok-kind_at.ensures.misused) (leaves_odd c.args.path.now _ _ c.args.path.now c.odd.result
     c.odd.ensures)
 
@@ -254,7 +257,8 @@ put_node-returns-in-Absent-clause-puts g t c =
 
 pub put_node-returns-in-Odd-clause-leaves : goal.put_node-returns-in-Odd-clause-leaves
 put_node-returns-in-Odd-clause-leaves g t c =
-    leaves_then (leaves_read None c.args.writer.now (Ok c.in_ok-kind_at.field-0) _ _ c.in_ok-kind_at.ensures.leaves
+    leaves_then (leaves_read None (writer_seen g.T.Target.state c.args.writer.now)
+    (Ok c.in_ok-kind_at.field-0) _ _ c.in_ok-kind_at.ensures.leaves
     tt c.in_ok-kind_at.ensures.misused) (leaves_odd c.args.path.now _ _ c.args.path.now c.odd-in-Odd.result
     c.odd-in-Odd.ensures)
 
@@ -269,7 +273,8 @@ put_node-returns-in-Odd-clause-puts g t c =
 
 pub put_node-returns-in-Link-clause-leaves : goal.put_node-returns-in-Link-clause-leaves
 put_node-returns-in-Link-clause-leaves g t c =
-    leaves_then (leaves_read None c.args.writer.now (Ok c.in_ok-kind_at.field-0) _ _ c.in_ok-kind_at.ensures.leaves
+    leaves_then (leaves_read None (writer_seen g.T.Target.state c.args.writer.now)
+    (Ok c.in_ok-kind_at.field-0) _ _ c.in_ok-kind_at.ensures.leaves
     tt c.in_ok-kind_at.ensures.misused) c.put_link.ensures.leaves
 
 pub put_node-returns-in-Link-clause-puts : goal.put_node-returns-in-Link-clause-puts
@@ -282,7 +287,8 @@ put_node-returns-in-Link-clause-puts g t c =
 
 pub put_node-returns-then-levels-eq0-clause-leaves : goal.put_node-returns-then-levels-eq0-clause-leaves
 put_node-returns-then-levels-eq0-clause-leaves g t c =
-    leaves_then (leaves_read None c.args.writer.now (Ok c.in_ok-kind_at.field-0) _ _ c.in_ok-kind_at.ensures.leaves
+    leaves_then (leaves_read None (writer_seen g.T.Target.state c.args.writer.now)
+    (Ok c.in_ok-kind_at.field-0) _ _ c.in_ok-kind_at.ensures.leaves
     tt c.in_ok-kind_at.ensures.misused) (leaves_deep c.args.path.now _ _ c.too_deep.result c.too_deep.ensures)
 
 pub put_node-returns-then-levels-eq0-clause-puts : goal.put_node-returns-then-levels-eq0-clause-puts
@@ -297,7 +303,8 @@ put_node-returns-then-levels-eq0-clause-puts g t c =
 
 pub put_node-returns-else-levels-eq0-clause-leaves : goal.put_node-returns-else-levels-eq0-clause-leaves
 put_node-returns-else-levels-eq0-clause-leaves g t c =
-    leaves_then (leaves_read None c.args.writer.now (Ok c.in_ok-kind_at.field-0) _ _ c.in_ok-kind_at.ensures.leaves
+    leaves_then (leaves_read None (writer_seen g.T.Target.state c.args.writer.now)
+    (Ok c.in_ok-kind_at.field-0) _ _ c.in_ok-kind_at.ensures.leaves
     tt c.in_ok-kind_at.ensures.misused) c.put_file.ensures.leaves
 
 pub put_node-returns-else-levels-eq0-clause-puts : goal.put_node-returns-else-levels-eq0-clause-puts
@@ -311,7 +318,8 @@ put_node-returns-else-levels-eq0-clause-puts g t c =
 
 pub put_node-returns-then-levels-eq0-2-clause-leaves : goal.put_node-returns-then-levels-eq0-2-clause-leaves
 put_node-returns-then-levels-eq0-2-clause-leaves g t c =
-    leaves_then (leaves_read None c.args.writer.now (Ok c.in_ok-kind_at.field-0) _ _ c.in_ok-kind_at.ensures.leaves
+    leaves_then (leaves_read None (writer_seen g.T.Target.state c.args.writer.now)
+    (Ok c.in_ok-kind_at.field-0) _ _ c.in_ok-kind_at.ensures.leaves
     tt c.in_ok-kind_at.ensures.misused) (leaves_deep c.args.path.now _ _ c.too_deep-then-levels-eq0-2.result
     c.too_deep-then-levels-eq0-2.ensures)
 
@@ -327,7 +335,8 @@ put_node-returns-then-levels-eq0-2-clause-puts g t c =
 
 pub put_node-returns-else-levels-eq0-2-clause-leaves : goal.put_node-returns-else-levels-eq0-2-clause-leaves
 put_node-returns-else-levels-eq0-2-clause-leaves g t c =
-    leaves_then (leaves_read None c.args.writer.now (Ok c.in_ok-kind_at.field-0) _ _ c.in_ok-kind_at.ensures.leaves
+    leaves_then (leaves_read None (writer_seen g.T.Target.state c.args.writer.now)
+    (Ok c.in_ok-kind_at.field-0) _ _ c.in_ok-kind_at.ensures.leaves
     tt c.in_ok-kind_at.ensures.misused) c.put_names.ensures.leaves
 
 pub put_node-returns-else-levels-eq0-2-clause-puts : goal.put_node-returns-else-levels-eq0-2-clause-puts

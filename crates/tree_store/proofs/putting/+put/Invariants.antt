@@ -2,7 +2,7 @@ use Rattle.std.proofs.Common.{◌≤◌, ◌+◌, ◌*◌, drop, length, Ok}
 use Rattle.cnb_world.specs.Calls.{AreNames}
 use Rattle.steps.specs.Outside.{seen}
 use Rattle.tree_canon.specs.Spelling.{limit}
-use Rattle.tree_store.specs.Writing.{Adds, LeavesNew}
+use Rattle.tree_store.specs.Writing.{Adds, LeavesNew, writer_seen}
 use Rattle.tree_store.proofs.Descents.{PutSoFar}
 use Rattle.tree_store.proofs.putting.+put.Given as goal
 
@@ -23,9 +23,9 @@ invariant-put_entries-loop-name g l = record {
   within : l.name-index ≤ length l.names;
   names : AreNames (drop l.name-index l.names);
   few : l.so_far ≤ limit;
-  leaves : LeavesNew {A = Unit {0}} l.folder l.initial.writer (seen g.W.World l.initial.world) (Ok tt) l.writer
-      (seen g.W.World l.world);
+  leaves : LeavesNew {A = Unit {0}} l.folder (writer_seen g.T.Target.state l.initial.writer)
+      (seen g.W.World l.initial.world) (Ok tt) (writer_seen g.T.Target.state l.writer) (seen g.W.World l.world);
   puts : Adds {A = Unit {0}} l.folder (λ before done more. PutSoFar before l.levels l.folder l.names l.name-index
-      l.size l.so_far more) (λ before fault. Unit {0}) l.initial.writer (seen g.W.World l.initial.world)
-      (Ok tt) l.writer (seen g.W.World l.world);
+      l.size l.so_far more) (λ before fault. Unit {0}) (writer_seen g.T.Target.state l.initial.writer)
+      (seen g.W.World l.initial.world) (Ok tt) (writer_seen g.T.Target.state l.writer) (seen g.W.World l.world);
 }

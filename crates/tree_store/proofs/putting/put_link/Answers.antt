@@ -1,6 +1,7 @@
 use Rattle.std.proofs.Common.{Err, None}
 use Rattle.std.proofs.lemmas.Result.{err_from_is_err_and}
 use Rattle.tree_store.specs.Reading.{link_of, node_at}
+use Rattle.tree_store.specs.Writing.{writer_seen}
 use Rattle.tree_store.proofs.Descents.{added_from, leaves_read, link_same, node_as, refuses_as, written_read}
 use Rattle.tree_store.proofs.Written.{added_as, leaves_stop}
 use Rattle.tree_store.proofs.putting.put_link.Goals as goal
@@ -8,7 +9,7 @@ use Rattle.tree_store.proofs.putting.put_link.Goals as goal
 pub returns-in_err-target-clause-leaves : goal.returns-in_err-target-clause-leaves
 returns-in_err-target-clause-leaves g c =
     let exit = err_from_is_err_and c.from_residual.result c.from_residual.ensures.1 in
-    rw (exit.1, exit.2) (leaves_stop (leaves_read None c.args.writer.now
+    rw (exit.1, exit.2) (leaves_stop (leaves_read None (writer_seen g.T.Target.state c.args.writer.now)
     (Err _) _ _ c.in_err-target.ensures.leaves c.in_err-target.ensures.blames c.in_err-target.ensures.misused))
 
 pub returns-clause-puts : goal.returns-clause-puts

@@ -1,6 +1,7 @@
 use Rattle.std.proofs.Common.{◌+◌, ◌∙◌, Err, Ok, ap, length, subst, sym}
 use Rattle.std.proofs.lemmas.Result.{err_from_is_err_and}
 use Rattle.tree_store.specs.Writing.{IsPart}
+use Rattle.tree_store.specs.Writing.{writer_seen}
 use Rattle.tree_store.proofs.Descents.{added_from, leaves_read, never_odd, part_read, read_right, some_free}
 use Rattle.tree_store.proofs.Descents.{written_read}
 use Rattle.tree_store.proofs.Written.{added_none, added_stop, added_value, leaves_odd, leaves_stop, leaves_then}
@@ -10,7 +11,7 @@ use Rattle.tree_store.proofs.putting.put_piece.Goals as goal
 pub returns-in_err-piece-clause-leaves : goal.returns-in_err-piece-clause-leaves
 returns-in_err-piece-clause-leaves g c =
     let exit = err_from_is_err_and c.from_residual.result c.from_residual.ensures.1 in
-    rw (exit.1, exit.2) (leaves_stop (leaves_read _ c.args.writer.now
+    rw (exit.1, exit.2) (leaves_stop (leaves_read _ (writer_seen g.T.Target.state c.args.writer.now)
     (Err _) _ _ c.in_err-piece.ensures.leaves c.in_err-piece.ensures.blames c.in_err-piece.ensures.misused))
 
 pub returns-in_err-piece-clause-puts : goal.returns-in_err-piece-clause-puts
@@ -22,9 +23,11 @@ returns-in_err-piece-clause-puts g c =
 
 pub returns-then-as_slice-size-clause-leaves : goal.returns-then-as_slice-size-clause-leaves
 returns-then-as_slice-size-clause-leaves g c =
-    leaves_then (leaves_read _ c.args.writer.now (Ok c.in_ok-piece.piece) _ _ c.in_ok-piece.ensures.leaves
+    leaves_then (leaves_read _ (writer_seen g.T.Target.state c.args.writer.now)
+    (Ok c.in_ok-piece.piece) _ _ c.in_ok-piece.ensures.leaves
     c.in_ok-piece.ensures.blames c.in_ok-piece.ensures.misused)
-    (leaves_odd c.args.path.now c.args.writer.now _ c.args.path.now c.odd.result c.odd.ensures)
+    (leaves_odd c.args.path.now (writer_seen g.T.Target.state c.args.writer.now) _ c.args.path.now c.odd.result
+    c.odd.ensures)
 
 pub returns-then-as_slice-size-clause-puts : goal.returns-then-as_slice-size-clause-puts
 returns-then-as_slice-size-clause-puts g c =
@@ -37,7 +40,7 @@ returns-then-as_slice-size-clause-puts g c =
 pub returns-in_err-add-clause-leaves : goal.returns-in_err-add-clause-leaves
 returns-in_err-add-clause-leaves g c =
     let exit = err_from_is_err_and c.from_residual-in_err-add.result c.from_residual-in_err-add.ensures.1 in
-    rw (exit.1, exit.2) (leaves_then (leaves_read _ c.args.writer.now
+    rw (exit.1, exit.2) (leaves_then (leaves_read _ (writer_seen g.T.Target.state c.args.writer.now)
     (Ok c.in_ok-piece.piece) _ _ c.in_ok-piece.ensures.leaves c.in_ok-piece.ensures.blames
     c.in_ok-piece.ensures.misused) (leaves_stop (c.in_err-add.ensures.leaves c.args.path.now)))
 
@@ -52,7 +55,8 @@ returns-in_err-add-clause-puts g c =
 
 pub returns-clause-leaves : goal.returns-clause-leaves
 returns-clause-leaves g c =
-    leaves_then (leaves_read _ c.args.writer.now (Ok c.in_ok-piece.piece) _ _ c.in_ok-piece.ensures.leaves
+    leaves_then (leaves_read _ (writer_seen g.T.Target.state c.args.writer.now)
+    (Ok c.in_ok-piece.piece) _ _ c.in_ok-piece.ensures.leaves
     c.in_ok-piece.ensures.blames c.in_ok-piece.ensures.misused)
     (leaves_value _ (c.in_ok-add.ensures.leaves c.args.path.now))
 

@@ -2,6 +2,7 @@ use Rattle.std.proofs.Common.{◌≡◌, ◌∙◌, sym, Err, None, Ok}
 use Rattle.std.proofs.lemmas.Result.{err_from_is_err_and}
 use Rattle.cnb_world.specs.declared.world.Kind.TheVariants as kind
 use Rattle.tree_store.specs.Reading.{tree_in}
+use Rattle.tree_store.specs.Writing.{writer_seen}
 use Rattle.tree_store.proofs.Descents.{added_from, free_refuses, kind_before, leaves_read, root_added, written_read}
 use Rattle.tree_store.proofs.Roots.{no_root}
 use Rattle.tree_store.proofs.Written.{added_none, leaves_odd, leaves_stop, leaves_then}
@@ -10,7 +11,7 @@ use Rattle.tree_store.proofs.putting.put_root.Goals as goal
 pub returns-in_err-kind_at-clause-leaves : goal.returns-in_err-kind_at-clause-leaves
 returns-in_err-kind_at-clause-leaves g c =
     let exit = err_from_is_err_and c.from_residual.result c.from_residual.ensures.1 in
-    rw (exit.1, exit.2) (leaves_stop (leaves_read None c.args.writer.now
+    rw (exit.1, exit.2) (leaves_stop (leaves_read None (writer_seen g.T.Target.state c.args.writer.now)
     (Err _) _ _ c.in_err-kind_at.ensures.leaves c.in_err-kind_at.ensures.blames
     c.in_err-kind_at.ensures.misused))
 
@@ -25,7 +26,8 @@ returns-in_err-kind_at-clause-puts g c =
 
 pub returns-in-Folder-clause-leaves : goal.returns-in-Folder-clause-leaves
 returns-in-Folder-clause-leaves g c =
-    leaves_then (leaves_read None c.args.writer.now (Ok c.in_ok-kind_at.field-0) _ _ c.in_ok-kind_at.ensures.leaves
+    leaves_then (leaves_read None (writer_seen g.T.Target.state c.args.writer.now)
+    (Ok c.in_ok-kind_at.field-0) _ _ c.in_ok-kind_at.ensures.leaves
     tt c.in_ok-kind_at.ensures.misused) c.put_names.ensures.leaves
 
 pub returns-in-Folder-clause-puts : goal.returns-in-Folder-clause-puts
@@ -40,7 +42,8 @@ returns-in-Folder-clause-puts g c =
 
 pub returns-in-Absent-clause-leaves : goal.returns-in-Absent-clause-leaves
 returns-in-Absent-clause-leaves g c =
-    leaves_then (leaves_read None c.args.writer.now (Ok c.in_ok-kind_at.field-0) _ _ c.in_ok-kind_at.ensures.leaves
+    leaves_then (leaves_read None (writer_seen g.T.Target.state c.args.writer.now)
+    (Ok c.in_ok-kind_at.field-0) _ _ c.in_ok-kind_at.ensures.leaves
     tt c.in_ok-kind_at.ensures.misused) (leaves_odd c.args.path.now _ _ c.args.path.now c.odd.result
     c.odd.ensures)
 
@@ -56,7 +59,8 @@ returns-in-Absent-clause-puts g c =
 
 pub returns-in-File-clause-leaves : goal.returns-in-File-clause-leaves
 returns-in-File-clause-leaves g c =
-    leaves_then (leaves_read None c.args.writer.now (Ok c.in_ok-kind_at.field-0) _ _ c.in_ok-kind_at.ensures.leaves
+    leaves_then (leaves_read None (writer_seen g.T.Target.state c.args.writer.now)
+    (Ok c.in_ok-kind_at.field-0) _ _ c.in_ok-kind_at.ensures.leaves
     tt c.in_ok-kind_at.ensures.misused) (leaves_odd c.args.path.now _ _ c.args.path.now c.odd-in-File.result
     c.odd-in-File.ensures)
 
@@ -72,7 +76,8 @@ returns-in-File-clause-puts g c =
 
 pub returns-in-Link-clause-leaves : goal.returns-in-Link-clause-leaves
 returns-in-Link-clause-leaves g c =
-    leaves_then (leaves_read None c.args.writer.now (Ok c.in_ok-kind_at.field-0) _ _ c.in_ok-kind_at.ensures.leaves
+    leaves_then (leaves_read None (writer_seen g.T.Target.state c.args.writer.now)
+    (Ok c.in_ok-kind_at.field-0) _ _ c.in_ok-kind_at.ensures.leaves
     tt c.in_ok-kind_at.ensures.misused) (leaves_odd c.args.path.now _ _ c.args.path.now c.odd-in-Link.result
     c.odd-in-Link.ensures)
 
@@ -88,7 +93,8 @@ returns-in-Link-clause-puts g c =
 
 pub returns-in-Odd-clause-leaves : goal.returns-in-Odd-clause-leaves
 returns-in-Odd-clause-leaves g c =
-    leaves_then (leaves_read None c.args.writer.now (Ok c.in_ok-kind_at.field-0) _ _ c.in_ok-kind_at.ensures.leaves
+    leaves_then (leaves_read None (writer_seen g.T.Target.state c.args.writer.now)
+    (Ok c.in_ok-kind_at.field-0) _ _ c.in_ok-kind_at.ensures.leaves
     tt c.in_ok-kind_at.ensures.misused) (leaves_odd c.args.path.now _ _ c.args.path.now c.odd-in-Odd.result
     c.odd-in-Odd.ensures)
 

@@ -21,7 +21,7 @@ pub returns-in_err-hold-clause-leaves : goal.returns-in_err-hold-clause-leaves
 returns-in_err-hold-clause-leaves g c = λ path.
     let exit = err_from_is_err_and c.from_residual-in_err-hold.result c.from_residual-in_err-hold.ensures.1 in
     rw (exit.1, exit.2) (leaves_then (c.in_ok-make_room.ensures.leaves path)
-    (leaves_memory path _ _ _ c.hold.ensures.stays))
+    (leaves_memory path _ _ _ (ap g.T.Target.state c.hold.ensures.stays)))
 
 pub returns-in_err-hold-clause-adds : goal.returns-in_err-hold-clause-adds
 returns-in_err-hold-clause-adds g c = λ path.
@@ -34,7 +34,7 @@ returns-in_err-hold-clause-adds g c = λ path.
 
 pub returns-clause-leaves : goal.returns-clause-leaves
 returns-clause-leaves g c = λ path. leaves_then (c.in_ok-make_room.ensures.leaves path)
-    (leaves_local path _ _ _ (Ok tt) c.hold.ensures.stays (λ n. refl))
+    (leaves_local path _ _ _ (Ok tt) (ap g.T.Target.state c.hold.ensures.stays) (λ n. refl))
 
 pub returns-clause-adds : goal.returns-clause-adds
 returns-clause-adds g c = λ path. record {
@@ -44,7 +44,8 @@ returns-clause-adds g c = λ path. record {
           c.args.bytes.now,
           ap (λ m. m ++ c.args.bytes.now) is,
           written_held store
-              (bytes ++ more) c.args.bytes.now before _ _ _ c.hold.ensures.stays c.in_ok-hold.ensures.holds
+              (bytes ++ more) c.args.bytes.now before _ _ _ (ap g.T.Target.state c.hold.ensures.stays)
+              c.in_ok-hold.ensures.holds
               c.hold.ensures.hashed held,
         );
         refused = tt;
