@@ -28,8 +28,9 @@ use Rattle.cnb_layers.specs.Buildpack.{one_default, reads_launch, reads_store_do
 use Rattle.cnb_export.specs.Exports.{exports, gains}
 use Rattle.cnb_layers.specs.Gathering.{exports_layer, keeps_found, keeps_layer, keeps_documented, nothing_gathered}
 use Rattle.cnb_export.specs.Images.{reads_layers, reads_previous}
-use Rattle.cnb_layers.specs.Layer.{finds_contents, flags_of, keeps_tree, looks_for_contents, puts_contents, reads_layer}
-use Rattle.cnb_layers.specs.Layer.{takes_contents, takes_there, takes_whole, there_by}
+use Rattle.cnb_layers.specs.Layer.{digests_contents, finds_contents, flags_of, looks_for_contents, puts_contents}
+use Rattle.cnb_layers.specs.Layer.{reads_layer, takes_contents, takes_there, there_by}
+use Rattle.tree_store.specs.Caching.{digests_folder}
 use Rattle.layer_paths.specs.Names.{layers_among}
 use Rattle.cnb_layers.specs.Names.{lists_unless, reads_layer_names, reads_names}
 use Rattle.cnb_layers.specs.Patterns.{adds_pattern, adds_slice, reads_pattern, reads_slices}
@@ -40,8 +41,8 @@ use Rattle.cnb_export.specs.Trees.{cuts_app, puts_app, puts_links, puts_part, pu
 use Rattle.cnb_export.specs.Trees.{puts_whole}
 use Rattle.cnb_layers.specs.declared.frame.ExportFrame.{ExportFrame}
 use Rattle.cnb_layers.specs.declared.fault.ExportFault.TheVariants.{Store}
-use Rattle.cnb_create.proofs.KeepLemmas.{KeepsIn, cached_in_caches, cached_in_world, cached_world, in_bind, in_each}
-use Rattle.cnb_create.proofs.KeepLemmas.{in_yields, keeps_puts, keeps_reads_tree}
+use Rattle.cnb_create.proofs.KeepLemmas.{KeepsIn, cached_in_world, cached_world, in_bind, in_each, in_gives, in_told}
+use Rattle.cnb_create.proofs.KeepLemmas.{in_yields, keeps_puts, keeps_reads_tree, keeps_stored}
 use Rattle.cnb_create.proofs.PutLemmas.{free_of_trees, keeps_puts_folder}
 
 -- the same of steps that begin with a value, or with two
@@ -169,16 +170,17 @@ module _ (path : List ℕ) where
 -- ---- what puts trees too
 
 module _ (store path : List ℕ) (apart : are_apart (trees_of store) path ≡ true) where
-  kept_tree : (launch : Bool) (tree : Node) → Preserves path (keeps_tree store launch tree)
-  kept_tree true tree = keeps_told path Store _ (keeps_puts path store tree (free_of_trees store path apart))
-  kept_tree false tree = keeps_gives path cause_of _
+  kept_put : (at : List ℕ) → Preserves path (puts_contents store at)
+  unfolding puts_contents
+  kept_put at = keeps_bind path _ _ (keeps_told path Store _ (keeps_puts_folder store path apart at))
+      (λ digest. keeps_yields path _)
 
   kept_there : (cache launch : Bool) (at : List ℕ) → Preserves path (takes_there store cache launch at)
-  unfolding takes_whole puts_contents
-  kept_there true launch at = keeps_bind path _ _ (keeps_told path Store _ (keeps_reads_tree path at))
-      (λ tree. keeps_bind path _ _ (kept_tree launch tree) (λ digest. keeps_yields path _))
-  kept_there false true at = keeps_bind path _ _ (keeps_told path Store _ (keeps_puts_folder store path apart at))
-      (λ digest. keeps_yields path _)
+  unfolding digests_contents digests_folder
+  kept_there true true at = kept_put at
+  kept_there false true at = kept_put at
+  kept_there true false at = keeps_bind path _ _ (keeps_told path Store _ (keeps_bind path _ _
+      (keeps_reads_tree path at) (λ tree. keeps_yields path _))) (λ digest. keeps_yields path _)
   kept_there false false at = keeps_yields path _
 
   kept_taken : (flags : Flags) (at : List ℕ) (there : Bool) → Preserves path (takes_contents store flags at there)
@@ -283,4 +285,7 @@ module _ (frame : ExportFrame) (path : List ℕ) (apart : are_apart (trees_of fr
   unfolding exports
   keeps_exports readable group analyzed =
       in_bind cached_world path _ _ (cached_in_world path _ (kept_gained group analyzed))
-      (λ gained. in_bind cached_world path _ _ (cached_in_caches path _) (λ gone. in_yields cached_world path _))
+      (λ gained. in_bind cached_world path _ _ (in_gives cached_world path cause_of _)
+      (λ folders. in_bind cached_world path _ _
+      (in_told cached_world path Store _ (keeps_stored path readable gained.cached folders))
+      (λ gone. in_yields cached_world path _)))

@@ -8,6 +8,8 @@ use Rattle.cnb_world.specs.declared.world.Item.{Item}
 use Rattle.cnb_world.specs.declared.world.Item.TheVariants.{Folder}
 use Rattle.cnb_world.proofs.EffectLemmas.{emptied_elsewhere}
 use Rattle.shelf_set.specs.Caches.{Caches, WorldAndCaches, in_caches, in_world as in_cached_world}
+use Rattle.image_docs.specs.declared.layer_row.LayerRow.{LayerRow}
+use Rattle.shelf_set.specs.Caching.{reads_trees, stores_folders}
 use Rattle.shelf_set.specs.Restoring.{restores_tree}
 use Rattle.steps.specs.Causes.{Cause}
 use Rattle.steps.specs.Each.{for_each}
@@ -225,6 +227,12 @@ put_left path store tree old new (Ok digest) free h = step_at old.files new.file
     (λ t. put_free (item_at t (tree_path store _)) (tree_path store _) path _ t (free _)) h.1
 put_left path store tree old new (Err fault) free h = store_left fault
     (tree_path store _) path _ old.files new.files (free _) h
+
+-- trees that are stored are read alone
+pub keeps_stored : (path : List ℕ) (readable : Bool) (rows : List LayerRow) (folders : List (List ℕ))
+    → KeepsIn cached_world path (stores_folders readable rows folders)
+unfolding stores_folders reads_trees
+keeps_stored path readable rows folders old new result h = keeps_reads path _ _ _ _ old.world new.world h.read h.reads
 
 pub keeps_puts : (path store : List ℕ) (tree : Node)
     → ((digest : List ℕ) → is_free (touched (tree_path store digest)) path ≡ true)

@@ -12,18 +12,19 @@ use Rattle.image_files.specs.declared.fault.ImageFault.{ImageFault}
 use Rattle.image_files.specs.declared.fault.ImageFault.TheVariants as image
 use Rattle.image_files.proofs.CountLaws as images
 use Rattle.run_docs.specs.declared.group.GroupRow.{GroupRow}
-use Rattle.shelf_set.proofs.CountLaws.{BesideCaches, beside_link, beside_rest, obeys_in_caches, obeys_in_world}
-use Rattle.shelf_set.proofs.CountLaws.{stores_rows_ends}
+use Rattle.shelf_set.proofs.CountLaws.{BesideCaches, beside_link, beside_rest, obeys_in_world, stores_folders_counts}
 use Rattle.steps.proofs.EndLaws.{Links, Obeys, Rests, files_link, files_rest, obeys_bind, obeys_each, obeys_gives}
 use Rattle.steps.proofs.EndLaws.{obeys_told, obeys_yields, reads_counts, writes_counts}
 use Rattle.steps.specs.Counts.{FileCounts}
 use Rattle.steps.specs.Outside.{Seen}
 use Rattle.steps.specs.Steps.{map_err}
 use Rattle.tree_canon.specs.declared.node.Node.{Node}
+use Rattle.tree_store.specs.Answers as tree_store
 use Rattle.tree_store.proofs.CountLaws.{put_folder_counts, put_tree_counts, read_tree_counts}
 use Rattle.cnb_export.specs.declared.exported.Exported.{Exported}
 use Rattle.cnb_layers.specs.declared.frame.ExportFrame.{ExportFrame}
 use Rattle.cnb_layers.specs.declared.fault.ExportFault.{ExportFault}
+use Rattle.cnb_layers.specs.declared.fault.ExportFault.TheVariants.{Store}
 use Rattle.cnb_export.specs.declared.refusal.ExportRefusal.TheVariants.{Fault}
 use Rattle.cnb_export.specs.Command.{exports_command, exports_given, finishes_export, saves_image, saves_readable_image}
 use Rattle.cnb_export.specs.Exports.{exports, gains}
@@ -127,9 +128,11 @@ exports_counts readable frame group analyzed =
     obeys_bind (BesideCaches FileCounts) _ _ _ beside_caches_link
     (obeys_in_world FileCounts _ _ (gain_counts frame group analyzed))
     (λ gained. obeys_bind (BesideCaches FileCounts) _ _ _ beside_caches_link
-    (obeys_in_caches FileCounts _ _ files_rest (stores_rows_ends cause_of readable gained.cached
-    gained.trees))
-    (λ gone. obeys_yields (BesideCaches FileCounts) _ _ beside_caches_rest))
+    (obeys_gives (BesideCaches FileCounts) _ _ beside_caches_rest)
+    (λ folders. obeys_bind (BesideCaches FileCounts) _ _ _ beside_caches_link
+    (obeys_told (BesideCaches FileCounts) tree_store.cause_of cause_of Store _ (λ fault. refl)
+    (stores_folders_counts readable gained.cached folders))
+    (λ gone. obeys_yields (BesideCaches FileCounts) _ _ beside_caches_rest)))
 
 pub saved_image_counts : (store name : List ℕ) (image : ImageDoc)
     → Obeys FileCounts cause_of (saves_image store name image)

@@ -1,12 +1,14 @@
 -- The export of an image, in the order of work (platform.md, "exporter").
 use Rattle.std.specs.Prelude.{ℕ, Bool, List, map, Result, Ok}
+use Rattle.cnb_world.specs.Path.{joined}
 use Rattle.image_docs.specs.declared.analyzed.Analyzed.{Analyzed}
 use Rattle.image_docs.specs.declared.layer_row.LayerRow.{LayerRow}
 use Rattle.image_docs.specs.declared.run_image.RunDoc.{RunDoc}
+use Rattle.layer_paths.specs.Paths.{layers_folder}
 use Rattle.run_docs.specs.declared.group.GroupRow.{GroupRow}
-use Rattle.shelf_set.specs.Caches.{WorldAndCaches, in_caches, in_world}
-use Rattle.shelf_set.specs.Caching.{stores_rows}
-use Rattle.steps.specs.Steps.{◌>>=◌, gives, yields}
+use Rattle.shelf_set.specs.Caches.{WorldAndCaches, in_world}
+use Rattle.shelf_set.specs.Caching.{stores_folders}
+use Rattle.steps.specs.Steps.{◌>>=◌, gives, map_err, yields}
 use Rattle.cnb_export.specs.declared.exported.Digests.{Digests}
 use Rattle.cnb_export.specs.declared.exported.Exported.{Exported}
 use Rattle.cnb_export.specs.declared.exported.ExportedRow.{ExportedRow}
@@ -15,6 +17,7 @@ use Rattle.cnb_layers.specs.declared.gathered.Gathered.{Gathered}
 use Rattle.cnb_layers.specs.declared.gathered.ImageLayer.{ImageLayer}
 use Rattle.cnb_export.specs.declared.exporting.Gained.{Gained}
 use Rattle.cnb_layers.specs.declared.fault.ExportFault.{ExportFault}
+use Rattle.cnb_layers.specs.declared.fault.ExportFault.TheVariants.{Store}
 use Rattle.cnb_layers.specs.Buildpack.{exports_group}
 use Rattle.cnb_export.specs.Image.{image_of}
 use Rattle.cnb_export.specs.Images.{reads_previous, reads_run_image}
@@ -32,7 +35,6 @@ gained_of name run group gathered digests = record {
   image = image_of name run group gathered digests;
   rows = map exported_row gathered.layers;
   cached = gathered.cached;
-  trees = gathered.trees;
 }
 
 -- The images are read, then what each buildpack left and the trees above the layers, and these make the image.
@@ -44,7 +46,7 @@ gains frame group analyzed = do
   digests ← puts_trees frame gathered.slices gathered.processes
   image ← gives cause_of (Ok (image_of analyzed.run run group gathered digests))
   rows ← gives cause_of (Ok (map exported_row gathered.layers))
-  yields (record { image = image; rows = rows; cached = gathered.cached; trees = gathered.trees })
+  yields (record { image = image; rows = rows; cached = gathered.cached })
 
 -- the same from where the run image and the layers of the previous image are read
 unfoldable pub gains_over : ExportFrame → List GroupRow → List ℕ → RunDoc → List LayerRow → Seen
@@ -54,12 +56,18 @@ gains_over frame group name run previous = do
   digests ← puts_trees frame gathered.slices gathered.processes
   image ← gives cause_of (Ok (image_of name run group gathered digests))
   rows ← gives cause_of (Ok (map exported_row gathered.layers))
-  yields (record { image = image; rows = rows; cached = gathered.cached; trees = gathered.trees })
+  yields (record { image = image; rows = rows; cached = gathered.cached })
 
--- At last the layers that go into caches are stored, with documents that read as their rows where this is told.
+-- the folder of a layer's contents
+abbrev pub folder_of : List ℕ → LayerRow → List ℕ
+folder_of layers row = joined (layers_folder layers row.id) row.layer
+
+-- At last the folders of the layers that go into caches are walked, and the layers are stored, with documents that read
+-- as their rows where this is told.
 unfoldable pub exports : Bool → ExportFrame → List GroupRow → Analyzed → WorldAndCaches
     → Result Exported ExportFault → WorldAndCaches → Type 0
 exports readable frame group analyzed = do
   gained ← in_world (gains frame group analyzed)
-  gone ← in_caches (stores_rows cause_of readable gained.cached gained.trees)
+  folders ← gives cause_of (Ok (map (folder_of frame.layers) gained.cached))
+  gone ← map_err Store (stores_folders readable gained.cached folders)
   yields (record { image = gained.image; rows = gained.rows; gone = gone })

@@ -1,6 +1,6 @@
 // The export of an image.
-ghost use Rattle.std.specs.Prelude.{◌≡◌, IfOk, IsTrue, OnOk, map};
-ghost use Rattle.std.specs.List.{list_all};
+ghost use Rattle.std.specs.Prelude.{◌≡◌, ◌≤◌, IfOk, IsTrue, OnOk, length, map};
+ghost use Rattle.std.specs.List.{AllByRecursion, list_all};
 ghost use Rattle.cnb_toml.specs.Names.{is_image_name};
 ghost use Rattle.cnb_world.specs.Path.{is_short_path};
 ghost use Rattle.image_docs.specs.CacheRows.{is_cache_doc};
@@ -9,9 +9,9 @@ ghost use Rattle.image_docs.specs.Row.{is_row};
 ghost use Rattle.image_docs.specs.RunImage.{is_run_doc};
 ghost use Rattle.run_docs.specs.Group.{is_group_doc};
 ghost use Rattle.shelf_set.specs.Caches.{caches_seen, world_and_caches};
-ghost use Rattle.shelf_set.specs.Caching.{digest_of_row, digest_of_tree};
+ghost use Rattle.shelf_set.specs.Caching.{IsShort};
 ghost use Rattle.steps.specs.Outside.{seen};
-ghost use Rattle.cnb_export.specs.Exports.{exported_row, exports, gained_of, gains, gains_over};
+ghost use Rattle.cnb_export.specs.Exports.{exported_row, exports, folder_of, gained_of, gains, gains_over};
 ghost use Rattle.cnb_layers.specs.Frame.{KeepsLimits};
 ghost use Rattle.cnb_export.specs.OneImage.{IsOneImage};
 ghost use Rattle.cnb_export.specs.Processes as processes;
@@ -21,22 +21,21 @@ use crate::exported::{Digests, Exported, ExportedRow, ImageFrame};
 use crate::image::make_image;
 use crate::images::{read_previous, read_run_image};
 use crate::trees::put_trees;
-use cnb_layers::{ExportFault, ExportFrame, Gathered, ImageLayer, export_group};
+use cnb_layers::{ExportFault, ExportFrame, Gathered, ImageLayer, contents_folder, export_group};
 use cnb_toml::ImageName;
-use cnb_world::{List, Memory, Shelf, World};
+use cnb_world::{List, Memory, Path, Shelf, World};
 use image_docs::{Analyzed, CacheDoc, ImageDoc, LayerRow};
+use layer_paths::layers_folder;
 use run_docs::GroupDoc;
 use shelf_set::{Caches, store_all};
 use std::alloc::Global;
-use tree_canon::Tree;
 
-/// The image, its layers, and the layers that go into caches, with their trees.
+/// The image, its layers, and the layers that go into caches.
 #[derive(Drop)]
 pub(crate) struct Gained {
     pub(crate) image: ImageDoc,
     pub(crate) rows: List<ExportedRow>,
     pub(crate) cached: CacheDoc,
-    pub(crate) trees: List<Tree>,
 }
 
 fn exported_rows(alloc: Global, layers: &[ImageLayer]) -> Result<List<ExportedRow>, Memory>
@@ -72,7 +71,6 @@ fn assemble(
         image,
         rows,
         cached: gathered.cached,
-        trees: gathered.trees,
     })
 }
 
@@ -99,7 +97,6 @@ fn gain_over<W: World>(
         → IfOk result (λ gained. IsTrue (is_image_doc gained.image)) }
     ensures cacheable { IsTrue (is_group_doc image_frame.now.group.now)
         → IfOk result (λ gained. IsTrue (is_cache_doc gained.cached)) }
-    ensures matched { IfOk result (λ gained. map digest_of_row gained.cached ≡ map digest_of_tree gained.trees) }
 {
     named(image_frame.name);
     let gathered = export_group(alloc, world, frame, previous, image_frame.group.as_slice())?;
@@ -125,7 +122,6 @@ fn gain<W: World>(
     ensures step { gains frame.now group.now analyzed.now (seen W.World world.old) result (seen W.World world.new) }
     ensures readable { IsTrue (is_group_doc group.now) → IfOk result (λ gained. IsTrue (is_image_doc gained.image)) }
     ensures cacheable { IsTrue (is_group_doc group.now) → IfOk result (λ gained. IsTrue (is_cache_doc gained.cached)) }
-    ensures matched { IfOk result (λ gained. map digest_of_row gained.cached ≡ map digest_of_tree gained.trees) }
 {
     let run = read_run_image(alloc, world, &frame.store, &analyzed.run)?;
     let previous = read_previous(alloc, world, &frame.store, &analyzed.previous)?;
@@ -137,12 +133,35 @@ fn gain<W: World>(
     gain_over(alloc, world, frame, &image_frame, previous.as_slice())
 }
 
+// The folder of a layer's contents.
+fn folder_of(alloc: Global, layers: &Path, row: &LayerRow) -> Result<Path, Memory>
+    requires { length layers.now ≤ 4096 }
+    ensures path { IfOk result (λ path. path ≡ folder_of layers.now row.now) }
+    ensures short { IfOk result IsShort }
+{
+    let folder = layers_folder(alloc, layers, &row.id)?;
+    contents_folder(alloc, &folder, &row.layer)
+}
+
+// The folders of the layers that go into caches.
+fn cached_folders(alloc: Global, layers: &Path, cached: &[LayerRow]) -> Result<List<Path>, Memory>
+    requires { length layers.now ≤ 4096 }
+    ensures folders { IfOk result (λ folders. folders ≡ map (folder_of layers.now) cached.now) }
+    ensures short { IfOk result (AllByRecursion IsShort) }
+{
+    let mut folders = List::new(alloc);
+    for row in cached {
+        folders.push(folder_of(alloc, layers, row)?)?;
+    }
+    Ok(folders)
+}
+
 /// Exports an image: what the buildpacks of a group left, the application and the launcher. Trees go into the store and
 /// into the caches that stand; no image document is written. Trees that were put stay after a refusal (platform.md,
-/// "exporter"). The trees of layers with `cache` are held in memory until the end, for the caches; nothing of other
-/// layers is. Where no `launch.toml` has `slices`, nothing of the application is held; else it is held whole, and then
-/// the trees that it is cut into (buildpack.md, "launch.toml (TOML)"). The folders of the frame have at most 4,096
-/// bytes.
+/// "exporter"). Nothing of a layer's tree is held: the folders of layers with `cache` are walked once more at the end,
+/// for the caches, and one that was changed meanwhile is refused. Where no `launch.toml` has `slices`, nothing of the
+/// application is held; else it is held whole, and then the trees that it is cut into (buildpack.md,
+/// "launch.toml (TOML)"). The folders of the frame have at most 4,096 bytes.
 pub fn export<W: World>(
     alloc: Global,
     world: &mut W,
@@ -161,12 +180,14 @@ pub fn export<W: World>(
         → IfOk result (λ exported. IsTrue (is_image_doc exported.image)) }
 {
     let gained = gain(alloc, world, frame, group, analyzed)?;
+    let folders = cached_folders(alloc, &frame.layers, gained.cached.as_slice())?;
     let gone = store_all(
         alloc,
+        world,
         &mut caches.shelves,
         &mut caches.places,
         &gained.cached,
-        &gained.trees,
+        &folders,
     )?;
     Ok(Exported {
         image: gained.image,

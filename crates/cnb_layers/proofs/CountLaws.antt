@@ -13,18 +13,18 @@ use Rattle.steps.proofs.EndLaws.{obeys_yields, reads_counts}
 use Rattle.steps.specs.Counts.{FileCounts}
 use Rattle.steps.specs.Outside.{Seen}
 use Rattle.steps.specs.Steps.{map_err}
-use Rattle.tree_canon.specs.declared.node.Node.{Node}
 use Rattle.tree_store.specs.Answers as tree_store
+use Rattle.tree_store.specs.Caching.{digests_folder}
 use Rattle.tree_store.specs.declared.fault.StoreFault.{StoreFault}
-use Rattle.tree_store.proofs.CountLaws.{look_for_tree_counts, put_folder_counts, put_tree_counts, read_tree_counts}
+use Rattle.tree_store.proofs.CountLaws.{look_for_tree_counts, put_folder_counts, read_tree_counts}
 use Rattle.cnb_layers.specs.declared.frame.ExportFrame.{ExportFrame}
 use Rattle.cnb_layers.specs.declared.gathered.Gathered.{Gathered}
 use Rattle.cnb_layers.specs.declared.fault.ExportFault.TheVariants.{Store}
 use Rattle.cnb_layers.specs.Buildpack.{exports_buildpack, exports_documents, exports_group, exports_layers}
 use Rattle.cnb_layers.specs.Buildpack.{exports_store_document, reads_launch, reads_store_document}
 use Rattle.cnb_layers.specs.Gathering.{exports_layer, keeps_found, keeps_layer, keeps_documented}
-use Rattle.cnb_layers.specs.Layer.{finds_contents, flags_of, keeps_tree, looks_for_contents, puts_contents, reads_layer}
-use Rattle.cnb_layers.specs.Layer.{takes_contents, takes_there, takes_whole}
+use Rattle.cnb_layers.specs.Layer.{digests_contents, finds_contents, flags_of, looks_for_contents, puts_contents}
+use Rattle.cnb_layers.specs.Layer.{reads_layer, takes_contents, takes_there}
 use Rattle.cnb_layers.specs.Names.{lists_unless, reads_layer_names, reads_names}
 use Rattle.cnb_layers.specs.Reading.{reads_as, reads_some}
 use Rattle.cnb_layers.specs.Refusals.{cause_of}
@@ -76,20 +76,18 @@ unfolding looks_for_contents
 look_for_contents_counts path = obeys_bind _ _ _ _ files_link (reads_counts cause_of _ _ _)
     (λ kind. obeys_gives _ _ _ files_rest)
 
-keep_tree_counts : (store : List ℕ) (launch : Bool) (tree : Node)
-    → Obeys FileCounts cause_of (keeps_tree store launch tree)
-keep_tree_counts store true tree = of_store _ (put_tree_counts store tree)
-keep_tree_counts store false tree = obeys_gives _ _ _ files_rest
+digest_folder_counts : (path : List ℕ) → Obeys FileCounts tree_store.cause_of (digests_folder path)
+unfolding digests_folder
+digest_folder_counts path = obeys_bind _ _ _ _ files_link (read_tree_counts path)
+    (λ tree. obeys_yields _ _ _ files_rest)
 
 take_there_counts : (store : List ℕ) (cache launch : Bool) (path : List ℕ)
     → Obeys FileCounts cause_of (takes_there store cache launch path)
-unfolding takes_whole puts_contents
-take_there_counts store true launch path =
-    obeys_bind _ _ _ _ files_link (of_store _ (read_tree_counts path))
-    (λ tree. obeys_bind _ _ _ _ files_link (keep_tree_counts store launch tree)
-    (λ digest. obeys_yields _ _ _ files_rest))
-take_there_counts store false true path = obeys_bind _ _ _ _ files_link
+unfolding puts_contents digests_contents
+take_there_counts store cache true path = obeys_bind _ _ _ _ files_link
     (of_store _ (put_folder_counts store path)) (λ digest. obeys_yields _ _ _ files_rest)
+take_there_counts store true false path = obeys_bind _ _ _ _ files_link
+    (of_store _ (digest_folder_counts path)) (λ digest. obeys_yields _ _ _ files_rest)
 take_there_counts store false false path = obeys_yields _ _ _ files_rest
 
 take_contents_counts : (store : List ℕ) (flags : Flags) (path : List ℕ) (there : Bool)

@@ -15,6 +15,7 @@ use Rattle.steps.proofs.ReadingLaws.{where_map}
 use Rattle.tree_canon.specs.Spelling.{spelling_of}
 use Rattle.tree_canon.specs.declared.node.Node.{Node}
 use Rattle.tree_store.specs.Answers as stored
+use Rattle.tree_store.specs.Caching.{digests_folder}
 use Rattle.tree_store.specs.Reading.{tree_in}
 use Rattle.tree_store.specs.Steps.{LeavesFolder, PutsRead, folder_put, puts_folder, puts_tree, reads_tree}
 use Rattle.tree_store.specs.Store.{Keeps, Puts, tree_path, tree_put}
@@ -240,6 +241,11 @@ decided_puts store tree t old new old' new' (Err fault) (Err other) is is' h h' 
 pub decided_reads_tree : (path : List ℕ) → AreDecided stored.cause_of (reads_tree path)
 unfolding reads_tree
 decided_reads_tree path = decided_reads stored.cause_of _ _ _
+
+pub decided_digests_folder : (path : List ℕ) → AreDecided stored.cause_of (digests_folder path)
+unfolding digests_folder
+decided_digests_folder path = decided_bind stored.cause_of _ _ (decided_reads_tree path)
+    (λ tree. decided_yields stored.cause_of _)
 
 -- ---- trees of folders that are put
 

@@ -30,7 +30,6 @@ use Rattle.run_docs.specs.declared.store.StoreToml.{StoreToml}
 use Rattle.steps.specs.Each.{for_each}
 use Rattle.steps.specs.Outside.{Seen}
 use Rattle.steps.specs.Steps.{◌>>=◌, gives, yields}
-use Rattle.tree_canon.specs.declared.node.Node.{Node}
 use Rattle.cnb_layers.specs.Buildpack.{exports_buildpack, exports_documents, exports_group, exports_layers}
 use Rattle.cnb_layers.specs.Buildpack.{exports_store_document, with_documents, with_store_row}
 use Rattle.cnb_layers.specs.Gathering.{exports_layer, layer_of, nothing_gathered, with_image, with_kept, with_row}
@@ -126,14 +125,14 @@ module _ (id : List ℕ) (rest : List GroupRow)
         subst (AreApart false id names rest) (sym (map-append layer_of layers
         (record { row = row; reused = reused } ∷ []))) (with_one false (map layer_of layers) row h e f kept)
 
-    with_cached : (rows : List LayerRow) (row : LayerRow) (tree : Option Node)
-        → AreApart true id (name ∷ names) rest rows → row.id ≡ id → row.layer ≡ name → IsCached row tree
+    with_cached : (rows : List LayerRow) (row : LayerRow) (goes : Bool)
+        → AreApart true id (name ∷ names) rest rows → row.id ≡ id → row.layer ≡ name → IsCached row goes
         → is_kept row.meta ≡ true
-        → AreApart true id names rest (with_row rows row tree)
-    with_cached rows row None h e f cached kept = fewer true name names rows h
-    with_cached rows row (Some tree) h e f cached kept =
+        → AreApart true id names rest (with_row rows row goes)
+    with_cached rows row false h e f cached kept = fewer true name names rows h
+    with_cached rows row true h e f cached kept =
         with_one true rows row h e f (and_from (not (true && not row.flags.cache)) (is_kept row.meta)
-        (ap (λ cache. not (true && not cache)) cached.0) kept)
+        (ap (λ cache. not (true && not cache)) (cached refl)) kept)
 
     image_after : (gathered : Gathered) (kept : Option Kept)
         → AreApart false id (name ∷ names) rest (map layer_of gathered.layers) → Keeps id name kept
@@ -146,7 +145,7 @@ module _ (id : List ℕ) (rest : List GroupRow)
         → AreApart true id (name ∷ names) rest gathered.cached → Keeps id name kept
         → AreApart true id names rest (with_kept gathered kept).cached
     cached_after gathered None h k = fewer true name names gathered.cached h
-    cached_after gathered (Some kept) h k = with_cached gathered.cached kept.row kept.tree h k.of_buildpack
+    cached_after gathered (Some kept) h k = with_cached gathered.cached kept.row kept.cached h k.of_buildpack
         k.of_layer k.cached k.meta
 
   -- only the layers are others

@@ -13,15 +13,14 @@ use Rattle.run_docs.specs.declared.group.GroupRow.{GroupRow}
 use Rattle.run_docs.specs.declared.layer.LayerDoc.{LayerDoc}
 use Rattle.steps.specs.Outside.{Seen}
 use Rattle.steps.specs.Steps.{map_err}
-use Rattle.tree_canon.specs.declared.node.Node.{Node}
 use Rattle.tree_store.specs.Answers as stored
 use Rattle.tree_store.specs.Steps.{looks_for_tree}
 use Rattle.tree_store.specs.declared.fault.StoreFault.{StoreFault}
 use Rattle.cnb_layers.specs.Buildpack.{exports_buildpack, exports_documents, exports_group, exports_layers}
 use Rattle.cnb_layers.specs.Buildpack.{exports_store_document, one_default, reads_launch, reads_store_document}
 use Rattle.cnb_layers.specs.Gathering.{exports_layer, keeps_found, keeps_layer, keeps_documented, nothing_gathered}
-use Rattle.cnb_layers.specs.Layer.{finds_contents, flags_of, keeps_tree, looks_for_contents, puts_contents, reads_layer}
-use Rattle.cnb_layers.specs.Layer.{takes_contents, takes_there, takes_whole, there_by}
+use Rattle.cnb_layers.specs.Layer.{digests_contents, finds_contents, flags_of, looks_for_contents, puts_contents}
+use Rattle.cnb_layers.specs.Layer.{reads_layer, takes_contents, takes_there, there_by}
 use Rattle.cnb_layers.specs.Names.{lists_unless, reads_layer_names, reads_names}
 use Rattle.cnb_layers.specs.Reading.{reads_as, reads_some}
 use Rattle.cnb_layers.specs.Refusals.{cause_of}
@@ -29,8 +28,8 @@ use Rattle.cnb_layers.specs.Settling.{checks_reused, decision_of, looks_for_stor
 use Rattle.cnb_layers.specs.declared.frame.ExportFrame.{ExportFrame}
 use Rattle.cnb_layers.specs.declared.gathered.Gathered.{Gathered}
 use Rattle.cnb_layers.specs.declared.fault.ExportFault.TheVariants.{Store}
-use Rattle.cnb_layers.proofs.DecidedLaws.{AreDecided, decided_bind, decided_each, decided_gives, decided_puts}
-use Rattle.cnb_layers.proofs.DecidedLaws.{decided_puts_folder, decided_reads, decided_reads_tree, decided_told}
+use Rattle.cnb_layers.proofs.DecidedLaws.{AreDecided, decided_bind, decided_digests_folder, decided_each}
+use Rattle.cnb_layers.proofs.DecidedLaws.{decided_gives, decided_puts_folder, decided_reads, decided_told}
 use Rattle.cnb_layers.proofs.DecidedLaws.{decided_yields}
 use Rattle.cnb_layers.proofs.PatternLaws.{decided_slices}
 
@@ -104,15 +103,11 @@ one_check store None (Some row) = one_stored store row.digest
 -- ---- what puts trees too
 
 module _ (store : List ℕ) where
-  one_tree : (launch : Bool) (tree : Node) → AreDecided cause_of (keeps_tree store launch tree)
-  one_tree true tree = of_store _ (decided_puts store tree)
-  one_tree false tree = decided_gives cause_of _
-
   one_there : (cache launch : Bool) (at : List ℕ) → AreDecided cause_of (takes_there store cache launch at)
-  unfolding takes_whole puts_contents
-  one_there true launch at = decided_bind cause_of _ _ (of_store _ (decided_reads_tree at))
-      (λ tree. decided_bind cause_of _ _ (one_tree launch tree) (λ digest. decided_yields cause_of _))
-  one_there false true at = decided_bind cause_of _ _ (of_store _ (decided_puts_folder store at))
+  unfolding puts_contents digests_contents
+  one_there cache true at = decided_bind cause_of _ _ (of_store _ (decided_puts_folder store at))
+      (λ digest. decided_yields cause_of _)
+  one_there true false at = decided_bind cause_of _ _ (of_store _ (decided_digests_folder at))
       (λ digest. decided_yields cause_of _)
   one_there false false at = decided_yields cause_of _
 

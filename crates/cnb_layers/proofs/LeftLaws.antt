@@ -1,16 +1,15 @@
 -- What was read of what a buildpack left can be written into an image.
-use Rattle.std.proofs.Common.{◌≡◌, refl, sym, ap, subst, ℕ, Bool, true, false, cond, List, [], length, Option, Some}
+use Rattle.std.proofs.Common.{◌≡◌, refl, sym, subst, ℕ, Bool, true, false, cond, List, [], length, Option, Some}
 use Rattle.std.proofs.Common.{None, Ok, Err}
 use Rattle.std.specs.Prelude.{IfSome, nat_lt, unwrap_or}
 use Rattle.std.specs.List.{filter_map}
 use Rattle.std.specs.Str.{bytes_eq}
+use Rattle.std.proofs.lemmas.Bool.{and_parts}
 use Rattle.cnb_toml.specs.Distinct.{are_distinct}
 use Rattle.cnb_toml.specs.Meta.{is_kept}
 use Rattle.cnb_toml.specs.Names.{is_layer_name}
 use Rattle.cnb_toml.specs.declared.meta.Meta.{Meta}
 use Rattle.image_docs.specs.declared.layer_row.LayerRow.{LayerRow}
-use Rattle.layer_flags.specs.declared.export.ExportRow.{ExportRow}
-use Rattle.layer_flags.specs.declared.export.ExportRow.TheVariants.{Skip, Add, Reuse, NoContents, NoPrevious}
 use Rattle.layer_flags.specs.declared.flags.Flags.{Flags}
 use Rattle.layer_paths.specs.Names.{layers_among, stem_of}
 use Rattle.run_docs.specs.Launch.{is_launch_toml, launch_in}
@@ -19,19 +18,14 @@ use Rattle.run_docs.specs.Store.{is_store_toml, store_in}
 use Rattle.run_docs.specs.declared.launch.LaunchToml.{LaunchToml}
 use Rattle.run_docs.specs.declared.layer.LayerDoc.{LayerDoc}
 use Rattle.run_docs.specs.declared.store.StoreToml.{StoreToml}
-use Rattle.shelf_set.specs.Caching.{digest_of_tree}
 use Rattle.steps.specs.Outside.{Seen}
-use Rattle.steps.specs.Steps.{◌>>=◌, gives, map_err, yields}
-use Rattle.tree_canon.specs.declared.node.Node.{Node}
-use Rattle.tree_store.specs.Steps.{puts_tree}
+use Rattle.steps.specs.Steps.{◌>>=◌, gives, yields}
 use Rattle.cnb_layers.specs.Buildpack.{defaults_of, one_default, reads_launch, reads_store_document}
-use Rattle.cnb_layers.specs.Gathering.{exports_layer, keeps_found, keeps_layer, keeps_documented, kept_of, kept_with}
+use Rattle.cnb_layers.specs.Gathering.{exports_layer, is_cached, keeps_found, keeps_layer, keeps_documented, kept_of}
 use Rattle.cnb_layers.specs.Gathering.{with_kept}
-use Rattle.cnb_layers.specs.Layer.{finds_contents, flags_of, keeps_tree, puts_contents, reads_layer, takes_contents}
-use Rattle.cnb_layers.specs.Layer.{takes_there, takes_whole}
+use Rattle.cnb_layers.specs.Layer.{flags_of, reads_layer}
 use Rattle.cnb_layers.specs.Names.{reads_layer_names}
 use Rattle.cnb_layers.specs.Reading.{reads_as, reads_some}
-use Rattle.cnb_layers.specs.Settling.{decision_of, digest_or, reuses, row_of, settled_as, settles_by}
 use Rattle.cnb_layers.specs.declared.gathered.Gathered.{Gathered}
 use Rattle.cnb_layers.specs.declared.fault.ExportFault.TheVariants.{TwoDefaults}
 use Rattle.cnb_layers.specs.declared.gathering.Kept.{Kept}
@@ -89,106 +83,29 @@ doc_left path old new None h = refl
 doc_left path old new (Some doc) (found, mid, reading, (same, is, cause)) =
     let (bytes, e) = some_value_read layer_in path found doc is in layer_readable bytes doc e
 
--- a layer whose tree is kept is one that is cached, and has the digest of that tree
-abbrev pub IsCached : LayerRow → Option Node → Type 0
-IsCached row tree = IfSome tree (λ t. (row.flags.cache ≡ true) × (row.digest ≡ digest_of_tree t))
-
--- contents whose tree is held are those of a layer that is cached, and have the digest of that tree
-abbrev AreHeld : Flags → Contents → Type 0
-AreHeld flags contents = IfSome contents.tree
-    (λ tree. (flags.cache ≡ true) × (contents.digest ≡ Some (digest_of_tree tree)))
-
--- a tree that was put has the digest that is answered
-put_digest : (store : List ℕ) (tree : Node) (old : Seen) (digest : List ℕ) (new : Seen)
-    → puts_tree store tree old (Ok digest) new → digest ≡ digest_of_tree tree
-unfolding puts_tree
-put_digest store tree old digest new h = h.leaves.0
-
-tree_digest : (store : List ℕ) (launch : Bool) (tree : Node) (old new : Seen) (digest : List ℕ)
-    → keeps_tree store launch tree old (Ok digest) new → digest ≡ digest_of_tree tree
-unfolding gives map_err
-tree_digest store true tree old new digest h = put_digest store tree old digest new h
-tree_digest store false tree old new digest (same, is, cause) = cc
-
-there_held : (store : List ℕ) (flags : Flags) (cache launch : Bool) (path : List ℕ) (old new : Seen)
-    (contents : Contents) → flags.cache ≡ cache → takes_there store cache launch path old (Ok contents) new
-    → AreHeld flags contents
-unfolding takes_whole puts_contents ◌>>=◌ yields
-there_held store flags true launch path old new contents cache (tree, m1, read, (digest, m2, keep, (is, same))) =
-    subst (AreHeld flags) (sym is) (cache, ap Some (tree_digest store launch tree m1 m2 digest keep))
-there_held store flags false true path old new contents cache (digest, m1, put, (is, same)) = subst
-    (AreHeld flags) (sym is) tt
-there_held store flags false false path old new contents cache (is, same) = subst (AreHeld flags) (sym is) tt
-
-taken_held : (store : List ℕ) (flags : Flags) (path : List ℕ) (there : Bool) (old new : Seen)
-    (contents : Contents) → takes_contents store flags path there old (Ok contents) new → AreHeld flags contents
-unfolding yields
-taken_held store flags path true old new contents h = there_held store flags flags.cache flags.launch path old new
-    contents refl h
-taken_held store flags path false old new contents (is, same) = subst (AreHeld flags) (sym is) tt
-
-contents_held : (store folder layer : List ℕ) (flags : Flags) (old new : Seen) (contents : Contents)
-    → finds_contents store folder layer flags old (Ok contents) new → AreHeld flags contents
-unfolding finds_contents ◌>>=◌
-contents_held store folder layer flags old new contents
-    (path, m1, at, (there, m2, look, take)) = taken_held store flags path there m2 new contents take
-
--- where contents have a digest, the layer has that one
-abbrev HasDigest : Option (List ℕ) → Option Settled → Type 0
-HasDigest digest settled = IfSome digest (λ d. IfSome settled (λ s. s.digest ≡ d))
-
-settled_digest : (reused : Option Bool) (digest : Option (List ℕ)) (settled : Option Settled)
-    → settled ≡ settled_as reused digest → HasDigest digest settled
-settled_digest reused None settled is = tt
-settled_digest reused (Some d) settled is = subst (λ (s : Option Settled). IfSome s (λ one. one.digest ≡ d))
-    (sym is) refl
-
-reused_digest : (digest : Option (List ℕ)) (before : Option LayerRow) (settled : Option Settled)
-    → settled ≡ settled_as (Some true) (digest_or digest before) → HasDigest digest settled
-reused_digest None before settled is = tt
-reused_digest (Some d) before settled is = settled_digest (Some true) (Some d) settled is
-
-settled_so : (row : ExportRow) (store id layer : List ℕ) (digest : Option (List ℕ)) (before : Option LayerRow)
-    (old new : Seen) (settled : Option Settled) → settles_by row store id layer digest before old (Ok settled) new
-    → HasDigest digest settled
-unfolding reuses ◌>>=◌ gives yields
-settled_so Skip store id layer digest before old new settled (is, same) = settled_digest None digest settled is
-settled_so Add store id layer digest before old new settled (is, same) = settled_digest (Some false) digest settled is
-settled_so Reuse store id layer digest before old new settled
-    (checked, mid, check, (is, same)) = reused_digest digest before settled is
-settled_so NoContents store id layer digest before old new settled (same, is, cause) = absurd (cc)
-settled_so NoPrevious store id layer digest before old new settled (same, is, cause) = absurd (cc)
+-- a layer that goes into caches is one that is to be cached
+abbrev pub IsCached : LayerRow → Bool → Type 0
+IsCached row cached = cached ≡ true → row.flags.cache ≡ true
 
 -- a row of this layer, with metadata that can be read
 pub record IsKeptLayer (id layer : List ℕ) (kept : Kept) : Type 0 where
   pub of_buildpack : kept.row.id ≡ id
   pub of_layer : kept.row.layer ≡ layer
   pub meta : is_kept kept.row.meta ≡ true
-  pub cached : IsCached kept.row kept.tree
+  pub cached : IsCached kept.row kept.cached
 
 abbrev pub Keeps : List ℕ → List ℕ → Option Kept → Type 0
 Keeps id layer kept = IfSome kept (IsKeptLayer id layer)
 
-tree_cached : (id layer : List ℕ) (flags : Flags) (meta : Meta) (digest : Option (List ℕ)) (tree : Option Node)
-    (settled : Settled) → IfSome tree (λ t. (flags.cache ≡ true) × (digest ≡ Some (digest_of_tree t)))
-    → HasDigest digest (Some settled)
-    → IsCached (kept_with id layer flags meta tree settled).row tree
-tree_cached id layer flags meta digest None settled held has = tt
-tree_cached id layer flags meta digest (Some tree) settled (cache, is) has =
-    (cache, subst (λ d. HasDigest d (Some settled)) is has)
-
 kept_is : (id layer : List ℕ) (flags : Flags) (meta : Meta) (contents : Contents) (settled : Option Settled)
-    → is_kept meta ≡ true → AreHeld flags contents → HasDigest contents.digest settled
-    → Keeps id layer (kept_of id layer flags meta contents.tree settled)
-kept_is id layer flags meta contents None kept held has = tt
-kept_is id layer flags meta contents (Some settled) kept held has =
-    record {
-      of_buildpack = refl;
-      of_layer = refl;
-      meta = kept;
-      cached = tree_cached id layer flags meta
-          contents.digest contents.tree settled held has;
-    }
+    → is_kept meta ≡ true → Keeps id layer (kept_of id layer flags meta (is_cached flags contents) settled)
+kept_is id layer flags meta contents None kept = tt
+kept_is id layer flags meta contents (Some settled) kept = record {
+  of_buildpack = refl;
+  of_layer = refl;
+  meta = kept;
+  cached = λ is. (and_parts contents.there flags.cache is).1;
+}
 
 doc_kept : (store : List ℕ) (previous : List LayerRow) (id folder layer : List ℕ) (doc : Option LayerDoc)
     (old new : Seen) (kept : Option Kept) → is_doc_left doc ≡ true
@@ -197,11 +114,8 @@ unfolding keeps_documented ◌>>=◌ gives yields
 doc_kept store previous id folder layer None old new kept left (is, same) = subst (Keeps id layer) (sym is) tt
 doc_kept store previous id folder layer (Some doc) old new kept left
     (contents, m1, find, (settled, m2, settle, (same, is, cause))) =
-    let e : kept_of id layer (flags_of doc) doc.meta contents.tree settled ≡ kept = cc in
-    subst (Keeps id layer) e (kept_is id layer (flags_of doc) doc.meta contents settled left
-    (contents_held store folder layer (flags_of doc) old m1 contents find)
-    (settled_so (decision_of (flags_of doc) contents (row_of previous id layer)) store id layer contents.digest
-    (row_of previous id layer) m1 m2 settled settle))
+    let e : kept_of id layer (flags_of doc) doc.meta (is_cached (flags_of doc) contents) settled ≡ kept = cc in
+    subst (Keeps id layer) e (kept_is id layer (flags_of doc) doc.meta contents settled left)
 
 layer_kept : (store : List ℕ) (previous : List LayerRow) (id folder layer : List ℕ) (old new : Seen)
     (kept : Option Kept) → keeps_layer store previous id folder layer old (Ok kept) new → Keeps id layer kept

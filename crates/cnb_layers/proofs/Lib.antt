@@ -5,6 +5,6 @@ pub mod FormLaws
 pub mod GatherLaws
 pub mod GroupLaws
 pub mod LeftLaws
-pub mod MatchLaws
 pub mod PatternLaws
 pub mod ReadSteps
+pub mod RootLaws

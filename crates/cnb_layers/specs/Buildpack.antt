@@ -58,7 +58,6 @@ with_documents gathered id launch slices store_document = record {
   store_rows = with_store_row gathered.store_rows id store_document;
   layers = gathered.layers;
   cached = gathered.cached;
-  trees = gathered.trees;
 }
 
 -- `store.toml`, behind what `launch.toml` has

@@ -1,5 +1,5 @@
 -- What a group left, gathered layer by layer.
-use Rattle.std.specs.Prelude.{ℕ, ◌++◌, Bool, List, [], ◌∷◌, Option, Some, None, Result, Ok}
+use Rattle.std.specs.Prelude.{ℕ, ◌++◌, ◌&&◌, Bool, true, false, List, [], ◌∷◌, Option, Some, None, Result, Ok}
 use Rattle.std.specs.Option.{option_map}
 use Rattle.cnb_toml.specs.declared.meta.Meta.{Meta}
 use Rattle.image_docs.specs.declared.layer_row.LayerRow.{LayerRow}
@@ -8,11 +8,11 @@ use Rattle.layer_paths.specs.Paths.{layer_document}
 use Rattle.run_docs.specs.declared.layer.LayerDoc.{LayerDoc}
 use Rattle.steps.specs.Outside.{Seen}
 use Rattle.steps.specs.Steps.{◌>>=◌, gives, yields}
-use Rattle.tree_canon.specs.declared.node.Node.{Node}
 use Rattle.cnb_layers.specs.declared.gathered.Gathered.{Gathered}
 use Rattle.cnb_layers.specs.declared.gathered.ImageLayer.{ImageLayer}
 use Rattle.cnb_layers.specs.declared.fault.ExportFault.{ExportFault}
 use Rattle.cnb_layers.specs.declared.gathering.Kept.{Kept}
+use Rattle.cnb_layers.specs.declared.layer.Contents.{Contents}
 use Rattle.cnb_layers.specs.declared.settling.Settled.{Settled}
 use Rattle.cnb_layers.specs.Layer.{finds_contents, flags_of, reads_layer}
 use Rattle.cnb_layers.specs.Refusals.{cause_of}
@@ -26,7 +26,6 @@ nothing_gathered = record {
   store_rows = [];
   layers = [];
   cached = [];
-  trees = [];
 }
 
 abbrev pub layer_of : ImageLayer → LayerRow
@@ -37,14 +36,10 @@ abbrev pub with_image : List ImageLayer → LayerRow → Option Bool → List Im
 with_image layers row None = layers
 with_image layers row (Some reused) = layers ++ record { row = row; reused = reused } ∷ []
 
--- the rows and trees for caches with those of one more layer, where it goes into caches
-abbrev pub with_row : List LayerRow → LayerRow → Option Node → List LayerRow
-with_row rows row None = rows
-with_row rows row (Some tree) = rows ++ row ∷ []
-
-abbrev pub with_tree : List Node → Option Node → List Node
-with_tree trees None = trees
-with_tree trees (Some tree) = trees ++ tree ∷ []
+-- the rows for caches with that of one more layer, where it goes into caches
+abbrev pub with_row : List LayerRow → LayerRow → Bool → List LayerRow
+with_row rows row false = rows
+with_row rows row true = rows ++ row ∷ []
 
 abbrev pub with_layer : Gathered → Kept → Gathered
 with_layer gathered kept = record {
@@ -53,24 +48,27 @@ with_layer gathered kept = record {
   slices = gathered.slices;
   store_rows = gathered.store_rows;
   layers = with_image gathered.layers kept.row kept.reused;
-  cached = with_row gathered.cached kept.row kept.tree;
-  trees = with_tree gathered.trees kept.tree;
+  cached = with_row gathered.cached kept.row kept.cached;
 }
 
 abbrev pub with_kept : Gathered → Option Kept → Gathered
 with_kept gathered None = gathered
 with_kept gathered (Some kept) = with_layer gathered kept
 
--- a layer as its document has it, with the tree of its contents where that goes into caches
-abbrev pub kept_with : List ℕ → List ℕ → Flags → Meta → Option Node → Settled → Kept
-kept_with id layer flags meta tree settled = record {
+-- a layer goes into caches where its contents are there, and it is to be cached
+abbrev pub is_cached : Flags → Contents → Bool
+is_cached flags contents = contents.there && flags.cache
+
+-- a layer as its document has it, and whether it goes into caches
+abbrev pub kept_with : List ℕ → List ℕ → Flags → Meta → Bool → Settled → Kept
+kept_with id layer flags meta cached settled = record {
   row = record { id = id; layer = layer; flags = flags; meta = meta; digest = settled.digest };
   reused = settled.reused;
-  tree = tree;
+  cached = cached;
 }
 
-abbrev pub kept_of : List ℕ → List ℕ → Flags → Meta → Option Node → Option Settled → Option Kept
-kept_of id layer flags meta tree settled = option_map (kept_with id layer flags meta tree) settled
+abbrev pub kept_of : List ℕ → List ℕ → Flags → Meta → Bool → Option Settled → Option Kept
+kept_of id layer flags meta cached settled = option_map (kept_with id layer flags meta cached) settled
 
 -- the contents of a layer that has a document are found, and what becomes of it is settled
 unfoldable pub keeps_documented : List ℕ → List LayerRow → List ℕ → List ℕ → List ℕ → LayerDoc → Seen
@@ -78,7 +76,7 @@ unfoldable pub keeps_documented : List ℕ → List LayerRow → List ℕ → Li
 keeps_documented store previous id folder layer doc = do
   contents ← finds_contents store folder layer (flags_of doc)
   settled ← settles store previous id layer (flags_of doc) contents
-  gives cause_of (Ok (kept_of id layer (flags_of doc) doc.meta contents.tree settled))
+  gives cause_of (Ok (kept_of id layer (flags_of doc) doc.meta (is_cached (flags_of doc) contents) settled))
 
 abbrev pub keeps_found : List ℕ → List LayerRow → List ℕ → List ℕ → List ℕ → Option LayerDoc → Seen
     → Result (Option Kept) ExportFault → Seen → Type 0

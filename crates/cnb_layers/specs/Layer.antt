@@ -8,12 +8,11 @@ use Rattle.cnb_env.specs.Contents.{contents_of}
 use Rattle.layer_flags.specs.declared.flags.Flags.{Flags}
 use Rattle.run_docs.specs.Layer.{layer_in}
 use Rattle.run_docs.specs.declared.layer.LayerDoc.{LayerDoc}
-use Rattle.shelf_set.specs.Caching.{digest_of_tree}
 use Rattle.steps.specs.Causes.{Only}
 use Rattle.steps.specs.Outside.{Seen}
 use Rattle.steps.specs.Steps.{◌>>=◌, gives, map_err, yields}
-use Rattle.tree_canon.specs.declared.node.Node.{Node}
-use Rattle.tree_store.specs.Steps.{puts_folder, puts_tree, reads_tree}
+use Rattle.tree_store.specs.Caching.{digests_folder}
+use Rattle.tree_store.specs.Steps.{puts_folder}
 use Rattle.tree_store.specs.declared.fault.StoreFault.TheVariants.{OddFile}
 use Rattle.cnb_layers.specs.declared.fault.ExportFault.{ExportFault}
 use Rattle.cnb_layers.specs.declared.fault.ExportFault.TheVariants.{Store}
@@ -43,33 +42,27 @@ looks_for_contents path = do
   kind ← reads_kind path
   gives cause_of (there_by path kind)
 
--- the digest of a tree, which is put into the store where it goes into the image
-abbrev pub keeps_tree : List ℕ → Bool → Node → Seen → Result (List ℕ) ExportFault → Seen → Type 0
-keeps_tree store true tree = map_err Store (puts_tree store tree)
-keeps_tree store false tree = gives cause_of (Ok (digest_of_tree tree))
-
--- contents that go into caches are read whole
-unfoldable pub takes_whole : List ℕ → Bool → List ℕ → Seen → Result Contents ExportFault → Seen → Type 0
-takes_whole store launch path = do
-  tree ← map_err Store (reads_tree path)
-  digest ← keeps_tree store launch tree
-  yields (record { there = true; digest = Some digest; tree = Some tree })
-
--- contents that go into the image alone are put as they are read
+-- contents that go into the image are put as they are read
 unfoldable pub puts_contents : List ℕ → List ℕ → Seen → Result Contents ExportFault → Seen → Type 0
 puts_contents store path = do
   digest ← map_err Store (puts_folder store path)
-  yields (record { there = true; digest = Some digest; tree = None })
+  yields (record { there = true; digest = Some digest })
+
+-- contents that go into caches alone are hashed as they are read
+unfoldable pub digests_contents : List ℕ → Seen → Result Contents ExportFault → Seen → Type 0
+digests_contents path = do
+  digest ← map_err Store (digests_folder path)
+  yields (record { there = true; digest = Some digest })
 
 -- contents that are there, by whether they go into caches and into the image
 abbrev pub takes_there : List ℕ → Bool → Bool → List ℕ → Seen → Result Contents ExportFault → Seen → Type 0
-takes_there store true launch path = takes_whole store launch path
-takes_there store false true path = puts_contents store path
-takes_there store false false path = yields (record { there = true; digest = None; tree = None })
+takes_there store cache true path = puts_contents store path
+takes_there store true false path = digests_contents path
+takes_there store false false path = yields (record { there = true; digest = None })
 
 abbrev pub takes_contents : List ℕ → Flags → List ℕ → Bool → Seen → Result Contents ExportFault → Seen → Type 0
 takes_contents store flags path true = takes_there store flags.cache flags.launch path
-takes_contents store flags path false = yields (record { there = false; digest = None; tree = None })
+takes_contents store flags path false = yields (record { there = false; digest = None })
 
 abbrev pub flags_of : LayerDoc → Flags
 flags_of doc = record { launch = doc.launch; build = doc.build; cache = doc.cache }

@@ -114,7 +114,6 @@ fn with_launch(
         store_rows,
         layers,
         cached,
-        trees,
     } = gathered;
     Ok(Gathered {
         labels: joined(labels, launch.labels)?,
@@ -123,7 +122,6 @@ fn with_launch(
         store_rows,
         layers,
         cached,
-        trees,
     })
 }
 

@@ -3,7 +3,6 @@ use app_slices::Pattern;
 use cnb_toml::{Label, Process};
 use cnb_world::List;
 use image_docs::{LayerRow, StoreRow};
-use tree_canon::Tree;
 
 /// A layer of an image, and whether the previous image has the same.
 #[derive(Drop)]
@@ -13,7 +12,7 @@ pub struct ImageLayer {
 }
 
 /// What buildpacks left, each list in the order of the group: labels, processes and slices of their `launch.toml`, what
-/// their `store.toml` keeps, the layers that go into the image, and those that go into caches, with their trees.
+/// their `store.toml` keeps, the layers that go into the image, and those that go into caches.
 #[derive(Drop)]
 pub struct Gathered {
     pub labels: List<Label>,
@@ -22,5 +21,4 @@ pub struct Gathered {
     pub store_rows: List<StoreRow>,
     pub layers: List<ImageLayer>,
     pub cached: List<LayerRow>,
-    pub trees: List<Tree>,
 }

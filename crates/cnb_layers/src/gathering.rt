@@ -1,13 +1,13 @@
 // What a group left, gathered.
 ghost use Rattle.std.specs.Prelude.{◌≡◌, ◌≤◌, IfOk, OnOk, length};
 ghost use Rattle.steps.specs.Outside.{seen};
-ghost use Rattle.cnb_layers.specs.Gathering.{exports_layer, keeps_layer, keeps_documented, kept_of, nothing_gathered};
-ghost use Rattle.cnb_layers.specs.Gathering.{with_image, with_layer, with_row, with_tree};
+ghost use Rattle.cnb_layers.specs.Gathering.{exports_layer, is_cached, keeps_layer, keeps_documented, kept_of};
+ghost use Rattle.cnb_layers.specs.Gathering.{nothing_gathered, with_image, with_layer, with_row};
 
 use crate::fault::ExportFault;
 use crate::frame::BuildpackFrame;
 use crate::gathered::{Gathered, ImageLayer};
-use crate::layer::{find_contents, read_layer_document};
+use crate::layer::{Contents, find_contents, read_layer_document};
 use crate::settling::{Settled, settle};
 use cnb_toml::{BpId, LayerName, Meta};
 use cnb_world::{List, Memory, World};
@@ -16,15 +16,14 @@ use layer_flags::Flags;
 use layer_paths::layer_document;
 use run_docs::LayerDoc;
 use std::alloc::Global;
-use tree_canon::Tree;
 
-/// A layer that goes into the image, where `reused` says whether the previous image has the same, or into caches, with
-/// its tree.
+/// A layer that goes into the image, where `reused` says whether the previous image has the same, or into caches, where
+/// it is `cached`.
 #[derive(Drop)]
 pub(crate) struct Kept {
     pub(crate) row: LayerRow,
     pub(crate) reused: Option<bool>,
-    pub(crate) tree: Option<Tree>,
+    pub(crate) cached: bool,
 }
 
 /// Nothing yet.
@@ -38,8 +37,14 @@ pub(crate) fn nothing_gathered(alloc: Global) -> Gathered
         store_rows: List::new(alloc),
         layers: List::new(alloc),
         cached: List::new(alloc),
-        trees: List::new(alloc),
     }
+}
+
+// Whether a layer goes into caches.
+fn is_cached(flags: Flags, contents: &Contents) -> bool
+    ensures { result ≡ is_cached flags contents.now }
+{
+    contents.there && flags.cache
 }
 
 fn kept_of(
@@ -48,10 +53,10 @@ fn kept_of(
     layer: &LayerName,
     flags: Flags,
     meta: Meta,
-    tree: Option<Tree>,
+    cached: bool,
     settled: Option<Settled>,
 ) -> Result<Option<Kept>, Memory>
-    ensures { IfOk result (λ kept. kept ≡ kept_of id.now layer.now flags meta tree settled) }
+    ensures { IfOk result (λ kept. kept ≡ kept_of id.now layer.now flags meta cached settled) }
 {
     match settled {
         Some(Settled { reused, digest }) => Ok(Some(Kept {
@@ -63,7 +68,7 @@ fn kept_of(
                 digest,
             },
             reused,
-            tree,
+            cached,
         })),
         None => Ok(None),
     }
@@ -95,7 +100,7 @@ fn keep_documented<W: World>(
         layer,
         flags,
         doc.meta,
-        contents.tree,
+        is_cached(flags, &contents),
         settled,
     )?;
     Ok(kept)
@@ -152,19 +157,12 @@ fn add_to_image(
     }
 }
 
-// Adds a layer that goes into caches, with its tree.
-fn add_to_caches(
-    cached: &mut List<LayerRow>,
-    trees: &mut List<Tree>,
-    row: LayerRow,
-    tree: Option<Tree>,
-) -> Result<(), Memory>
-    ensures rows { OnOk result (cached.new ≡ with_row cached.old row tree) }
-    ensures trees { OnOk result (trees.new ≡ with_tree trees.old tree) }
+// Adds a layer, where it goes into caches.
+fn add_to_caches(rows: &mut List<LayerRow>, row: LayerRow, cached: bool) -> Result<(), Memory>
+    ensures { OnOk result (rows.new ≡ with_row rows.old row cached) }
 {
-    if let Some(tree) = tree {
-        cached.push(row)?;
-        trees.push(tree)?;
+    if cached {
+        rows.push(row)?;
     }
     Ok(())
 }
@@ -172,9 +170,13 @@ fn add_to_caches(
 fn with_layer(alloc: Global, mut gathered: Gathered, kept: Kept) -> Result<Gathered, Memory>
     ensures { IfOk result (λ all. all ≡ with_layer gathered kept) }
 {
-    let Kept { row, reused, tree } = kept;
+    let Kept {
+        row,
+        reused,
+        cached,
+    } = kept;
     add_to_image(alloc, &mut gathered.layers, &row, reused)?;
-    add_to_caches(&mut gathered.cached, &mut gathered.trees, row, tree)?;
+    add_to_caches(&mut gathered.cached, row, cached)?;
     Ok(gathered)
 }
 

@@ -1,35 +1,33 @@
 // What a buildpack left of one layer.
-ghost use Rattle.std.specs.Prelude.{◌≡◌, ◌≤◌, Err, IfErr, Ok, length};
-ghost use Rattle.shelf_set.specs.Caching.{digest_of_tree};
+ghost use Rattle.std.specs.Prelude.{◌≡◌, ◌≤◌, Err, IfErr, Ok, false, length};
+ghost use Rattle.cnb_world.specs.Tree.{is_root};
 ghost use Rattle.steps.specs.Causes.{IsAnswer, IsGivenCause};
 ghost use Rattle.steps.specs.Outside.{seen};
 ghost use Rattle.run_docs.specs.Layer.{layer_in};
-ghost use Rattle.cnb_layers.specs.Layer.{finds_contents, keeps_tree, looks_for_contents, puts_contents, reads_layer};
-ghost use Rattle.cnb_layers.specs.Layer.{reads_regular, takes_contents, takes_whole, there_by};
+ghost use Rattle.cnb_layers.specs.Layer.{digests_contents, finds_contents, looks_for_contents, puts_contents};
+ghost use Rattle.cnb_layers.specs.Layer.{reads_layer, reads_regular, takes_contents, there_by};
 ghost use Rattle.cnb_layers.specs.Reading.{some_value_at};
 ghost use Rattle.cnb_layers.specs.declared.fault.ExportFault.TheVariants as fault;
 ghost use Rattle.tree_store.specs.declared.fault.StoreFault.TheVariants as stored;
 ghost use Rattle.cnb_layers.specs.Refusals.{cause_of};
 
 use crate::fault::ExportFault;
+use crate::folder::contents_folder;
 use crate::frame::BuildpackFrame;
 use crate::reading::{kind_at, value_at};
 use cnb_toml::LayerName;
 use cnb_world::{Bytes, Kind, Path, World};
 use layer_flags::Flags;
-use layer_paths::contents_path;
 use run_docs::{LayerDoc, read_layer};
 use std::alloc::Global;
-use tree_canon::{Digest, Tree};
-use tree_store::{StoreFault, put, put_folder, read_tree};
+use tree_canon::Digest;
+use tree_store::{StoreFault, digest_folder, put_folder};
 
-/// The contents of a layer: whether they are there, their digest, where they go into the image or into caches, and
-/// their tree, where they go into caches.
+/// The contents of a layer: whether they are there, and their digest, where they go into the image or into caches.
 #[derive(Drop)]
 pub(crate) struct Contents {
     pub(crate) there: bool,
     pub(crate) digest: Option<Digest>,
-    pub(crate) tree: Option<Tree>,
 }
 
 fn layer_value(
@@ -104,49 +102,7 @@ fn look_for_contents<W: World>(
     there_by(alloc, path, kind)
 }
 
-// The digest of a tree, which is put into the store where it goes into the image.
-#[tactic(auto, unfolding(steps::specs::Steps::gives))]
-fn keep_tree<W: World>(
-    alloc: Global,
-    world: &mut W,
-    store: &Path,
-    launch: bool,
-    tree: &Tree,
-) -> Result<Digest, ExportFault>
-    requires { length store.now ≤ 4096 }
-    ensures step { keeps_tree store.now launch tree.now (seen W.World world.old) result (seen W.World world.new) }
-{
-    if launch {
-        let digest = put(alloc, world, store, tree)?;
-        Ok(digest)
-    } else {
-        let digest = Digest::of_tree(alloc, tree)?;
-        Ok(digest)
-    }
-}
-
-// Contents that go into caches are read whole, and put into the store where they go into the image too.
-fn take_whole<W: World>(
-    alloc: Global,
-    world: &mut W,
-    store: &Path,
-    launch: bool,
-    path: &Path,
-) -> Result<Contents, ExportFault>
-    requires store { length store.now ≤ 4096 }
-    requires path { length path.now ≤ 8192 }
-    ensures step { takes_whole store.now launch path.now (seen W.World world.old) result (seen W.World world.new) }
-{
-    let tree = read_tree(alloc, world, path)?;
-    let digest = keep_tree(alloc, world, store, launch, &tree)?;
-    Ok(Contents {
-        there: true,
-        digest: Some(digest),
-        tree: Some(tree),
-    })
-}
-
-// Contents that go into the image alone are put as they are read, and nothing of them is kept in memory.
+// Contents that go into the image are put as they are read, and nothing of them is kept in memory.
 fn put_contents<W: World>(
     alloc: Global,
     world: &mut W,
@@ -161,7 +117,23 @@ fn put_contents<W: World>(
     Ok(Contents {
         there: true,
         digest: Some(digest),
-        tree: None,
+    })
+}
+
+// Contents that go into caches alone are hashed as they are read, and nothing of them is kept in memory.
+fn digest_contents<W: World>(
+    alloc: Global,
+    world: &mut W,
+    path: &Path,
+) -> Result<Contents, ExportFault>
+    requires path { length path.now ≤ 8192 }
+    requires plain { is_root path.now ≡ false }
+    ensures step { digests_contents path.now (seen W.World world.old) result (seen W.World world.new) }
+{
+    let digest = digest_folder(alloc, world, path)?;
+    Ok(Contents {
+        there: true,
+        digest: Some(digest),
     })
 }
 
@@ -177,22 +149,22 @@ fn take_contents<W: World>(
 ) -> Result<Contents, ExportFault>
     requires store { length store.now ≤ 4096 }
     requires path { length path.now ≤ 8192 }
+    requires plain { is_root path.now ≡ false }
     ensures step { takes_contents store.now flags path.now there (seen W.World world.old) result
         (seen W.World world.new) }
 {
-    match (there, flags.cache, flags.launch) {
-        (true, true, launch) => take_whole(alloc, world, store, launch, path),
-        (true, false, true) => put_contents(alloc, world, store, path),
+    match (there, flags.launch, flags.cache) {
+        (true, true, _) => put_contents(alloc, world, store, path),
+        (true, false, true) => digest_contents(alloc, world, path),
         (true, false, false) | (false, _, _) => Ok(Contents {
             there,
             digest: None,
-            tree: None,
         }),
     }
 }
 
-/// Finds the contents of a layer. Those that go into the image are put into the store: as they are read, unless they go
-/// into caches too, for which they are read whole.
+/// Finds the contents of a layer. Those that go into the image are put into the store as they are read, and those that
+/// go into caches alone are hashed as they are read; nothing of them is kept in memory.
 pub(crate) fn find_contents<W: World>(
     alloc: Global,
     world: &mut W,
@@ -205,7 +177,7 @@ pub(crate) fn find_contents<W: World>(
     ensures step { finds_contents frame.now.store.now frame.now.folder.now layer.now flags
         (seen W.World world.old) result (seen W.World world.new) }
 {
-    let path = contents_path(alloc, frame.folder, layer)?;
+    let path = contents_folder(alloc, frame.folder, layer)?;
     let there = look_for_contents(alloc, world, &path)?;
     take_contents(alloc, world, frame.store, flags, &path, there)
 }

@@ -4,6 +4,7 @@
 
 mod buildpack;
 mod fault;
+mod folder;
 mod frame;
 mod gathered;
 mod gathering;
@@ -15,6 +16,7 @@ mod settling;
 
 pub use buildpack::export_group;
 pub use fault::ExportFault;
+pub use folder::contents_folder;
 pub use frame::ExportFrame;
 pub use gathered::{Gathered, ImageLayer};
 pub use gathering::copy_layer;

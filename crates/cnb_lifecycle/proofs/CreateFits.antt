@@ -29,6 +29,7 @@ use Rattle.cnb_detect.specs.Detects.{chooses}
 use Rattle.cnb_detect.specs.Documents.{group_document, plan_document, writes_choice}
 use Rattle.cnb_detect.specs.Preparation.{is_fit_preparation, prepares}
 use Rattle.cnb_detect.specs.Refusals as detecting
+use Rattle.cnb_layers.specs.declared.fault.ExportFault.TheVariants.{Store}
 use Rattle.cnb_detect.specs.declared.target.TargetSource.TheVariants.{Given}
 use Rattle.cnb_env.specs.Files.{is_fit_platform, is_folder_or_absent}
 use Rattle.cnb_env.specs.declared.files.EnvFile.{EnvFile}
@@ -71,7 +72,7 @@ use Rattle.cnb_lifecycle.specs.Fitting.{ArePlacesApart, FitsCreate, FitsFirst, F
 use Rattle.cnb_lifecycle.specs.Fitting.{LeaveFit, LeaveTold, NoMisuse, restore_words, with_analyzed}
 use Rattle.cnb_lifecycle.specs.Fitting.{with_group, with_plan}
 use Rattle.cnb_lifecycle.proofs.BuildFits.{builds_first}
-use Rattle.cnb_lifecycle.proofs.ExportFits.{CachedGoes, CachedMinds, cached_behind, cached_bind, cached_caches}
+use Rattle.cnb_lifecycle.proofs.ExportFits.{CachedGoes, CachedMinds, cached_behind, cached_bind, cached_stores}
 use Rattle.cnb_lifecycle.proofs.ExportFits.{cached_gives, cached_last, cached_told, cached_world, cached_yields}
 use Rattle.cnb_lifecycle.proofs.ExportFits.{goes_gains}
 use Rattle.cnb_lifecycle.proofs.FitPasses.{Passes}
@@ -584,7 +585,10 @@ module _ (words : CreateWords) where
         (cached_bind IsImage _ _ (cached_world IsImage _
         (goes_gains (export_frame words) words.image places.store places.image
         (layers_path places) group analyzed))
-        (λ gained. cached_bind IsImage _ _ (cached_caches IsImage _) (λ gone. cached_yields IsImage _)))
+        (λ gained. cached_bind IsImage _ _ (cached_gives IsImage exporting.cause_of _)
+        (λ folders. cached_bind IsImage _ _
+        (cached_told IsImage Store _ (cached_stores IsImage true gained.cached folders))
+        (λ gone. cached_yields IsImage _))))
 
     leaves_minds : (analyzed : Analyzed) (choice : Choice) (restored : Restored)
         → CachedMinds IsImage (leaves_image words (phases_of analyzed choice restored))

@@ -29,8 +29,8 @@ use Rattle.cnb_export.specs.declared.refusal.ExportRefusal.TheVariants.{Fault}
 use Rattle.cnb_layers.specs.Buildpack.{exports_buildpack, exports_documents, exports_layers, exports_store_document}
 use Rattle.cnb_layers.specs.Buildpack.{one_default, reads_launch, reads_store_document}
 use Rattle.cnb_layers.specs.Gathering.{exports_layer, keeps_documented, keeps_found, keeps_layer, nothing_gathered}
-use Rattle.cnb_layers.specs.Layer.{finds_contents, flags_of, keeps_tree, looks_for_contents, puts_contents, reads_layer}
-use Rattle.cnb_layers.specs.Layer.{takes_contents, takes_there, takes_whole, there_by}
+use Rattle.cnb_layers.specs.Layer.{digests_contents, finds_contents, flags_of, looks_for_contents, puts_contents}
+use Rattle.cnb_layers.specs.Layer.{reads_layer, takes_contents, takes_there, there_by}
 use Rattle.cnb_layers.specs.Names.{lists_unless, reads_layer_names, reads_names}
 use Rattle.cnb_layers.specs.Patterns.{adds_pattern, adds_slice, reads_pattern, reads_slices}
 use Rattle.cnb_layers.specs.Reading.{reads_as, reads_some}
@@ -72,7 +72,8 @@ use Rattle.run_docs.specs.declared.group.GroupRow.{GroupRow}
 use Rattle.run_docs.specs.declared.layer.LayerDoc.{LayerDoc}
 use Rattle.sha2.proofs.Facts256.{length-sha256}
 use Rattle.sha2.specs.Sha256.{digest_bytes, sha256}
-use Rattle.shelf_set.specs.Caches.{Caches, WorldAndCaches, in_caches, in_world}
+use Rattle.shelf_set.specs.Caches.{WorldAndCaches, in_world}
+use Rattle.shelf_set.specs.Caching.{reads_trees, stores_folders}
 use Rattle.steps.proofs.KeepingLaws.{made_free}
 use Rattle.steps.specs.Causes.{Cause}
 use Rattle.steps.specs.Outside.{Seen}
@@ -82,6 +83,7 @@ use Rattle.tree_canon.specs.Spelling.{spelling_of}
 use Rattle.tree_canon.specs.declared.node.Node.{Node}
 use Rattle.tree_store.proofs.StorePaths.{digest_part}
 use Rattle.tree_store.specs.Reading.{tree_in}
+use Rattle.tree_store.specs.Caching.{digests_folder}
 use Rattle.tree_store.specs.Steps.{LeavesFolder, LeavesPut, can_name, can_put, can_put_folder, folder_put}
 use Rattle.tree_store.specs.Steps.{looks_for_tree, puts_folder, puts_tree, reads_tree}
 use Rattle.tree_store.specs.Store.{left_or_written, tree_path, tree_put}
@@ -579,17 +581,17 @@ module _ (store layers image : List ℕ) (path : IsTrue (is_short_path store))
           (item_at t (tree_path store (sha256 (spelling_of tree))))) files
       left (Err fault) leaves = tt
 
-  goes_kept : (launch : Bool) (tree : Node) → Goes Fits (keeps_tree store launch tree)
-  goes_kept true tree = goes_told Fits Store _ (goes_tree tree)
-  goes_kept false tree = goes_looks Fits _ (looks_gives Fits cause_of _)
+  goes_put : (at : List ℕ) → Goes Fits (puts_contents store at)
+  unfolding puts_contents
+  goes_put at = goes_bind Fits _ _ (goes_told Fits Store _ (goes_folder at))
+      (λ digest. goes_looks Fits _ (looks_yields Fits _))
 
   goes_there : (cache launch : Bool) (at : List ℕ) → Goes Fits (takes_there store cache launch at)
-  unfolding takes_whole puts_contents reads_tree
-  goes_there true launch at =
-      goes_bind Fits _ _ (goes_looks Fits _ (looks_told Fits Store _ (looks_reads Fits _ _ _ _ (λ t fit. refl))))
-      (λ tree. goes_bind Fits _ _ (goes_kept launch tree) (λ digest. goes_looks Fits _ (looks_yields Fits _)))
-  goes_there false true at = goes_bind Fits _ _ (goes_told Fits Store _ (goes_folder at))
-      (λ digest. goes_looks Fits _ (looks_yields Fits _))
+  unfolding digests_contents digests_folder reads_tree
+  goes_there true true at = goes_put at
+  goes_there false true at = goes_put at
+  goes_there true false at = goes_looks Fits _ (looks_bind Fits _ _ (looks_told Fits Store _ (looks_bind Fits _ _
+      (looks_reads Fits _ _ _ _ (λ t fit. refl)) (λ tree. looks_yields Fits _))) (λ digest. looks_yields Fits _))
   goes_there false false at = goes_looks Fits _ (looks_yields Fits _)
 
   goes_taken : (flags : Flags) (at : List ℕ) (there : Bool) → Goes Fits (takes_contents store flags at there)
@@ -739,9 +741,17 @@ module _ (Fit : Tree → Type 0) where
       (ap (λ (s : WorldAndCaches). s.world) h.1)
   cached_yields want old new (Err fault) h = absurd h
 
-  pub cached_caches : {E A : Type 0} (step : Caches → Result A E → Caches → Type 0) → CachedGoes Fit (in_caches step)
-  unfolding in_caches
-  cached_caches step old new result h = in_place old.world new.world result h.1
+  -- trees that are stored are read alone
+  pub cached_stores : (readable : Bool) (rows : List LayerRow) (folders : List (List ℕ))
+      → CachedGoes Fit (stores_folders readable rows folders)
+  unfolding stores_folders reads_trees
+  cached_stores readable rows folders old new result h =
+      let one = looks_reads Fit _ _ _ _ (λ t fit. refl) old.world new.world h.read h.reads in (one.1, went result)
+    where
+      went : (r : Result (List ℕ) StoreFault) → OnOk r (Passes Fit old.world.files new.world.files)
+      went (Ok gone) = passes_same Fit old.world.files new.world.files
+          (looks_reads Fit _ _ _ _ (λ t fit. refl) old.world new.world h.read h.reads).0
+      went (Err fault) = tt
 
   pub cached_world : {E A : Type 0} (step : Seen → Result A E → Seen → Type 0) → Goes Fit step
       → CachedGoes Fit (in_world step)
@@ -835,7 +845,10 @@ module _ (words : ExportWords) (path : IsTrue (is_short_path words.store))
   goes_exports readable group analyzed =
       cached_bind FitsWords _ _ (cached_world FitsWords _
       (goes_gains (frame_of words) words.image path named layered group analyzed))
-      (λ gained. cached_bind FitsWords _ _ (cached_caches FitsWords _) (λ gone. cached_yields FitsWords _))
+      (λ gained. cached_bind FitsWords _ _ (cached_gives FitsWords cause_of _)
+      (λ folders. cached_bind FitsWords _ _
+      (cached_told FitsWords Store _ (cached_stores FitsWords readable gained.cached folders))
+      (λ gone. cached_yields FitsWords _)))
 
   looks_group : Looks (FitsExport words) (reads_group words.work)
   unfolding reads_group

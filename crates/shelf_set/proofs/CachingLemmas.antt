@@ -1,76 +1,149 @@
 -- Storing the layers that a cache keeps.
-use Rattle.std.proofs.Common.{◌≡◌, ◌∙◌, refl, sym, ap, inl, inr, arith, ℕ, Bool, ◌+◌, ◌<◌, List, length}
-use Rattle.std.proofs.Common.{map, get_or, Result, Ok, Err}
-use Rattle.std.specs.Prelude.{IsTrue, OnErr}
-use Rattle.std.proofs.lemmas.List.{get_or-map, length-map}
-use Rattle.cnb_world.specs.declared.shelf.ShelfFault.{ShelfFault}
-use Rattle.tree_canon.specs.Spelling.{spelling_of}
+use Rattle.std.proofs.Common.{◌≡◌, ◌∙◌, refl, sym, subst, arith, inl, inr, ℕ, Bool, true, List, [], length, map}
+use Rattle.std.proofs.Common.{Option, Some, None, Result, Ok, Err}
+use Rattle.std.specs.Prelude.{IfSome, IsTrue}
+use Rattle.cnb_world.specs.Tree.{Tree}
+use Rattle.steps.specs.Causes.{IsAnswer}
+use Rattle.steps.specs.Outside.{Seen}
+use Rattle.steps.specs.Steps.{reads}
+use Rattle.steps.proofs.EndLaws.{files_rest}
 use Rattle.tree_canon.specs.declared.node.Node.{Node}
+use Rattle.tree_store.specs.Answers.{cause_of}
+use Rattle.tree_store.specs.declared.fault.StoreFault.{StoreFault}
+use Rattle.tree_store.specs.declared.fault.StoreFault.TheVariants.{Memory}
+use Rattle.tree_store.proofs.Kept.{may_begin}
+use Rattle.std.specs.Option.{option_map}
 use Rattle.image_docs.specs.CacheRows.{cache_in}
 use Rattle.image_docs.specs.declared.layer_row.LayerRow.{LayerRow}
-use Rattle.shelf_set.specs.Caching.{digest_of_row, digest_of_tree, spelled, StoresRows, StoresSomeRows}
 use Rattle.shelf_set.specs.ShelfState.{ShelfState}
-use Rattle.shelf_set.specs.Storing.{StoresSome}
-use Rattle.shelf_set.specs.StoringEach.{Putting, Puts}
-use Rattle.shelf_set.proofs.StoreLemmas.{put_more}
+use Rattle.shelf_set.specs.Caches.{WorldAndCaches, caches_of, world_and_caches}
+use Rattle.shelf_set.specs.Caching.{StoresPart, digest_of_row, reads_trees, spelled, stores_folders}
+use Rattle.shelf_set.specs.Caching.{trees_under}
+use Rattle.shelf_set.specs.Dropping.{AreStanding, Drops}
+use Rattle.shelf_set.specs.Storing.{IsStored, MayBeStored}
+use Rattle.shelf_set.specs.StoringEach.{MaybeStored, PutsAll, Stored}
+use Rattle.shelf_set.specs.Turns.{DropsFailed}
+use Rattle.shelf_set.proofs.SettleLemmas.{all_turns, settled_drops, turns_of}
+use Rattle.shelf_set.proofs.StoreLemmas.{each_within}
+use Rattle.shelf_set.proofs.TurnLemmas.{standing_again}
 
--- rows and trees are as many
-pub as_many : (layers : List LayerRow) (trees : List Node) (i : ℕ)
-    → map digest_of_row layers ≡ map digest_of_tree trees → i < length trees → i < length layers
-as_many layers trees i same lt = let e = sym (length-map layers digest_of_row) ∙ ap length same
-    ∙ length-map trees digest_of_tree in omega (arith, e)
+-- nothing was read, and nothing stored
+pub not_stored : (readable : Bool) (rows : List LayerRow) (folders : List (List ℕ)) (s : WorldAndCaches)
+    → stores_folders readable rows folders s (Err Memory) s
+unfolding stores_folders reads_trees reads
+not_stored readable rows folders s = record {
+  read = Err Memory;
+  reads = record {
+    same = record { files = refl; runs = refl };
+    answer = any s.world.files;
+    cause = tt;
+    named = tt;
+    allows = may_begin (option_map (λ files. true) s.world.files) s.world.misused;
+    counts = files_rest.memory s.world;
+  };
+  stores = (refl, ([], inl (refl, refl)));
+}
+  where
+    any : (o : Option Tree) → IfSome o (λ files. IsAnswer {A = List Node} cause_of (Err Memory)
+        (trees_under (map digest_of_row rows) folders files))
+    any None = tt
+    any (Some files) = tt
 
--- the digest of a row is that of its tree
-pub digest_at : (layers : List LayerRow) (trees : List Node) (i : ℕ) (layer : LayerRow) (tree : Node)
-    → map digest_of_row layers ≡ map digest_of_tree trees → i < length trees → layer ≡ get_or layers i layer
-    → tree ≡ get_or trees i tree → layer.digest ≡ digest_of_tree tree
-digest_at layers trees i layer tree same lt here is = ap digest_of_row here
-    ∙ sym (get_or-map digest_of_row layers i layer layer.digest (as_many layers trees i same lt))
-    ∙ ap (λ all. get_or all i layer.digest) same
-    ∙ get_or-map digest_of_tree trees i tree layer.digest lt ∙ ap digest_of_tree (sym is)
+-- lists that are told otherwise
+pub put_as : (rows given : List LayerRow) (folders walked : List (List ℕ)) (document set : List ℕ)
+    (failed marks : List Bool) (result : Result Unit StoreFault) (before : List Bool) (old mid : List ShelfState)
+    (start end : Seen) → given ≡ rows → walked ≡ folders → set ≡ document → marks ≡ failed
+    → PutsAll given walked set result before failed old mid start end
+    → PutsAll rows folders document result before marks old mid start end
+put_as rows given folders walked document set failed marks result before old mid start end r f d m p =
+    subst (λ l. PutsAll l folders document result before marks old mid start end) r
+    (subst (λ l. PutsAll given l document result before marks old mid start end) f
+    (subst (λ l. PutsAll given walked l result before marks old mid start end) d
+    (subst (λ l. PutsAll given walked set result before l old mid start end) (sym m) p)))
 
--- one tree more is put
-pub spelled_put : (layers : List LayerRow) (trees : List Node) (i : ℕ) (layer : LayerRow) (tree : Node)
-    (digest bytes : List ℕ) (result : Result Unit ShelfFault) (done : Unit {0}) (before now new : ShelfState)
-    → Putting (map spelled trees) i before now → map digest_of_row layers ≡ map digest_of_tree trees → i < length trees
-    → layer ≡ get_or layers i layer → tree ≡ get_or trees i tree → digest ≡ layer.digest → bytes ≡ spelling_of tree
-    → result ≡ Ok done → Puts digest bytes result now new → Putting (map spelled trees) (i + 1) before new
-spelled_put layers trees i layer tree digest bytes result done before now new p same lt here is d b ok puts =
-    put_more (map spelled trees) i (spelled tree) digest bytes result done before now new p
-    (omega (arith, lt, length-map trees spelled))
-    (sym (get_or-map spelled trees i tree (spelled tree) lt ∙ ap spelled (sym is)))
-    (d ∙ digest_at layers trees i layer tree same lt here is) b ok puts
+-- where the shelves stand that were asked
+pub all_there : (rows : List LayerRow) (folders : List (List ℕ)) (document : List ℕ) (result : Result Unit StoreFault)
+    (before failed : List Bool) (old mid : List ShelfState) (start end : Seen) (places : List ℕ)
+    → length before ≡ length places → PutsAll rows folders document result before failed old mid start end
+    → AreStanding places mid
+all_there rows folders document (Ok done) before failed old mid start end places count p =
+    let within = each_within (Stored (map spelled p.trees) document) failed old mid p.each in
+    let paired = p.paired in
+    omega (arith, within, paired, count)
+all_there rows folders document (Err fault) before failed old mid start end places count p =
+    let within = each_within (MaybeStored (map spelled p.trees) document) failed old mid p.each in
+    let paired = p.paired in
+    omega (arith, within, paired, count)
 
--- where nothing was stored
-pub none_stored : {A E : Type 0} (result : Result A E) (readable : Bool) (layers : List LayerRow)
-    (trees : List Node) (old : List ShelfState) (places : List ℕ)
-    → OnErr result (StoresSomeRows readable layers trees old places old places)
-none_stored (Ok value) readable layers trees old places = tt
-none_stored (Err fault) readable layers trees old places = inl (refl, refl)
+module _ (rows : List LayerRow) (folders : List (List ℕ)) (document : List ℕ) (before failed : List Bool)
+    (old mid new : List ShelfState) (start end : Seen) (places standing gone : List ℕ)
+    (count : length before ≡ length places) (dropped : DropsFailed failed mid places new standing gone)
+  where
+    drops : (done : Unit {0}) → (p : PutsAll rows folders document (Ok done) before failed old mid start end)
+        → Drops (turns_of failed places old mid) old new places standing gone
+    drops done p = settled_drops (Stored (map spelled p.trees) document) (λ f b a h. h.1) failed places old mid new
+        standing gone p.each (p.paired ∙ count) dropped
 
--- where a part was
-pub part_stored : {A E : Type 0} (result : Result A E) (readable : Bool) (layers : List LayerRow)
-    (trees : List Node) (document : List ℕ) (old : List ShelfState) (places : List ℕ) (new : List ShelfState)
-    (standing : List ℕ)
-    → (IsTrue readable → cache_in document ≡ Ok layers) → OnErr result
-    (StoresSome (map spelled trees) document old places new standing)
-    → OnErr result (StoresSomeRows readable layers trees old places new standing)
-part_stored (Ok value) readable layers trees document old places new standing reads h = tt
-part_stored (Err fault) readable layers trees document old places new standing reads h = inr
-    (record { document = document; reads = reads; stores = h })
+    drops_part : (fault : StoreFault) → (p : PutsAll rows folders document (Err fault) before failed old mid start end)
+        → Drops (turns_of failed places old mid) old new places standing gone
+    drops_part fault p = settled_drops (MaybeStored (map spelled p.trees) document) (λ f b a h. h.1) failed places
+        old mid new standing gone p.each (p.paired ∙ count) dropped
 
--- rows that can be read where another fact holds, from which it follows
-pub stored_where : (readable given : Bool) (rows : List LayerRow) (trees : List Node) (old : List ShelfState)
-    (places : List ℕ) (new : List ShelfState) (standing gone : List ℕ) → (IsTrue given → IsTrue readable)
-    → StoresRows readable rows trees old places new standing gone
-    → StoresRows given rows trees old places new standing gone
-stored_where readable given rows trees old places new standing gone follows h = record
-    { document = h.document; reads = λ known. h.reads (follows known); stores = h.stores }
+    -- the list is as the next call asks for
+    pub stored_again : (result : Result Unit StoreFault)
+        → PutsAll rows folders document result before failed old mid start end → AreStanding standing new
+    stored_again (Ok done) p = standing_again (turns_of failed places old mid) old new places standing gone
+        (drops done p)
+    stored_again (Err fault) p = standing_again (turns_of failed places old mid) old new places standing gone
+        (drops_part fault p)
 
-pub part_where : (readable given : Bool) (rows : List LayerRow) (trees : List Node) (old : List ShelfState)
-    (places : List ℕ) (new : List ShelfState) (standing : List ℕ) → (IsTrue given → IsTrue readable)
-    → StoresSomeRows readable rows trees old places new standing
-    → StoresSomeRows given rows trees old places new standing
-part_where readable given rows trees old places new standing follows (inl none) = inl none
-part_where readable given rows trees old places new standing follows (inr part) = inr
-    (record { document = part.document; reads = λ known. part.reads (follows known); stores = part.stores })
+    module _ (readable : Bool) (reads_back : IsTrue readable → cache_in document ≡ Ok rows) where
+      -- all was stored
+      pub stored_all : (result : Result Unit StoreFault) (done : Unit {0})
+          → PutsAll rows folders document result before failed old mid start end → result ≡ Ok done
+          → stores_folders readable rows folders (world_and_caches start (caches_of old places)) (Ok gone)
+          (world_and_caches end (caches_of new standing))
+      unfolding stores_folders
+      stored_all result done put is =
+          let p = subst (λ r. PutsAll rows folders document r before failed old mid start end) is put in
+          record {
+            read = Ok p.trees;
+            reads = subst (λ r. reads_trees rows folders start r end) p.answer.0 p.reads;
+            stores = record {
+              named = p.answer.1;
+              document = document;
+              reads = reads_back;
+              stores = record {
+                turns = turns_of failed places old mid;
+                drops = drops done p;
+                stored = all_turns (Stored (map spelled p.trees) document)
+                    (IsStored (map spelled p.trees) document) (λ n f b a h. h.0) failed places old mid p.each;
+              };
+            };
+          }
+
+      -- a part was
+      pub stored_part : (result : Result Unit StoreFault) (fault : StoreFault)
+          → PutsAll rows folders document result before failed old mid start end → result ≡ Err fault
+          → stores_folders readable rows folders (world_and_caches start (caches_of old places)) (Err fault)
+          (world_and_caches end (caches_of new standing))
+      unfolding stores_folders
+      stored_part result fault put is =
+          let p = subst (λ r. PutsAll rows folders document r before failed old mid start end) is put in
+          let part : StoresPart readable rows p.trees old places new standing = record {
+            named = p.named;
+            document = document;
+            reads = reads_back;
+            stores = record {
+              turns = turns_of failed places old mid;
+              gone = gone;
+              drops = drops_part fault p;
+              may_be = all_turns (MaybeStored (map spelled p.trees) document)
+                  (MayBeStored (map spelled p.trees) document) (λ n f b a h. h.0) failed places old mid p.each;
+            };
+          } in
+          record {
+            read = Err fault;
+            reads = subst (λ r. reads_trees rows folders start r end) p.answer p.reads;
+            stores = (refl, (p.trees, inr part));
+          }

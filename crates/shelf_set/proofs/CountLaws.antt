@@ -2,12 +2,14 @@
 use Rattle.std.proofs.Common.{◌≡◌, sym, subst, ℕ, Bool, List, Option, Some, None, Result, Ok, Err}
 use Rattle.tree_canon.specs.declared.node.Node.{Node}
 use Rattle.image_docs.specs.declared.layer_row.LayerRow.{LayerRow}
-use Rattle.steps.specs.Causes.{Cause, FileFailed, ChildFailed, OutOfMemory, Decided}
+use Rattle.steps.specs.Causes.{Cause, FileFailed, ChildFailed, OutOfMemory, Decided, ended_by}
+use Rattle.steps.specs.Steps.{reads}
+use Rattle.tree_store.specs.declared.fault.StoreFault.{StoreFault}
 use Rattle.steps.specs.Outside.{Seen}
 use Rattle.steps.proofs.EndLaws.{Links, Obeys, Relation, Rests}
 use Rattle.shelf_set.specs.CacheSteps.{gathers}
 use Rattle.shelf_set.specs.Caches.{Caches, WorldAndCaches, in_caches, in_world}
-use Rattle.shelf_set.specs.Caching.{stores_rows}
+use Rattle.shelf_set.specs.Caching.{StoresRead, reads_trees, stores_folders}
 use Rattle.shelf_set.specs.Restoring.{restores_tree}
 use Rattle.steps.specs.Counts.{FileCounts}
 use Rattle.tree_store.specs.Answers as tree_store
@@ -54,12 +56,6 @@ unfolding gathers
 gathers_ends cause_of old new (Ok gathered) h = tt
 gathers_ends cause_of old new (Err fault) h = memory_end (cause_of fault) h.0
 
-pub stores_rows_ends : {E : Type 0} (cause_of : E → Cause) (readable : Bool) (rows : List LayerRow)
-    (trees : List Node) → Obeys WantsMemory cause_of (stores_rows cause_of readable rows trees)
-unfolding stores_rows
-stores_rows_ends cause_of readable rows trees old new (Ok gone) h = tt
-stores_rows_ends cause_of readable rows trees old new (Err fault) h = memory_end (cause_of fault) h.0
-
 memory_rests : (R : Relation Seen) → Rests R → (last : Option Cause) (s : Seen) → IsMemoryEnd last → R last s s
 memory_rests R rests None s h = rests.none s
 memory_rests R rests (Some (FileFailed path)) s h = absurd h
@@ -77,9 +73,24 @@ obeys_in_caches R cause_of step rests p old new (Err fault) h =
     subst (R (Some (cause_of fault)) old.world) (sym h.1)
     (memory_rests R rests (Some (cause_of fault)) old.world (p old.caches new.caches (Err fault) h.0))
 
--- ---- a tree that is restored
+-- ---- trees that are restored and stored
 
 pub restores_tree_counts : (digest root : List ℕ)
     → Obeys (BesideCaches FileCounts) tree_store.cause_of (restores_tree digest root)
 unfolding restores_tree
 restores_tree_counts digest root old new result h = h.counts
+
+pub stores_folders_counts : (readable : Bool) (rows : List LayerRow) (folders : List (List ℕ))
+    → Obeys (BesideCaches FileCounts) tree_store.cause_of (stores_folders readable rows folders)
+unfolding stores_folders reads_trees reads
+stores_folders_counts readable rows folders old new result h = by h.read result h.reads.counts h.stores
+  where
+    by : (read : Result (List Node) StoreFault) (result : Result (List ℕ) StoreFault)
+        → FileCounts (ended_by tree_store.cause_of read) old.world new.world
+        → StoresRead readable rows read result old.caches new.caches
+        → FileCounts (ended_by tree_store.cause_of result) old.world new.world
+    by (Ok trees) (Ok gone) counts h = counts
+    by (Err refusal) (Err fault) counts h = subst
+        (λ f. FileCounts (Some (tree_store.cause_of f)) old.world new.world) h.0 counts
+    by (Ok trees) (Err fault) counts h = absurd h
+    by (Err refusal) (Ok gone) counts h = absurd h

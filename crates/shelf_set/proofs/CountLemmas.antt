@@ -3,7 +3,6 @@ use Rattle.std.proofs.Common.{◌≡◌, ℕ, ◌+◌, Bool, true, false, cond, 
 use Rattle.std.proofs.lemmas.List.{length-map}
 use Rattle.shelf_set.specs.ShelfState.{ShelfState}
 use Rattle.shelf_set.specs.Dropping.{Turn, has_failed, number_of, failed_of, left_of, Drops}
-use Rattle.shelf_set.specs.Finding.{Finds, InCaches}
 use Rattle.shelf_set.specs.Gathering.{Gathers}
 use Rattle.shelf_set.specs.declared.gathering.Gathered.{Gathered}
 
@@ -26,11 +25,6 @@ dropped_count turns old new places standing gone d =
     let dropped : length gone ≡ length (failed_of turns) = ap length d.dropped
     ∙ length-map (failed_of turns) number_of in
     omega (arith, count_split turns, all, left, dropped)
-
-pub finds_count : (old : List ShelfState) (places digest : List ℕ) (answer : InCaches) (new : List ShelfState)
-    (standing gone : List ℕ) → Finds old places digest answer new standing gone
-    → length gone + length standing ≡ length places
-finds_count old places digest answer new standing gone f = dropped_count f.turns old new places standing gone f.drops
 
 pub gathers_count : (old : List ShelfState) (places : List ℕ) (answer : Gathered) (new : List ShelfState)
     (standing : List ℕ) → Gathers old places answer new standing

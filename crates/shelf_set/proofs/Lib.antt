@@ -7,10 +7,11 @@ pub mod SearchTrees
 pub mod RestoreLemmas
 pub mod RestoredLemmas
 pub mod StoreLemmas
+pub mod SettleLemmas
+pub mod FolderLemmas
 pub mod GatherLemmas
 pub mod CountLemmas
 pub mod AskLemmas
 pub mod CacheLemmas
 pub mod CachingLemmas
 pub mod CountLaws
-pub mod PutLemmas

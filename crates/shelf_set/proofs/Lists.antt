@@ -1,32 +1,8 @@
--- Lists in which an item is replaced or moved.
-use Rattle.std.proofs.Common.{◌≡◌, ℕ, ◌<◌, List, [], ◌∷◌, ◌++◌, map, length, take, drop, get_or, set, refl, sym, ap}
-use Rattle.std.proofs.Common.{◌∙◌, arith, suc, drop-cons, append_assoc}
-use Rattle.std.proofs.lemmas.List.{map-append, take-append-drop, length-take-le, length-map}
-use Rattle.std.proofs.Math.Seq.{set-append_seam}
+-- Lists in which an item is moved.
+use Rattle.std.proofs.Common.{◌≡◌, ℕ, List, [], ◌∷◌, ◌++◌, map, length, refl, sym, ap, ◌∙◌, arith, append_assoc}
+use Rattle.std.proofs.lemmas.List.{map-append}
 use Rattle.std.specs.List.{AllByRecursion}
-use Rattle.shelf_set.specs.Turns.{MovesLast, Replaces}
-
-pub split_at : {X : Type 0} (xs : List X) (i : ℕ) (x : X) → i < length xs → x ≡ get_or xs i x
-    → xs ≡ take i xs ++ x ∷ drop (suc i) xs
-split_at xs i x lt is = sym (take-append-drop i xs) ∙ ap (λ r. take i xs ++ r)
-    (drop-cons xs i x lt ∙ ap (λ y. y ∷ drop (suc i) xs) (sym is))
-
-set_split : {X : Type 0} (xs : List X) (i : ℕ) (x y : X) → i < length xs → x ≡ get_or xs i x
-    → set xs i y ≡ take i xs ++ y ∷ drop (suc i) xs
-set_split xs i x y lt is =
-    let len : length (take i xs) ≡ i = length-take-le i xs (omega arith) in
-    ap (λ l. set l i y) (split_at xs i x lt is) ∙ ap (λ k. set (take i xs ++ x ∷ drop (suc i) xs) k y) (sym len)
-    ∙ set-append_seam (take i xs) x (drop (suc i) xs) y
-
-pub replaced : {X Y : Type 0} (f : X → Y) (xs : List X) (i : ℕ) (x y : X) → i < length xs → x ≡ get_or xs i x
-    → Replaces (map f xs) i (f x) (f y) (map f (set xs i y))
-replaced f xs i x y lt is = record {
-  front = map f (take i xs);
-  back = map f (drop (suc i) xs);
-  entry = ap (map f) (split_at xs i x lt is) ∙ map-append f (take i xs) (x ∷ drop (suc i) xs);
-  place = sym (length-map (take i xs) f ∙ length-take-le i xs (omega arith));
-  exit = ap (map f) (set_split xs i x y lt is) ∙ map-append f (take i xs) (y ∷ drop (suc i) xs);
-}
+use Rattle.shelf_set.specs.Turns.{MovesLast}
 
 -- one list, split at one place
 pub record SameSplit {X : Type 0} (a b : List X) (x y : X) (c d : List X) : Type 0 where

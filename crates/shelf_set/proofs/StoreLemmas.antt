@@ -1,28 +1,20 @@
--- Storing trees on one shelf after another.
-use Rattle.std.proofs.Common.{◌≡◌, ℕ, ◌+◌, ◌-◌, ◌<◌, ◌≤◌, Bool, true, false, List, [], ◌∷◌, ◌++◌, length, take, drop}
-use Rattle.std.proofs.Common.{get_or, refl, sym, ap, subst, ◌∙◌, arith, suc, Result, Ok, Err, Option, inl, inr}
+-- Storing trees on several shelves at once.
+use Rattle.std.proofs.Common.{◌≡◌, ℕ, ◌≤◌, Bool, true, false, List, [], ◌∷◌, ◌++◌, length, refl, sym, ap}
+use Rattle.std.proofs.Common.{suc, subst, ◌∙◌, arith, append-nil, Option, inl, inr}
 use Rattle.std.specs.Prelude.{Some, None}
 use Rattle.std.specs.List.{AllByRecursion}
 use Rattle.std.specs.Option.{option_map}
 use Rattle.std.specs.FinMap.{insert}
-use Rattle.std.proofs.lemmas.List.{length-append, take_all}
-use Rattle.std.proofs.Math.Seq.{take-suc}
-use Rattle.cnb_world.specs.Calls.{CountsShelf}
+use Rattle.std.proofs.lemmas.List.{length-append, take-append-le}
+use Rattle.std.proofs.Math.Seq.{take-append_seam}
+use Rattle.cnb_world.specs.Calls.{Rose}
 use Rattle.cnb_world.specs.Shelf.{Held}
-use Rattle.cnb_world.specs.declared.shelf.ShelfFault.{ShelfFault}
-use Rattle.cnb_world.specs.declared.shelf.ShelfFault.TheVariants as shelf
-use Rattle.cnb_world.specs.declared.values.Memory.{Memory}
+use Rattle.tree_store.specs.Caching.{HasPut, HasRows, KeepsTold, MayHavePut, MayHaveRows, OnEach, OnShelf}
 use Rattle.shelf_set.specs.ShelfState.{ShelfState}
-use Rattle.shelf_set.specs.Dropping.{Turn, has_failed, Drops, AreStanding}
-use Rattle.shelf_set.specs.Turns.{TakesTurn, is_failed}
-use Rattle.shelf_set.specs.Storing.{with_trees, HasEither, IsStored, MayBeStored}
-use Rattle.shelf_set.specs.StoringEach.{Puts, SetsRows, Putting, Stores, Storing, StoresEach}
-use Rattle.shelf_set.specs.Storing.{TreeBytes}
-use Rattle.shelf_set.proofs.Lists.{all_both}
-use Rattle.shelf_set.proofs.TurnLemmas.{counted, OneMore, one_more, still, all_still, none_yet, finish, ends_at}
-use Rattle.shelf_set.proofs.TurnLemmas.{standing_again}
+use Rattle.shelf_set.specs.Storing.{with_trees, HasSome, TreeBytes}
+use Rattle.shelf_set.specs.StoringEach.{EachBy, HasNotFailed, Holds, HoldsSome, MaybeStored, Stored}
 
--- ---- one shelf
+-- ---- trees of one shelf
 
 with_trees-last : (ts : List TreeBytes) (t : TreeBytes) (held : Held)
     → with_trees (ts ++ t ∷ []) held ≡ insert (with_trees ts held) t.digest t.bytes
@@ -33,204 +25,201 @@ none_put : (o : Option Held) → o ≡ option_map (with_trees []) o
 none_put None = refl
 none_put (Some h) = refl
 
-one_put : (trees : List TreeBytes) (i : ℕ) (t : TreeBytes) (o : Option Held) → i < length trees
-    → t ≡ get_or trees i t → option_map (λ h. insert h t.digest t.bytes)
-    (option_map (with_trees (take i trees)) o) ≡ option_map (with_trees (take (suc i) trees)) o
-one_put trees i t None lt is = refl
-one_put trees i t (Some h) lt is =
-    let split : take (suc i) trees ≡ take i trees ++ t ∷ [] = take-suc trees i t lt
-    ∙ ap (λ x. take i trees ++ x ∷ []) (sym is) in
-    ap Some (sym (ap (λ l. with_trees l h) split ∙ with_trees-last (take i trees) t h))
+one_put : (trees : List TreeBytes) (t : TreeBytes) (o : Option Held)
+    → option_map (λ h. insert h t.digest t.bytes) (option_map (with_trees trees) o)
+    ≡ option_map (with_trees (trees ++ t ∷ [])) o
+one_put trees t None = refl
+one_put trees t (Some h) = ap Some (sym (with_trees-last trees t h))
 
-pub putting_none : (trees : List TreeBytes) (s : ShelfState) → Putting trees 0 s s
-putting_none trees s = record { held = none_put s.held; rows = refl; faults = refl }
+-- some of the trees are some of more
+some_more : (trees more : List TreeBytes) (before now : ShelfState) → HasSome trees before now
+    → HasSome (trees ++ more) before now
+some_more trees more before now ((n, le, held), rows) = (
+  (
+    n,
+    let size = length-append trees more in omega (arith, le, size),
+    held ∙ ap (λ l. option_map (with_trees l) before.held) (sym (take-append-le n trees more le)),
+  ),
+  rows,
+)
 
-pub putting_more : (trees : List TreeBytes) (i : ℕ) (t : TreeBytes) (before now new : ShelfState)
-    → Putting trees i before now → i < length trees → t ≡ get_or trees i t
-    → new.held ≡ option_map (λ h. insert h t.digest t.bytes) now.held → new.rows ≡ now.rows
-    → new.faults ≡ now.faults → Putting trees (suc i) before new
-putting_more trees i t before now new p lt is held rows faults = record {
-  held = held ∙ ap (option_map (λ h. insert h t.digest t.bytes)) p.held ∙ one_put trees i t before.held lt is;
-  rows = rows ∙ p.rows;
-  faults = faults ∙ p.faults;
-}
+-- all trees so far are some of more
+all_some : (trees more : List TreeBytes) (before now : ShelfState)
+    → now.held ≡ option_map (with_trees trees) before.held → now.rows ≡ before.rows
+    → HasSome (trees ++ more) before now
+all_some trees more before now held rows = (
+  (
+    length trees,
+    let size = length-append trees more in omega (arith, size),
+    held ∙ ap (λ l. option_map (with_trees l) before.held) (sym (take-append_seam trees more)),
+  ),
+  rows,
+)
 
-counts_on : (result : Result Unit ShelfFault) (before now new : ℕ) → now ≡ before → CountsShelf result now new
-    → CountsShelf result before new
-counts_on result before now new e c = subst (λ n. CountsShelf result n new) e c
+all_so_far : (trees : List TreeBytes) (before now : ShelfState)
+    → now.held ≡ option_map (with_trees trees) before.held → now.rows ≡ before.rows → HasSome trees before now
+all_so_far trees before now held rows = subst (λ l. HasSome l before now) (append-nil trees)
+    (all_some trees [] before now held rows)
 
-pub stores_some : (trees : List TreeBytes) (rows : List ℕ) (fault : ShelfFault) (i : ℕ)
-    (before now new : ShelfState) → Putting trees i before now → i ≤ length trees
-    → new.held ≡ now.held → new.rows ≡ now.rows → CountsShelf {T = Unit {0}} (Err fault) now.faults new.faults
-    → Stores trees rows (Err fault) before new
-stores_some trees rows fault i before now new p le held same counts = record {
-  faults = counts_on (Err fault) before.faults now.faults new.faults p.faults counts;
-  has = ((i, le, held ∙ p.held), same ∙ p.rows);
-}
+rose_from : (a b c : ℕ) → b ≡ a → Rose b c → Rose a c
+rose_from a b c e rose = subst (λ n. Rose n c) e rose
 
-pub put_more : (trees : List TreeBytes) (i : ℕ) (t : TreeBytes) (digest bytes : List ℕ)
-    (result : Result Unit ShelfFault) (done : Unit {0}) (before now new : ShelfState) → Putting trees i before now
-    → i < length trees → t ≡ get_or trees i t
-    → digest ≡ t.digest → bytes ≡ t.bytes → result ≡ Ok done → Puts digest bytes result now new
-    → Putting trees (i + 1) before new
-put_more trees i t digest bytes result done before now new p lt is d b ok puts =
-    let q : Puts digest bytes (Ok done) now new = subst (λ r. Puts digest bytes r now new) ok puts in
-    let same : option_map (λ h. insert h digest bytes) now.held
-    ≡ option_map (λ h. insert h t.digest t.bytes) now.held = ap
-    (λ x. option_map (λ h. insert h x bytes) now.held) d ∙ ap
-    (λ x. option_map (λ h. insert h t.digest x) now.held) b in
-    let next : suc i ≡ i + 1 = omega arith in
-    subst (λ n. Putting trees n before new) next (putting_more trees i t before now new p lt is
-    (q.ok ∙ same) q.rows q.faults)
+-- ---- one shelf in a call
 
-pub put_fails : (trees : List TreeBytes) (rows : List ℕ) (i : ℕ) (digest bytes : List ℕ)
-    (result : Result Unit ShelfFault) (fault : ShelfFault) (before now new : ShelfState)
-    → Putting trees i before now → i ≤ length trees
-    → result ≡ Err fault → Puts digest bytes result now new → Stores trees rows (Err fault) before new
-put_fails trees rows i digest bytes result fault before now new p le err puts =
-    let q : Puts digest bytes (Err fault) now new = subst (λ r. Puts digest bytes r now new) err puts in
-    stores_some trees rows fault i before now new p le q.err q.rows q.faults
+-- a tree is put
+pub put_step : (trees : List TreeBytes) (t : TreeBytes) (digest bytes : List ℕ) → digest ≡ t.digest → bytes ≡ t.bytes
+    → (was fails : Bool) (a b c : ShelfState) → Holds trees was a b → OnShelf (HasPut digest bytes) was fails b c
+    → Holds (trees ++ t ∷ []) fails a c
+put_step trees t digest bytes d e true true a b c (has, rose) same = subst (Holds (trees ++ t ∷ []) true a) (sym same)
+    (some_more trees (t ∷ []) a b has, rose)
+put_step trees t digest bytes d e true false a b c has on = absurd on
+put_step trees t digest bytes d e false true a b c ((held, rows), faults) ((told, kept), rose) = (
+  all_some trees (t ∷ []) a c (told ∙ held) (kept ∙ rows),
+  rose_from a.faults b.faults c.faults faults rose,
+)
+put_step trees t digest bytes d e false false a b c ((held, rows), faults) ((put, kept), same) = (
+  (
+    put ∙ ap (λ x. option_map (λ h. insert h x bytes) b.held) d
+        ∙ ap (λ x. option_map (λ h. insert h t.digest x) b.held) e
+        ∙ ap (option_map (λ h. insert h t.digest t.bytes)) held ∙ one_put trees t a.held,
+    kept ∙ rows,
+  ),
+  same ∙ faults,
+)
 
-pub stores_end : (trees : List TreeBytes) (rows : List ℕ) (i : ℕ) (result : Result Unit ShelfFault)
-    (before now new : ShelfState) → Putting trees i before now → length trees ≤ i → i ≤ length trees
-    → SetsRows rows result now new → Stores trees rows result before new
-stores_end trees rows i (Ok done) before now new p all le sets = record {
-  faults = counts_on (Ok done) before.faults now.faults new.faults p.faults sets.faults;
-  has = (
-    sets.held ∙ p.held ∙ ap (λ l. option_map (with_trees l) before.held) (take_all i trees all),
-    sets.ok
-        ∙ ap (option_map (λ _. rows)) p.rows,
-  );
-}
-stores_end trees rows i (Err fault) before now new p all le sets = stores_some trees rows fault i before now new p
-    le sets.held sets.err sets.faults
+-- the tree of a refused folder isn't
+pub told_step : (trees : List TreeBytes) (was fails : Bool) (a b c : ShelfState) → Holds trees was a b
+    → OnShelf KeepsTold was fails b c → HoldsSome trees fails a c
+told_step trees true true a b c has same = subst (HoldsSome trees true a) (sym same) has
+told_step trees true false a b c has on = absurd on
+told_step trees false true a b c ((held, rows), faults) ((told, kept), rose) = (
+  all_so_far trees a c (told ∙ held) (kept ∙ rows),
+  rose_from a.faults b.faults c.faults faults rose,
+)
+told_step trees false false a b c ((held, rows), faults) ((told, kept), same) = (
+  all_so_far trees a c (told ∙ held) (kept ∙ rows),
+  same ∙ faults,
+)
 
--- ---- one shelf after another
+-- or it is on some, where memory ran out
+pub may_put_step : (trees : List TreeBytes) (t : TreeBytes) (digest bytes : List ℕ) → digest ≡ t.digest
+    → bytes ≡ t.bytes → (was fails : Bool) (a b c : ShelfState) → Holds trees was a b
+    → OnShelf (MayHavePut digest bytes) was fails b c → HoldsSome (trees ++ t ∷ []) fails a c
+may_put_step trees t digest bytes d e true true a b c (has, rose) same =
+    subst (HoldsSome (trees ++ t ∷ []) true a) (sym same) (some_more trees (t ∷ []) a b has, rose)
+may_put_step trees t digest bytes d e true false a b c has on = absurd on
+may_put_step trees t digest bytes d e false true a b c ((held, rows), faults) ((told, kept), rose) = (
+  all_some trees (t ∷ []) a c (told ∙ held) (kept ∙ rows),
+  rose_from a.faults b.faults c.faults faults rose,
+)
+may_put_step trees t digest bytes d e false false a b c ((held, rows), faults) (inl (told, kept), same) = (
+  all_some trees (t ∷ []) a c (told ∙ held) (kept ∙ rows),
+  same ∙ faults,
+)
+may_put_step trees t digest bytes d e false false a b c has (inr put, same) =
+    let ((held, rows), faults) = put_step trees t digest bytes d e false false a b c has (put, same) in
+    (all_so_far (trees ++ t ∷ []) a c held rows, faults)
 
-may_be : (trees : List TreeBytes) (rows : List ℕ) (t : Turn) → IsStored trees rows t → MayBeStored trees rows t
-may_be trees rows t h = by (has_failed t) h
-  where
-    by : (b : Bool) → HasEither b trees rows t.before t.after → MayBeStored trees rows t
-    by true h = inl h
-    by false h = inr h
+-- the rows are set
+pub rows_step : (trees : List TreeBytes) (document : List ℕ) (was fails : Bool) (a b c : ShelfState)
+    → Holds trees was a b → OnShelf (HasRows document) was fails b c → Stored trees document fails a c
+rows_step trees document true true a b c has same = subst (Stored trees document true a) (sym same) has
+rows_step trees document true false a b c has on = absurd on
+rows_step trees document false true a b c ((held, rows), faults) ((told, kept), rose) = (
+  all_so_far trees a c (told ∙ held) (kept ∙ rows),
+  rose_from a.faults b.faults c.faults faults rose,
+)
+rows_step trees document false false a b c ((held, rows), faults) ((set, kept), same) = (
+  (kept ∙ held, set ∙ ap (option_map (λ _. document)) rows),
+  same ∙ faults,
+)
 
-all_may_be : (trees : List TreeBytes) (rows : List ℕ) (turns : List Turn)
-    → AllByRecursion (IsStored trees rows) turns → AllByRecursion (MayBeStored trees rows) turns
-all_may_be trees rows [] all = tt
-all_may_be trees rows (t ∷ ts) all = (may_be trees rows t all.0, all_may_be trees rows ts all.1)
+pub may_step : (trees : List TreeBytes) (document : List ℕ) (was fails : Bool) (a b c : ShelfState)
+    → Holds trees was a b → OnShelf (MayHaveRows document) was fails b c → MaybeStored trees document fails a c
+may_step trees document true true a b c (has, rose) same = subst (MaybeStored trees document true a) (sym same)
+    (inl has, rose)
+may_step trees document true false a b c has on = absurd on
+may_step trees document false true a b c ((held, rows), faults) ((told, kept), rose) = (
+  inl (all_so_far trees a c (told ∙ held) (kept ∙ rows)),
+  rose_from a.faults b.faults c.faults faults rose,
+)
+may_step trees document false false a b c ((held, rows), faults) (inl (told, kept), same) = (
+  inl (all_so_far trees a c (told ∙ held) (kept ∙ rows)),
+  same ∙ faults,
+)
+may_step trees document false false a b c ((held, rows), faults) (inr (set, kept), same) = (
+  inr (kept ∙ held, set ∙ ap (option_map (λ _. document)) rows),
+  same ∙ faults,
+)
 
-untouched : (trees : List TreeBytes) (rows : List ℕ) (rest : List ShelfState) (later : List ℕ)
-    → AllByRecursion (MayBeStored trees rows) (still rest later)
-untouched trees rows rest later = all_still (MayBeStored trees rows)
-    (λ n s. inl ((0, omega arith, none_put s.held), refl)) rest later
+-- where the rows weren't set
+pub no_rows : (trees : List TreeBytes) (document : List ℕ) (fails : Bool) (a b : ShelfState)
+    → HoldsSome trees fails a b → MaybeStored trees document fails a b
+no_rows trees document fails a b (has, counted) = (inl has, counted)
 
-pub begin : (trees : List TreeBytes) (rows : List ℕ) (old : List ShelfState) (places : List ℕ)
-    → AreStanding places old → Storing trees rows old old places places 0 0
-begin trees rows old places ready = record { turns = []; goes = none_yet old places ready; stored = tt; count = refl }
+-- ---- all shelves
 
-module _ (trees : List TreeBytes) (rows : List ℕ) (old now new : List ShelfState) (places numbers later : List ℕ)
-    (at asked next : ℕ) (lt : asked < length places) (s : Storing trees rows old now places numbers at asked)
-  where
-    -- the next shelf gives this answer
-    abbrev Answers : Result Unit ShelfFault → Type 0
-    Answers result = TakesTurn now numbers at (Stores trees rows result) (is_failed result) new later next
+pub each_begun : (failed : List Bool) (shelves : List ShelfState) → AllByRecursion HasNotFailed failed
+    → length failed ≤ length shelves → EachBy (Holds []) failed shelves shelves
+each_begun [] shelves none le = refl
+each_begun (f ∷ failed) [] none le = absurd (omega (arith, le))
+each_begun (true ∷ failed) (s ∷ shelves) none le = absurd (cc (none.0))
+each_begun (false ∷ failed) (s ∷ shelves) none le = (
+  ((none_put s.held, refl), refl),
+  each_begun failed shelves none.1 (omega (arith, le)),
+)
 
-    next_turn : (result : Result Unit ShelfFault) → Answers result
-        → OneMore s.turns old new places later next (Stores trees rows result) (is_failed result)
-    next_turn result k =
-        one_more s.turns old now places numbers at (Stores trees rows result) (is_failed result) new later next
-        (subst (λ n. n < length places) (sym s.count) lt)
-        (λ b a does. counted result b.faults a.faults does.faults) s.goes k
+-- a call on each shelf
+pub each_then : (Has Gets : Bool → ShelfState → ShelfState → Type 0) (Does : ShelfState → ShelfState → Type 0)
+    → ((was fails : Bool) (a b c : ShelfState) → Has was a b → OnShelf Does was fails b c → Gets fails a c)
+    → (before after : List Bool) (old mid new : List ShelfState) → EachBy Has before old mid
+    → OnEach Does before after mid new → EachBy Gets after old new
+each_then Has Gets Does step [] [] old mid new each on = on ∙ each
+each_then Has Gets Does step [] (g ∷ after) old mid new each on = absurd on
+each_then Has Gets Does step (f ∷ before) [] old mid new each on = absurd on
+each_then Has Gets Does step (f ∷ before) (g ∷ after) [] mid new each on = absurd each
+each_then Has Gets Does step (f ∷ before) (g ∷ after) (a ∷ old) [] new each on = absurd each
+each_then Has Gets Does step (f ∷ before) (g ∷ after) (a ∷ old) (b ∷ mid) [] each on = absurd on
+each_then Has Gets Does step (f ∷ before) (g ∷ after) (a ∷ old) (b ∷ mid) (c ∷ new) each on = (
+  step f g a b c each.0 on.0,
+  each_then Has Gets Does step before after old mid new each.1 on.1,
+)
 
-    count_more : (t : Turn) → length (s.turns ++ t ∷ []) ≡ asked + 1
-    count_more t = length-append s.turns (t ∷ []) ∙ ap (λ k. k + 1) s.count
+-- what follows of each shelf
+pub each_so : (Has Gets : Bool → ShelfState → ShelfState → Type 0)
+    → ((fails : Bool) (a b : ShelfState) → Has fails a b → Gets fails a b)
+    → (failed : List Bool) (old new : List ShelfState) → EachBy Has failed old new → EachBy Gets failed old new
+each_so Has Gets step [] old new each = each
+each_so Has Gets step (f ∷ failed) [] new each = absurd each
+each_so Has Gets step (f ∷ failed) (a ∷ old) [] each = absurd each
+each_so Has Gets step (f ∷ failed) (a ∷ old) (b ∷ new) each = (
+  step f a b each.0,
+  each_so Has Gets step failed old new each.1,
+)
 
-    more : (result : Result Unit ShelfFault) → (m : OneMore s.turns old new places later next
-        (Stores trees rows result) (is_failed result)) → HasEither
-        (is_failed result) trees rows m.turn.before m.turn.after
-        → Storing trees rows old new places later next (asked + 1)
-    more result m h = record {
-      turns = s.turns ++ m.turn ∷ [];
-      goes = m.goes;
-      stored = all_both (IsStored trees rows) s.turns (m.turn ∷ []) s.stored
-          (subst (λ b. HasEither b trees rows m.turn.before m.turn.after) (sym m.failing) h, tt);
-      count = count_more m.turn;
-    }
+pub each_paired : (Does : ShelfState → ShelfState → Type 0) (before after : List Bool) (old new : List ShelfState)
+    → OnEach Does before after old new → length after ≡ length before
+each_paired Does [] [] old new on = refl
+each_paired Does [] (g ∷ after) old new on = absurd on
+each_paired Does (f ∷ before) [] old new on = absurd on
+each_paired Does (f ∷ before) (g ∷ after) [] new on = absurd on
+each_paired Does (f ∷ before) (g ∷ after) (a ∷ old) [] on = absurd on
+each_paired Does (f ∷ before) (g ∷ after) (a ∷ old) (b ∷ new) on = ap (λ n. suc n)
+    (each_paired Does before after old new on.1)
 
-    -- a shelf that stores all
-    pub storing_then : (result : Result Unit ShelfFault) (done : Unit {0}) → Answers result → result ≡ Ok done
-        → Storing trees rows old new places later next (asked + 1)
-    storing_then result done k is =
-        let k' : Answers (Ok done) = subst Answers is k in
-        let m = next_turn (Ok done) k' in
-        more (Ok done) m m.does.has
+pub each_within : (Has : Bool → ShelfState → ShelfState → Type 0) (failed : List Bool) (old new : List ShelfState)
+    → EachBy Has failed old new → length failed ≤ length new
+each_within Has [] old new each = omega arith
+each_within Has (f ∷ failed) [] new each = absurd each
+each_within Has (f ∷ failed) (a ∷ old) [] each = absurd each
+each_within Has (f ∷ failed) (a ∷ old) (b ∷ new) each =
+    let rest = each_within Has failed old new each.1 in
+    omega (arith, rest)
 
-    -- a shelf that fails
-    pub failing_then : (result : Result Unit ShelfFault) (fault : ShelfFault) → Answers result → result ≡ Err fault
-        → fault ≡ shelf.Failed → Storing trees rows old new places later next (asked + 1)
-    failing_then result fault k is failed =
-        let k' : Answers (Err shelf.Failed) = subst Answers (is ∙ ap (λ f. Err f) failed) k in
-        let m = next_turn (Err shelf.Failed) k' in
-        more (Err shelf.Failed) m m.does.has
-
-    total_then : next + (length places - asked - 1) + (asked + 1) ≡ next + length places
-    total_then = omega (arith, lt)
-
-    out_of_memory : (e : Memory) → Answers (Err shelf.Memory)
-        → StoresEach trees rows old places (Err e) new later (next + (length places - asked - 1))
-    out_of_memory e k =
-        let m = next_turn (Err shelf.Memory) k in
-        let g = m.goes in
-        let turns : List Turn = s.turns ++ m.turn ∷ [] in
-        let end = ends_at turns old new places later next (asked + 1) _ g (count_more m.turn) total_then in
-        let asked_may : AllByRecursion (MayBeStored trees rows) turns = all_both (MayBeStored trees rows) s.turns
-        (m.turn ∷ []) (all_may_be trees rows s.turns s.stored) (inl m.does.has, tt) in
-        record {
-          turns = turns ++ still g.rest g.later;
-          drops = finish turns old new places later next _ g end.stands;
-          stored = tt;
-          may_be = all_both (MayBeStored trees rows) turns (still g.rest g.later) asked_may
-              (untouched trees rows g.rest g.later);
-          fits = end.fits;
-        }
-
-    -- memory ran out
-    pub ended_then : (result : Result Unit ShelfFault) (fault : ShelfFault) (e : Memory) (count : ℕ)
-        → Answers result → result ≡ Err fault → fault ≡ shelf.Memory → count ≡ length places
-        → StoresEach trees rows old places (Err e) new later (next + (count - asked - 1))
-    ended_then result fault e count k is ended all =
-        subst (λ n. StoresEach trees rows old places (Err e) new later (next + (n - asked - 1))) (sym all)
-        (out_of_memory e (subst Answers (is ∙ ap (λ f. Err f) ended) k))
-
--- all had their turns
-pub everywhere : (trees : List TreeBytes) (rows : List ℕ) (old new : List ShelfState) (places numbers : List ℕ)
-    (at asked : ℕ) (done : Unit {0}) → Storing trees rows old new places numbers at asked → asked ≡ length places
-    → StoresEach trees rows old places (Ok done) new numbers at
-everywhere trees rows old new places numbers at asked done s all =
-    let g = s.goes in
-    let end = ends_at s.turns old new places numbers at asked at g s.count (ap (λ n. at + n) all) in
-    let none : length g.later ≡ 0 = let e = end.stands in omega (arith, e) in
-    let stored : AllByRecursion (IsStored trees rows) (s.turns ++ still g.rest g.later) = all_both
-    (IsStored trees rows) s.turns (still g.rest g.later) s.stored (no_later g.rest g.later none) in
-    record {
-      turns = s.turns ++ still g.rest g.later;
-      drops = finish s.turns old new places numbers at at g end.stands;
-      stored = stored;
-      may_be = all_may_be trees rows (s.turns ++ still g.rest g.later) stored;
-      fits = end.fits;
-    }
-  where
-    no_later : (rest : List ShelfState) (later : List ℕ) → length later ≡ 0
-        → AllByRecursion (IsStored trees rows) (still rest later)
-    no_later [] later h = tt
-    no_later (r ∷ rest) [] h = tt
-    no_later (r ∷ rest) (n ∷ later) h = absurd (omega (arith, h))
-
--- the list is as the next call asks for
-pub again : (trees : List TreeBytes) (rows : List ℕ) (old : List ShelfState) (given : List ℕ)
-    (memory : Result Unit Memory) (new : List ShelfState) (numbers standing : List ℕ) (n : ℕ)
-    → StoresEach trees rows old given memory new numbers n → standing ≡ take n numbers → AreStanding standing new
-again trees rows old given memory new numbers standing n s left =
-    let d : Drops s.turns old new given standing (drop n numbers) = subst
-    (λ x. Drops s.turns old new given x (drop n numbers)) (sym left) s.drops in
-    standing_again s.turns old new given standing (drop n numbers) d
+-- as many shelves as before
+pub each_many : (Has : Bool → ShelfState → ShelfState → Type 0) (failed : List Bool) (old new : List ShelfState)
+    → EachBy Has failed old new → length new ≡ length old
+each_many Has [] old new each = ap length each
+each_many Has (f ∷ failed) [] new each = absurd each
+each_many Has (f ∷ failed) (a ∷ old) [] each = absurd each
+each_many Has (f ∷ failed) (a ∷ old) (b ∷ new) each = ap (λ n. suc n) (each_many Has failed old new each.1)

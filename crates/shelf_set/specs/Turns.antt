@@ -1,5 +1,6 @@
 -- Shelves one after another, which private calls alone speak of.
-use Rattle.std.specs.Prelude.{ℕ, Bool, true, false, ◌≡◌, ◌+◌, ◌++◌, List, [], ◌∷◌, length, map, Result, Ok, Err}
+use Rattle.std.specs.Prelude.{ℕ, Bool, true, false, ◌≡◌, ◌+◌, ◌++◌, List, [], ◌∷◌, length, map, take, drop, Result}
+use Rattle.std.specs.Prelude.{Ok, Err}
 use Rattle.std.specs.List.{AllByRecursion}
 use Rattle.cnb_world.specs.declared.shelf.ShelfFault.{ShelfFault}
 use Rattle.cnb_world.specs.declared.shelf.ShelfFault.TheVariants as shelf
@@ -49,3 +50,41 @@ pub record Goes (turns : List Turn) (old new : List ShelfState) (places numbers 
   pub first : places ≡ map number_of turns ++ later
   pub now : numbers ≡ map number_of (left_of turns) ++ (later ++ map number_of (failed_of turns))
   pub place : at ≡ length (left_of turns)
+
+-- ---- shelves that are settled when all were asked
+
+-- of the first items, by whether each failed, those that didn't
+abbrev pub staying : {X : Type 0} → List Bool → List X → List X
+staying [] items = []
+staying (fails ∷ failed) [] = []
+staying (true ∷ failed) (x ∷ items) = staying failed items
+staying (false ∷ failed) (x ∷ items) = x ∷ staying failed items
+
+-- and those that did
+abbrev pub failing : {X : Type 0} → List Bool → List X → List X
+failing [] items = []
+failing (fails ∷ failed) [] = []
+failing (true ∷ failed) (x ∷ items) = x ∷ failing failed items
+failing (false ∷ failed) (x ∷ items) = failing failed items
+
+-- so many were settled
+pub record Settling (failed : List Bool) (count : ℕ) (old now : List ShelfState) (places numbers : List ℕ)
+    (at : ℕ) : Type 0 where
+  pub listed : now ≡ staying (take count failed) old ++ (drop count old ++ failing (take count failed) old)
+  pub numbered : numbers ≡ staying (take count failed) places ++ (drop count places
+      ++ failing (take count failed) places)
+  pub place : at ≡ length (staying (take count failed) places)
+
+-- Those that failed are moved behind all others, in their order. So many numbers are those of the shelves that stand.
+pub record SettlesEach (failed : List Bool) (old : List ShelfState) (places : List ℕ) (new : List ShelfState)
+    (numbers : List ℕ) (standing : ℕ) : Type 0 where
+  pub listed : new ≡ staying failed old ++ (drop (length failed) old ++ failing failed old)
+  pub numbered : numbers ≡ staying failed places ++ failing failed places
+  pub stands : standing ≡ length (staying failed places)
+
+-- the same with the numbers parted
+pub record DropsFailed (failed : List Bool) (old : List ShelfState) (places : List ℕ) (new : List ShelfState)
+    (standing gone : List ℕ) : Type 0 where
+  pub listed : new ≡ staying failed old ++ (drop (length failed) old ++ failing failed old)
+  pub left : standing ≡ staying failed places
+  pub dropped : gone ≡ failing failed places

@@ -1,44 +1,55 @@
 // Storing the layers that a cache keeps.
-ghost use Rattle.std.specs.Prelude.{◌≡◌, IfOk, OnErr, map};
+ghost use Rattle.std.specs.Prelude.{◌≡◌, length};
+ghost use Rattle.std.specs.List.{AllByRecursion};
 ghost use Rattle.image_docs.specs.CacheRows.{is_cache_doc};
-ghost use Rattle.shelf_set.specs.Caching.{digest_of_row, digest_of_tree, StoresRows, StoresSomeRows};
+ghost use Rattle.shelf_set.specs.Caches.{caches_of, world_and_caches};
+ghost use Rattle.shelf_set.specs.Caching.{IsShort, stores_folders};
 ghost use Rattle.shelf_set.specs.Dropping.{AreStanding};
 ghost use Rattle.shelf_set.specs.ShelfState.{shelves_seen};
+ghost use Rattle.steps.specs.Outside.{seen};
 
 use crate::storing::put_all;
-use crate::turns::Shelves;
-use cnb_world::{List, Memory, Shelf};
+use crate::turns::{Shelves, drop_failed};
+use cnb_world::{List, Path, Shelf, World};
 use image_docs::{CacheDoc, write_cache};
 use std::alloc::Global;
-use tree_canon::Tree;
+use tree_store::StoreFault;
 
-/// Puts the trees of the layers that a cache keeps on each shelf that stands, in order, and then their rows. `trees`
-/// has the trees of the layers, in their order. Answers the numbers of the shelves that were dropped. Where memory runs
-/// out, some shelves may have been changed.
-pub fn store_all(
+/// Puts the contents of the layers that a cache keeps on each shelf that stands, and then their rows. `folders` has the
+/// folders of the layers, in their order, and each is walked once for all shelves, as `cache_folder` does: one whose tree
+/// has another digest than its row is refused as `OddFile`. Returns the numbers of the shelves that were dropped. Where
+/// it is refused, some shelves may have been changed.
+pub fn store_all<W: World>(
     alloc: Global,
+    world: &mut W,
     shelves: &mut Shelves,
     places: &mut List<u32>,
     layers: &CacheDoc,
-    trees: &List<Tree>,
-) -> Result<List<u32>, Memory>
+    folders: &List<Path>,
+) -> Result<List<u32>, StoreFault>
     requires standing { AreStanding places.old (shelves_seen ⟦<dyn Shelf as Shelf>⟧ shelves.old.items) }
-    requires trees { map digest_of_row layers.now ≡ map digest_of_tree trees.now }
-    ensures stores { IfOk result (λ gone. StoresRows (is_cache_doc layers.now) layers.now trees.now
-        (shelves_seen ⟦<dyn Shelf as Shelf>⟧ shelves.old.items) places.old
-        (shelves_seen ⟦<dyn Shelf as Shelf>⟧ shelves.new.items) places.new gone) }
-    ensures memory { OnErr result (StoresSomeRows (is_cache_doc layers.now) layers.now trees.now
-        (shelves_seen ⟦<dyn Shelf as Shelf>⟧ shelves.old.items) places.old
-        (shelves_seen ⟦<dyn Shelf as Shelf>⟧ shelves.new.items) places.new) }
+    requires folders { length folders.now ≡ length layers.now }
+    requires short { AllByRecursion IsShort folders.now }
+    ensures stores { stores_folders (is_cache_doc layers.now) layers.now folders.now
+        (world_and_caches (seen W.World world.old)
+        (caches_of (shelves_seen ⟦<dyn Shelf as Shelf>⟧ shelves.old.items) places.old)) result
+        (world_and_caches (seen W.World world.new)
+        (caches_of (shelves_seen ⟦<dyn Shelf as Shelf>⟧ shelves.new.items) places.new)) }
     ensures again { AreStanding places.new (shelves_seen ⟦<dyn Shelf as Shelf>⟧ shelves.new.items) }
 {
     let document = write_cache(alloc, layers)?;
-    put_all(
+    let spare = places.as_slice().to_vec(alloc)?;
+    let mut failed = vec![in alloc; false; spare.len()]?;
+    let stored = put_all(
         alloc,
+        world,
         shelves,
-        places,
+        &mut failed,
         layers.as_slice(),
-        trees.as_slice(),
+        folders.as_slice(),
         document.as_slice(),
-    )
+    );
+    let gone = drop_failed(alloc, shelves, places, &failed, spare);
+    stored?;
+    Ok(gone)
 }

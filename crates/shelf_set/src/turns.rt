@@ -1,10 +1,12 @@
 // Shelves one after another.
 ghost use Rattle.std.specs.Prelude.{◌≡◌, ◌<◌, ◌≤◌, IfOk, drop, length, take};
+ghost use Rattle.shelf_set.specs.Dropping.{AreStanding};
 ghost use Rattle.shelf_set.specs.ShelfState.{shelves_seen};
-ghost use Rattle.shelf_set.specs.Turns.{MovesLast, Settles, is_failed};
+ghost use Rattle.shelf_set.specs.Turns.{DropsFailed, MovesLast, Settles, SettlesEach, is_failed};
 
 use cnb_world::{List, Memory, Shelf, ShelfFault};
 use std::alloc::Global;
+use std::mem;
 
 /// Shelves in order: those that stand, and behind them those that were dropped, in the order of dropping.
 pub type Shelves = Vec<Box<dyn Shelf>>;
@@ -39,6 +41,21 @@ pub(crate) fn settle(shelves: &mut Shelves, numbers: &mut Vec<u32>, at: &mut usi
     } else {
         *at += 1;
     }
+}
+
+// Drops each of the first shelves that failed, and answers how many still stand.
+fn settle_each(shelves: &mut Shelves, numbers: &mut Vec<u32>, failed: &[bool]) -> usize
+    requires standing { AreStanding numbers.old.items (shelves_seen ⟦<dyn Shelf as Shelf>⟧ shelves.old.items) }
+    requires paired { length failed.now ≡ length numbers.old.items }
+    ensures { SettlesEach failed.now
+        (shelves_seen ⟦<dyn Shelf as Shelf>⟧ shelves.old.items) numbers.old.items
+        (shelves_seen ⟦<dyn Shelf as Shelf>⟧ shelves.new.items) numbers.new.items result }
+{
+    let mut at = 0usize;
+    for fails in failed {
+        settle(shelves, numbers, &mut at, *fails);
+    }
+    at
 }
 
 /// Leaves so many numbers in the list, and answers the others.
@@ -76,4 +93,24 @@ pub(crate) fn part_into(
     numbers.truncate(standing);
     *places = List::from_vec(numbers);
     List::from_vec(spare)
+}
+
+/// Drops the shelves that failed, and answers their numbers, which go into a list of as many as stood.
+pub(crate) fn drop_failed(
+    alloc: Global,
+    shelves: &mut Shelves,
+    places: &mut List<u32>,
+    failed: &[bool],
+    spare: Vec<u32>,
+) -> List<u32>
+    requires standing { AreStanding places.old (shelves_seen ⟦<dyn Shelf as Shelf>⟧ shelves.old.items) }
+    requires paired { length failed.now ≡ length places.old }
+    requires room { length spare.items ≡ length places.old }
+    ensures { DropsFailed failed.now
+        (shelves_seen ⟦<dyn Shelf as Shelf>⟧ shelves.old.items) places.old
+        (shelves_seen ⟦<dyn Shelf as Shelf>⟧ shelves.new.items) places.new result }
+{
+    let mut numbers = mem::replace(places, List::new(alloc)).into_vec();
+    let standing = settle_each(shelves, &mut numbers, failed);
+    part_into(places, numbers, standing, spare)
 }

@@ -1,7 +1,10 @@
 // Calls of shelf_set: trees that are restored from caches, rows that are gathered, and layers that are stored.
-ghost use Rattle.std.specs.Prelude.{◌≡◌, ◌≤◌, IfOk, IfSome, IsTrue, length, map};
+ghost use Rattle.std.specs.Prelude.{◌≡◌, ◌≤◌, IfOk, IfSome, IsTrue, false, length};
+ghost use Rattle.std.specs.List.{AllByRecursion};
+ghost use Rattle.std.proofs.Props.{props};
 ghost use Rattle.cnb_world.specs.Path.{is_path};
-ghost use Rattle.shelf_set.specs.Caching.{digest_of_row, digest_of_tree};
+ghost use Rattle.cnb_world.specs.Tree.{is_root};
+ghost use Rattle.shelf_set.specs.Caching.{IsShort};
 
 use crate::reading::{bytes_given, cut};
 use crate::stores::{put_fault, put_laid};
@@ -18,7 +21,7 @@ use std::alloc::Global;
 use std::cell::Cell;
 use std::rc::Rc;
 use tree_canon::{Digest, Tree, decode, encode};
-use tree_store::read_tree;
+use tree_store::{read_tree, write_tree};
 
 /// Caches, and the numbers of those that stand.
 #[derive(Drop)]
@@ -28,12 +31,13 @@ struct Caches {
     ghost standing: { length places ≤ length shelves.items },
 }
 
-/// Layers with their trees.
+/// Layers with their folders.
 #[derive(Drop)]
 struct Layers {
     rows: CacheDoc,
-    trees: List<Tree>,
-    ghost matched: { map digest_of_row rows ≡ map digest_of_tree trees },
+    folders: List<Path>,
+    ghost matched: { length folders ≡ length rows },
+    ghost short: { AllByRecursion IsShort folders } by { Prim.hlevel props },
 }
 
 fn digest_given(answer: &mut Answer, row: &Row, name: &str) -> Digest {
@@ -178,17 +182,39 @@ fn tree_given(answer: &mut Answer, row: &Row, name: &str) -> Option<Tree> {
     }
 }
 
-fn digest_of(alloc: Global, tree: &Tree) -> Result<Digest, Memory>
-    ensures { IfOk result (λ digest. digest ≡ digest_of_tree tree.now) }
-{
+fn digest_of(alloc: Global, tree: &Tree) -> Result<Digest, Memory> {
     let bytes = encode(alloc, tree)?;
     Ok(Digest::of(bytes.as_slice()))
 }
 
-// A layer that is cached.
-fn layer_of(answer: &mut Answer, layer: &str, digest: Digest) -> Option<LayerRow>
-    ensures { IfSome result (λ row. row.digest ≡ digest) }
+fn is_root(path: &Path) -> bool
+    ensures { result ≡ is_root path.now }
 {
+    path.as_str() == "/"
+}
+
+// The folder at `/t` where the tree of a name is laid.
+fn laid(answer: &mut Answer, world: &mut MemWorld, name: &str, tree: &Tree) -> Option<Path>
+    ensures { IfSome result IsShort }
+{
+    let (place, folder) = (answer.joined(&["/", name]), answer.joined(&["/t/", name]));
+    let (root, place) = (answer.path("/t")?, answer.path(&place)?);
+    let folder = answer.path(&folder)?;
+    if is_root(&folder) {
+        answer.wrong("no folder's name:", name);
+        return None;
+    }
+    match write_tree(answer.alloc, world, &root, &place, tree) {
+        Ok(()) => Some(folder),
+        Err(fault) => {
+            put_fault(answer, &fault);
+            None
+        }
+    }
+}
+
+// A layer that is cached.
+fn layer_of(answer: &mut Answer, layer: &str, digest: Digest) -> Option<LayerRow> {
     let (id, name) = layer.split_once(':').unwrap_or((layer, ""));
     let (Ok(id), Ok(layer)) = (
         BpId::parse(answer.alloc, id),
@@ -209,58 +235,71 @@ fn layer_of(answer: &mut Answer, layer: &str, digest: Digest) -> Option<LayerRow
     })
 }
 
-fn with_layer(answer: &mut Answer, row: &Row, layers: Layers, word: &str) -> Option<Layers> {
+fn with_layer(
+    answer: &mut Answer,
+    row: &Row,
+    world: &mut MemWorld,
+    layers: Layers,
+    word: &str,
+) -> Option<Layers> {
     let (layer, name) = word.split_once('=').unwrap_or((word, ""));
     let tree = tree_given(answer, row, name)?;
     let Ok(digest) = digest_of(answer.alloc, &tree) else {
         answer.run_out();
         return None;
     };
+    let folder = laid(answer, world, name, &tree)?;
     let layer = layer_of(answer, layer, digest)?;
-    answer.made(joined(layers, layer, tree))
+    answer.made(joined(layers, layer, folder))
 }
 
-fn joined(layers: Layers, layer: LayerRow, tree: Tree) -> Result<Layers, Memory>
-    requires { layer.digest ≡ digest_of_tree tree }
+#[tactic(auto, using(shelf_set::proofs::Lists::all_both))]
+fn joined(layers: Layers, layer: LayerRow, folder: Path) -> Result<Layers, Memory>
+    requires { IsShort folder }
 {
     let Layers {
         mut rows,
-        mut trees,
+        mut folders,
     } = layers;
     rows.push(layer)?;
-    trees.push(tree)?;
-    Ok(Layers { rows, trees })
+    folders.push(folder)?;
+    Ok(Layers { rows, folders })
 }
 
 fn no_layers(alloc: Global) -> Layers {
     Layers {
         rows: List::new(alloc),
-        trees: List::new(alloc),
+        folders: List::new(alloc),
     }
 }
 
-fn layers_of(answer: &mut Answer, row: &Row, words: &str) -> Option<Layers> {
+fn layers_of(answer: &mut Answer, row: &Row, world: &mut MemWorld, words: &str) -> Option<Layers> {
     let mut layers = no_layers(answer.alloc);
     for word in words.split_whitespace() {
-        layers = with_layer(answer, row, layers, word)?;
+        layers = with_layer(answer, row, world, layers, word)?;
     }
     Some(layers)
 }
 
+// Stores layers, whose trees are laid below `/t` in the row's world, which is made anew.
 fn put_store(answer: &mut Answer, row: &Row, caches: &mut Caches, words: &str) {
-    let Some(layers) = layers_of(answer, row, words) else {
+    let Some(mut world) = world_with_folder(answer, row) else {
         return;
     };
-    let (rows, trees) = (&layers.rows, &layers.trees);
+    let Some(layers) = layers_of(answer, row, &mut world, words) else {
+        return;
+    };
     let gone = store_all(
         answer.alloc,
+        &mut world,
         &mut caches.shelves,
         &mut caches.places,
-        rows,
-        trees,
+        &layers.rows,
+        &layers.folders,
     );
-    if let Some(gone) = answer.made(gone) {
-        put_numbers(answer, "gone ", gone.as_slice());
+    match &gone {
+        Ok(gone) => put_numbers(answer, "gone ", gone.as_slice()),
+        Err(fault) => put_fault(answer, fault),
     }
 }
 

@@ -1,4 +1,4 @@
-use Rattle.std.proofs.Common.{◌≡◌, ◌∙◌, ap, map, refl, subst, sym, IsTrue, Ok}
+use Rattle.std.proofs.Common.{◌∙◌, ap, refl, subst, sym, IsTrue, Ok}
 use Rattle.std.proofs.lemmas.Result.{err_from_is_err_and}
 use Rattle.steps.proofs.StepLemmas.{ended, given, no_memory, went, yielded}
 use Rattle.tree_store.specs.declared.fault.StoreFault.TheVariants as stored
@@ -6,7 +6,6 @@ use Rattle.cnb_layers.specs.declared.fault.ExportFault.{ExportFault}
 use Rattle.cnb_layers.specs.declared.fault.ExportFault.TheVariants.{Store}
 use Rattle.cnb_export.specs.Exports.{gains_over}
 use Rattle.cnb_export.specs.declared.exporting.Gained.{Gained}
-use Rattle.shelf_set.specs.Caching.{digest_of_row, digest_of_tree}
 use Rattle.image_docs.specs.CacheRows.{is_cache_doc}
 use Rattle.steps.specs.Outside.{seen}
 use Rattle.cnb_layers.specs.Buildpack.{exports_group}
@@ -15,7 +14,6 @@ use Rattle.image_docs.specs.Image.{is_image_doc}
 use Rattle.run_docs.specs.Group.{is_group_doc}
 use Rattle.cnb_layers.proofs.GatherLaws.{group_gathers}
 use Rattle.cnb_export.proofs.ImageLaws.{image_readable}
-use Rattle.cnb_layers.proofs.MatchLaws.{group_matched}
 use Rattle.cnb_layers.proofs.ReadSteps.{same_for}
 use Rattle.cnb_export.proofs.exporting.gain_over.Goals as goal
 
@@ -72,9 +70,3 @@ pub returns-clause-cacheable : goal.returns-clause-cacheable
 returns-clause-cacheable g c = λ distinct.
     subst (λ (gained : Gained). IsTrue (is_cache_doc gained.cached)) (sym c.in_ok-gained.ensures.gained)
     (group_gathers _ _ _ _ _ _ (ap is_group_doc c.as_slice.ensures ∙ distinct) c.in_ok-gathered.ensures.step).cached
-
-pub returns-clause-matched : goal.returns-clause-matched
-returns-clause-matched g c =
-    subst (λ (gained : Gained). map digest_of_row gained.cached ≡ map digest_of_tree gained.trees)
-    (sym c.in_ok-gained.ensures.gained)
-    (group_matched _ _ _ _ _ _ c.in_ok-gathered.ensures.step)

@@ -1,9 +1,10 @@
-use Rattle.std.proofs.Common.{ap, refl, sym, Ok}
+use Rattle.std.proofs.Common.{◌∙◌, ap, refl, sym, Ok}
 use Rattle.std.proofs.lemmas.Result.{err_from_is_err_and}
 use Rattle.steps.proofs.StepLemmas.{ended, given, no_memory, went}
 use Rattle.tree_store.specs.declared.fault.StoreFault.TheVariants as stored
 use Rattle.cnb_layers.specs.declared.fault.ExportFault.TheVariants.{Store}
-use Rattle.cnb_layers.specs.Gathering.{keeps_documented}
+use Rattle.cnb_layers.specs.Gathering.{keeps_documented, kept_of}
+use Rattle.cnb_layers.specs.Layer.{flags_of}
 use Rattle.cnb_layers.proofs.gathering.keep_documented.Goals as goal
 
 pub returns-in_err-contents : goal.returns-in_err-contents
@@ -35,5 +36,8 @@ unfolding keeps_documented
 returns g c =
     record {
       step = went _ _ _ _ _ _ _ c.in_ok-contents.ensures.step
-          (went _ _ _ _ _ _ _ c.in_ok-settled.ensures.step (given _ _ _ _ (ap Ok (sym c.in_ok-kept.ensures))));
+          (went _ _ _ _ _ _ _ c.in_ok-settled.ensures.step
+          (given _ _ _ _ (ap Ok (sym (c.in_ok-kept.ensures
+          ∙ ap (λ cached. kept_of c.args.frame.now.id.now c.args.layer.now (flags_of c.args.doc) c.args.doc.meta cached
+          c.in_ok-settled.settled) c.is_cached.ensures)))));
     }

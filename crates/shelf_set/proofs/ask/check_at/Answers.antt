@@ -1,4 +1,4 @@
-use Rattle.shelf_set.proofs.Lists.{replaced}
+use Rattle.tree_store.proofs.Shelves.{replaced}
 use Rattle.shelf_set.proofs.ask.check_at.Goals as goal
 
 pub returns : goal.returns
