@@ -44,7 +44,7 @@ use Rattle.tree_store.proofs.Blames.{within_named}
 use Rattle.tree_store.proofs.Caches.{each_as, each_seen, each_seen_same, each_then, none_read}
 use Rattle.tree_store.proofs.CountLaws.{counted}
 use Rattle.tree_store.proofs.Places.{or_from, starts_split}
-use Rattle.tree_store.proofs.Written.{written_first}
+use Rattle.tree_store.proofs.Written.{told_then, written_first}
 
 -- ---- a file that lies apart from a folder
 
@@ -257,9 +257,6 @@ may_behind : (digest bytes : List ℕ) (a b c : Receiver) → AsTold a b → May
     → MayHavePut digest bytes a.shelf c.shelf
 may_behind digest bytes a b c told (inl h) = inl (h.0 ∙ told.0, h.1 ∙ told.1)
 may_behind digest bytes a b c told (inr h) = inr (put_behind digest bytes a b c told h)
-
-told_behind : (a b c : Receiver) → AsTold a b → AsTold b c → AsTold a c
-told_behind a b c x y = (y.0 ∙ x.0, y.1 ∙ x.1)
 
 -- the shelves of a target that kept what they tell
 moved : (D E : Receiver → Receiver → Type 0) (d e : List ℕ) (rs ss us : List Receiver) (fs gs hs : List Bool)
@@ -523,7 +520,7 @@ folder_cached digest path see xs ys zs fs gs hs a b done result begins gives = r
     given : (read : Result Node StoreFault) → GivenRead digest read gs hs (map see ys) (map see zs)
         → CachesRead digest read fs hs (map shelf_of (map see xs)) (map shelf_of (map see zs))
     given (Ok tree) h = (h.0, behind (HasPut digest (spelling_of tree)) (put_behind digest (spelling_of tree)) h.1)
-    given (Err fault) (inl h) = inl (behind KeepsTold told_behind h)
+    given (Err fault) (inl h) = inl (behind KeepsTold told_then h)
     given (Err fault) (inr h) = inr (
       h.0,
       h.1,

@@ -16,16 +16,15 @@ use Rattle.steps.specs.Causes.{CountsFiles}
 use Rattle.steps.specs.Outside.{Seen}
 use Rattle.tree_store.specs.Answers.{cause_of}
 use Rattle.tree_store.specs.Receiving.{GivesAt, GivesEach, HasDone, IsDone, MayHaveDone, OnFirst}
-use Rattle.tree_store.specs.declared.fault.StoreFault.{StoreFault}
 use Rattle.tree_store.specs.declared.fault.StoreFault.TheVariants.{Memory as NoMemory}
 use Rattle.tree_store.specs.declared.receivers.Giving.TheVariants.{Append}
 use Rattle.tree_store.specs.ShelfState.{Replaces, ShelfState}
 use Rattle.tree_store.specs.Shelves.{OnEachSeen, OnSeen}
-use Rattle.tree_store.specs.Target.{AppendsTo, AsTold, HaveBegun, LeavesFiles, Receiver, ToShelves, shelf_of}
+use Rattle.tree_store.specs.Target.{AppendsTo, AsTold, HaveBegun, Receiver, ToShelves, shelf_of}
 use Rattle.tree_store.specs.declared.receivers.Giving.{Giving}
-use Rattle.tree_store.proofs.Blames.{names_none}
 use Rattle.tree_store.proofs.Caches.{each_as, each_seen_same, one_as}
 use Rattle.tree_store.proofs.Shelves.{set_split, split_at}
+use Rattle.tree_store.proofs.Written.{files_local}
 
 -- ---- an item is replaced
 
@@ -285,24 +284,13 @@ have_more digest first bytes (false ∷ fs) (false ∷ gs) (r ∷ rs) (s ∷ ss)
 memory_counts : (A : Type 0) (n : ℕ) → CountsFiles {A = A} cause_of (Err NoMemory) n n
 memory_counts A n = omega arith
 
-files_as : {A : Type 0} (a : Seen) (r : Result A StoreFault) → ((n : ℕ) → CountsFiles cause_of r n n)
-    → LeavesFiles a r a
-files_as {A} a r counts = record {
-  files = refl;
-  runs = refl;
-  misused = omega arith;
-  children = refl;
-  counts = counts a.file_faults;
-  cause = names_none A r a.failed_at counts;
-}
-
 pub appended_to : (bytes digest : List ℕ) (rs ss : List Receiver) (fs gs : List Bool) (a : Seen)
     (done : Unit {0}) → GivesEach Append bytes rs fs (Ok done) ss gs
     → AppendsTo bytes (ToShelves digest rs fs) a (Ok tt) (ToShelves digest ss gs) a
 appended_to bytes digest rs ss fs gs a done h = record {
   leaves = λ path. record {
     stays = inr (refl, each_as shelf_of (HasDone Append bytes) AsTold (appends_told bytes) fs gs rs ss h);
-    others = files_as a (Ok tt) (λ n. refl);
+    others = files_local a (Ok tt) (λ n. refl);
     blames = tt;
   };
   adds = λ store before first gone. (
@@ -318,7 +306,7 @@ pub appended_short : (bytes digest : List ℕ) (rs ss : List Receiver) (fs gs : 
 appended_short bytes digest rs ss fs gs a memory h = record {
   leaves = λ path. record {
     stays = inr (refl, each_as shelf_of (MayHaveDone Append bytes) AsTold (may_told bytes) fs gs rs ss h);
-    others = files_as a (Err NoMemory) (memory_counts (Unit {0}));
+    others = files_local a (Err NoMemory) (memory_counts (Unit {0}));
     blames = tt;
   };
   adds = λ store before first gone. (tt, refl);
@@ -328,7 +316,7 @@ appended_short bytes digest rs ss fs gs a memory h = record {
 pub appended_nowhere : (bytes : List ℕ) (a : Seen)
     → AppendsTo bytes (ToShelves [] [] []) a (Ok tt) (ToShelves [] [] []) a
 appended_nowhere bytes a = record {
-  leaves = λ path. record { stays = inl refl; others = files_as a (Ok tt) (λ n. refl); blames = tt };
+  leaves = λ path. record { stays = inl refl; others = files_local a (Ok tt) (λ n. refl); blames = tt };
   adds = λ store before first gone. (record { went = gone.went; kept = gone.kept }, refl);
   free = tt;
 }

@@ -179,7 +179,7 @@ others_as (ToShelves d rs fs) a b same h = record {
   cause = same.cause _ h.cause;
 }
 
-files_local : {A : Type 0} (a : Seen) (r : Result A StoreFault) → ((n : ℕ) → CountsFiles cause_of r n n)
+pub files_local : {A : Type 0} (a : Seen) (r : Result A StoreFault) → ((n : ℕ) → CountsFiles cause_of r n n)
     → LeavesFiles a r a
 files_local {A} a r counts = record {
   files = refl;
@@ -200,7 +200,7 @@ blames_none : {A : Type 0} (path : List ℕ) (t : TargetState) (r : Result A Sto
 blames_none path (ToFile p) r counts = no_blame path p r counts
 blames_none path (ToShelves d rs fs) r counts = no_blame_within path r counts
 
-told_then : (a b c : Receiver) → AsTold a b → AsTold b c → AsTold a c
+pub told_then : (a b c : Receiver) → AsTold a b → AsTold b c → AsTold a c
 told_then a b c h k = (k.0 ∙ h.0, k.1 ∙ h.1)
 
 stays_then : (t0 t1 t2 : TargetState) → KeepsTarget t0 t1 → KeepsTarget t1 t2 → KeepsTarget t0 t2
