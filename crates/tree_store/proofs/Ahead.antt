@@ -720,6 +720,21 @@ pub reads_stop : {A B : Type 0} (P : A → Type 0) (Q : B → Type 0) {whole mid
 reads_stop P Q {whole} {mid} {rest} {c1} {c2} {w0} {w1} {w2} {s0} {s1} {a} {b} {fault} first = does_stop P Q whole
     mid rest c1 c2 w0 w1 w2 s0 s1 a b fault first
 
+-- a value was read, and then something else is done
+pub reads_behind : {A B : Type 0} (P : A → Type 0) (Q : B → Type 0) {whole mid rest : List ℕ} {c : Tree → Tree}
+    {w0 w1 : List (List ℕ)} {s0 s1 s2 : Source} {a b d : Seen} {v : A} {r : Result B StoreFault}
+    → Reading P whole mid w0 s0 a (Ok v) s1 b → (P v → Does Q mid rest c w0 w1 s1 b r s2 d)
+    → Does Q whole rest c w0 w1 s0 a r s2 d
+reads_behind P Q {whole} {mid} {rest} {c} {w0} {w1} {s0} {s1} {s2} {a} {b} {d} {v} {r} first next = does_on P Q
+    whole mid rest (λ files. files) c w0 w0 w1 s0 s1 s2 a b d v r first next
+
+-- the same bytes told in another way
+pub reads_before : {A : Type 0} {Q : A → Type 0} {whole other rest : List ℕ} {c : Tree → Tree} {w0 w1 : List (List ℕ)}
+    {s0 s1 : Source} {a b : Seen} {r : Result A StoreFault}
+    → whole ≡ other → Does Q whole rest c w0 w1 s0 a r s1 b → Does Q other rest c w0 w1 s0 a r s1 b
+reads_before {A} {Q} {whole} {other} {rest} {c} {w0} {w1} {s0} {s1} {a} {b} {r} same h = does_bytes Q whole other
+    rest c w0 w1 s0 s1 a b r same h
+
 -- a value was read, and then something is laid
 pub lays_behind : {A : Type 0} (P : A → Type 0) {whole mid rest : List ℕ} {c : Tree → Tree}
     {w0 w1 : List (List ℕ)} {s0 s1 s2 : Source} {a b d : Seen} {v : A} {r : Result (Unit {0}) StoreFault}

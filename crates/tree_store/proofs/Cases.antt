@@ -1,5 +1,5 @@
 -- Laying a node by its first byte, and the entries of a folder one after another.
-use Rattle.std.proofs.Common.{◌≡◌, ◌≤◌, ◌<◌, ◌+◌, ◌-◌, ◌^◌, ◌∙◌, refl, sym, ap, subst, arith, ℕ, suc, Bool, true}
+use Rattle.std.proofs.Common.{◌≡◌, ◌≤◌, ◌<◌, ◌+◌, ◌^◌, ◌∙◌, refl, sym, ap, subst, arith, ℕ, suc, Bool, true}
 use Rattle.std.proofs.Common.{if◌then◌else◌, List, [], ◌∷◌, ◌++◌, append_assoc, map, length, length-append, Option}
 use Rattle.std.proofs.Common.{Some, None, Result, Ok, Err}
 use Rattle.std.specs.Prelude.{nat_le, nat_lt, IsTrue}
@@ -16,7 +16,7 @@ use Rattle.tree_canon.specs.declared.node.Node.TheVariants.{Folder, File, Link, 
 use Rattle.tree_canon.specs.declared.node.Node.TheOpen as layer
 use Rattle.tree_canon.specs.declared.node.Node.TheViews.{roll-Node, roll-Named}
 use Rattle.tree_canon.specs.declared.node.Node.TheFolds.{map-Node, ind-Node}
-use Rattle.tree_canon.specs.Fits.{fits, entries_fit}
+use Rattle.tree_canon.specs.Fits.{fits, entries_fit, name_fits}
 use Rattle.tree_canon.specs.Names.{follows, is_name, is_target}
 use Rattle.tree_canon.specs.Spelling.{entries_bytes, entry_bytes, limit, name_bytes, node_bytes}
 use Rattle.tree_canon.proofs.Equations.{entry_bytes_is, fits_file, fits_folder, fits_link, node_bytes_file}
@@ -24,11 +24,11 @@ use Rattle.tree_canon.proofs.Equations.{node_bytes_folder, node_bytes_link}
 use Rattle.tree_canon.proofs.Nodes.{fits_cons}
 use Rattle.tree_store.specs.Ahead.{Ahead, Did, Lays, Reading}
 use Rattle.tree_store.specs.Around.{KeptAround, LeavesAround}
-use Rattle.tree_store.specs.Laying.{entries_laid, entry_laid, node_laid}
+use Rattle.tree_store.specs.Laying.{entry_laid, node_laid}
 use Rattle.tree_store.specs.Right.{AreFolders, way_into, way_to}
 use Rattle.tree_store.specs.declared.fault.StoreFault.{StoreFault}
 use Rattle.tree_store.specs.Source.{Source}
-use Rattle.tree_store.proofs.Ahead.{does_nothing, lays_as, lays_behind, lays_bytes, lays_on, none_are}
+use Rattle.tree_store.proofs.Ahead.{lays_behind, lays_bytes, none_are}
 use Rattle.tree_store.proofs.Fields.{ahead_few}
 use Rattle.tree_store.proofs.Fit.{FitsAt}
 use Rattle.tree_store.proofs.Laid.{laid_entry}
@@ -209,34 +209,24 @@ lays_away {whole} {rest} {c} {w0} {w1} {s0} {s1} {a} {b} {r} h = record { so = �
 
 -- ---- entries, one after another
 
--- so many entries are left; laying them ends the laying of all
-pub record EntriesLeft (path : List ℕ) (depth : ℕ) (all : List Named) (rest : List ℕ) (left : ℕ) (s0 : Source)
-    (a : Seen) (s1 : Source) (b : Seen) : Type 0 where
-  pub more : List Named
-  pub count : length more ≡ left
-  pub fit : FitsAt depth more
-  pub ends : (r : Result (Unit {0}) StoreFault) (s2 : Source) (d : Seen)
-      → Lays (entries_bytes more ++ rest) rest (entries_laid more path) (way_into path)
-      (way_into path) s1 b r s2 d
-      → Lays (entries_bytes all ++ rest) rest (entries_laid all path) (way_into path) (way_into path) s0 a r s2 d
+pub form_name : (last : Option (List ℕ)) (name : List ℕ) → name_fits last name ≡ true → is_name name ≡ true
+form_name last name form = (and_parts (is_name name) (follows last name) form).0
 
-pub entries_begun : (path : List ℕ) (depth : ℕ) (all : List Named) (rest : List ℕ) (left : ℕ) (s : Source)
-    (a : Seen) → length all ≡ left → entries_fit None all depth ≡ true
-    → EntriesLeft path depth all rest left s a s a
-entries_begun path depth all rest left s a count fit = record
-    { more = all; count = count; fit = record { last = None; fit = fit }; ends = λ r s2 d h. h }
+pub form_behind : (last : Option (List ℕ)) (name : List ℕ) → name_fits last name ≡ true → follows last name ≡ true
+form_behind last name form = (and_parts (is_name name) (follows last name) form).1
 
--- the next entry
-pub record NextEntry (depth : ℕ) (more : List Named) : Type 0 where
+-- the next entry, behind a last name
+pub record NextEntry (depth : ℕ) (last : Option (List ℕ)) (more : List Named) : Type 0 where
   pub entry : Named
   pub others : List Named
   pub is : more ≡ entry ∷ others
-  pub name : is_name entry.name ≡ true
+  pub form : name_fits last entry.name ≡ true
   pub node : fits entry.node depth ≡ true
   pub fit : FitsAt depth others
+  pub named : Some entry.name ≡ fit.last
 
-pub next_of : (depth : ℕ) (more : List Named) (left : ℕ) → length more ≡ left → 0 < left → FitsAt depth more
-    → NextEntry depth more
+pub next_of : (depth : ℕ) (more : List Named) (left : ℕ) → length more ≡ left → 0 < left → (fit : FitsAt depth more)
+    → NextEntry depth fit.last more
 next_of depth [] left count some fit = absurd (omega arith)
 next_of depth (e ∷ es) left count some fit =
     let p = fits_cons fit.last e es depth fit.fit in
@@ -244,73 +234,16 @@ next_of depth (e ∷ es) left count some fit =
       entry = e;
       others = es;
       is = refl;
-      name =
-          (and_parts (is_name e.name) (follows fit.last e.name) p.0).0;
+      form = p.0;
       node = p.1;
-      fit = record
-          { last = Some e.name; fit = p.2 };
+      fit = record { last = Some e.name; fit = p.2 };
+      named = refl;
     }
 
 pub next_bytes : (more : List Named) (e : Named) (es : List Named) (rest : List ℕ) → more ≡ e ∷ es
     → entry_bytes e ++ (entries_bytes es ++ rest) ≡ entries_bytes more ++ rest
 next_bytes more e es rest is = sym (ap (λ m. entries_bytes m ++ rest) is
     ∙ append_assoc (entry_bytes e) (entries_bytes es) rest)
-
--- laid, it leaves one less
-pub entries_more : (path : List ℕ) (depth : ℕ) (all : List Named) (rest : List ℕ) (left : ℕ)
-    (s0 s1 s2 : Source) (a b d : Seen) → (h : EntriesLeft path depth all rest left s0 a s1 b)
-    → (n : NextEntry depth h.more)
-    → Lays (entry_bytes n.entry ++ (entries_bytes n.others ++ rest)) (entries_bytes n.others ++ rest)
-    (entry_laid n.entry path) (way_into path) (way_into path) s1 b (Ok tt) s2 d
-    → EntriesLeft path depth all rest (left - 1) s0 a s2 d
-entries_more path depth all rest left s0 s1 s2 a b d h n laid = record {
-  more = n.others;
-  count = let count : length h.more ≡ left = h.count in let one : length h.more
-      ≡ suc (length n.others) = ap length n.is in omega arith;
-  fit = n.fit;
-  ends = λ r s3 f next. h.ends r s3 f (lays_bytes (next_bytes h.more n.entry n.others rest n.is)
-      (lays_as (λ files. ap (λ m. entries_laid m path files) (sym n.is)) (lays_on laid next)));
-}
-
--- refused, it ends them
-pub entries_stop : (path : List ℕ) (depth : ℕ) (all : List Named) (rest : List ℕ) (left : ℕ)
-    (s0 s1 s2 : Source) (a b d : Seen) (fault : StoreFault)
-    → (h : EntriesLeft path depth all rest left s0 a s1 b) → (n : NextEntry depth h.more)
-    → Lays (entry_bytes n.entry ++ (entries_bytes n.others ++ rest)) (entries_bytes n.others ++ rest)
-    (entry_laid n.entry path) (way_into path) (way_into path) s1 b (Err fault) s2 d
-    → Lays (entries_bytes all ++ rest) rest (entries_laid all path) (way_into path) (way_into path) s0 a
-    (Err fault) s2 d
-entries_stop path depth all rest left s0 s1 s2 a b d fault h n laid = h.ends (Err fault) s2 d
-    (lays_bytes (next_bytes h.more n.entry n.others rest n.is) (stop laid))
-  where
-    stop : Lays (entry_bytes n.entry ++ (entries_bytes n.others ++ rest)) (entries_bytes n.others ++ rest)
-        (entry_laid n.entry path) (way_into path) (way_into path) s1 b (Err fault) s2 d
-        → Lays (entry_bytes n.entry ++ (entries_bytes n.others ++ rest)) rest (entries_laid h.more path)
-        (way_into path) (way_into path) s1 b (Err fault) s2 d
-    stop laid = record { so = λ ahead are. none (laid.so ahead are) }
-      where
-        none : Did {A = Unit {0}} (λ done. Unit {0}) (entries_bytes n.others ++ rest) (entry_laid n.entry path)
-            (way_into path) b (Err fault) s2 d → Did {A = Unit {0}} (λ done. Unit {0}) rest
-            (entries_laid h.more path) (way_into path) b (Err fault) s2 d
-        none one = record {
-          value = tt {0};
-          files = tt {0};
-          ahead = tt {0};
-          folders = tt {0};
-          free = one.free;
-          right = one.right;
-        }
-
-pub entries_done : (path : List ℕ) (depth : ℕ) (all : List Named) (rest : List ℕ) (left : ℕ) (s0 s1 : Source)
-    (a b : Seen) → left ≡ 0 → EntriesLeft path depth all rest left s0 a s1 b
-    → Lays (entries_bytes all ++ rest) rest (entries_laid all path) (way_into path) (way_into path) s0 a
-    (Ok tt) s1 b
-entries_done path depth all rest left s0 s1 a b none h = h.ends (Ok (tt {0})) s1 b (nothing h.more (h.count ∙ none))
-  where
-    nothing : (more : List Named) → length more ≡ 0 → Lays (entries_bytes more ++ rest) rest
-        (entries_laid more path) (way_into path) (way_into path) s1 b (Ok (tt {0})) s1 b
-    nothing [] e = does_nothing rest (way_into path) s1 b
-    nothing (x ∷ xs) e = absurd (omega arith)
 
 -- ---- an entry
 

@@ -15,13 +15,16 @@ use Rattle.tree_canon.specs.Spelling.{node_bytes, spelling_of}
 use Rattle.tree_canon.specs.declared.node.Node.{Node}
 use Rattle.tree_store.specs.Ahead.{Ahead, IsAhead, LaysTree}
 use Rattle.tree_store.specs.Answers.{cause_of, is_free}
-use Rattle.tree_store.specs.Held.{HoldsTree, IsHeldCause, LaysHeld, LaysTold, held_answer, held_end, is_shelf_fault}
+use Rattle.tree_store.specs.Held.{HoldsTree, IsHeldCause, LaysHeld, LaysSome, LaysTold, held_answer, held_end}
+use Rattle.tree_store.specs.Held.{is_shelf_fault}
 use Rattle.tree_store.specs.Origin.{BlamesRead, Leaves, OriginState, faults_of, found_by, found_in, held_of, held_under}
 use Rattle.tree_store.specs.Origin.{of_shelf, rows_of}
+use Rattle.tree_store.specs.Overlay.{tree_laid}
 use Rattle.tree_store.specs.Partly.{LaidPartly, items_placed}
 use Rattle.tree_store.specs.ShelfState.{Counted, Replaces, ShelfState}
 use Rattle.tree_store.specs.Source.{Source}
 use Rattle.tree_store.specs.Steps.{IsCauseWithin, lays_tree}
+use Rattle.tree_store.specs.Taking.{LaysTaken}
 use Rattle.tree_store.specs.declared.fault.StoreFault.{StoreFault}
 use Rattle.tree_store.specs.declared.fault.StoreFault.TheVariants.{OddFile, Limit, File, NoTree, Damaged, Clash, Memory}
 use Rattle.tree_store.specs.declared.laying_held.HeldFault.{HeldFault}
@@ -29,6 +32,7 @@ use Rattle.tree_store.specs.declared.laying_held.HeldFault.TheVariants.{Store}
 use Rattle.tree_store.proofs.CountLaws.{counted}
 use Rattle.tree_store.proofs.Shelves.{replaced_at, some_at, some_of}
 use Rattle.tree_store.proofs.Stored.{IsBegun, file_ahead}
+use Rattle.tree_store.proofs.Takes.{laid_some}
 
 -- ---- the bytes of the shelf lie ahead
 
@@ -109,6 +113,13 @@ told_held root tree false (Err fault) s s1 a b some leaves lays part = (
   part,
 )
 
+some_held : (root digest : List ℕ) (failed : Bool) (laid : Result (Unit {0}) StoreFault) (s : Source) (a b : Seen)
+    → IsBegun s digest → OnOk laid (LaysTaken (tree_laid root (codes "/")) s a.files b.files)
+    → OnOk (held_answer failed laid) (LaysSome root digest a.files b.files)
+some_held root digest failed (Ok done) s a b begun h = laid_some root digest s a.files b.files begun h
+some_held root digest true (Err fault) s a b begun h = tt
+some_held root digest false (Err fault) s a b begun h = tt
+
 -- ---- the whole call
 
 -- the shelf at a place of a list was read
@@ -127,8 +138,9 @@ pub held_laid : (root digest : List ℕ) (old new : List ShelfState) (at number 
     → LaysTree root (codes "/") tree a laid b)
     → ((tree : Node) → fits tree 0 ≡ true → Ahead s a.files (node_bytes tree)
     → LaidPartly root (items_placed root (codes "/") tree) a.files b.files)
+    → OnOk laid (LaysTaken (tree_laid root (codes "/")) s a.files b.files)
     → result ≡ held_answer failed laid → LaidHeld root digest old at a result new b
-held_laid root digest old new at number failed s a b laid result lt is begun left lays partly answer = record {
+held_laid root digest old new at number failed s a b laid result lt is begun left lays partly taken answer = record {
   before = before;
   after = after;
   replaces = replaced_at old new at number before after here there leaves.shelf.others;
@@ -147,6 +159,7 @@ held_laid root digest old new at number failed s a b laid result lt is begun lef
         (ahead_held s old at before digest files tree is here begun holds) in
         told_held root tree failed laid (of_shelf old at false) (of_shelf new number failed) a b
         (ap is_some here) leaves (lays tree holds.fit ahead) (partly tree holds.fit ahead);
+    laid = some_held root digest failed laid s a b begun taken;
   });
 }
   where

@@ -17,20 +17,22 @@ use Rattle.cnb_world.specs.declared.world.FileFault.{FileFault}
 use Rattle.cnb_world.specs.declared.world.Item.TheVariants as item
 use Rattle.cnb_world.proofs.Folders.{not_longer}
 use Rattle.steps.specs.Outside.{Seen}
-use Rattle.tree_canon.specs.Fits.{entries_fit, fits}
+use Rattle.tree_canon.specs.Fits.{entries_fit, fits, name_fits}
 use Rattle.tree_canon.specs.Names.{is_name, is_target}
 use Rattle.tree_canon.specs.Spelling.{entries_bytes, entry_bytes, limit, node_bytes}
 use Rattle.tree_canon.specs.declared.node.Named.{Named}
 use Rattle.tree_canon.specs.declared.node.Node.{Node}
 use Rattle.tree_canon.specs.declared.node.Node.TheVariants.{Folder, File, Link}
 use Rattle.tree_canon.proofs.Equations.{node_bytes_file, node_bytes_folder, node_bytes_link}
-use Rattle.tree_store.specs.Ahead.{Ahead, Did, Lays, LaysPartly, Reading}
+use Rattle.tree_store.specs.Ahead.{Ahead, Did, Does, Lays, LaysPartly, Reading}
 use Rattle.tree_store.specs.Around.{IsMadeAbove, KeepsAround, KeptAround, LeavesAround}
-use Rattle.tree_store.specs.Laying.{entry_laid, file_laid, file_set}
+use Rattle.tree_store.specs.Laying.{entries_laid, entry_laid, file_laid, file_set}
 use Rattle.tree_store.specs.Overlay.{Given, folder_at, items_of, items_of_entry}
 use Rattle.tree_store.specs.Partly.{IsOldOrPart, IsPartOf, LaidPartly}
 use Rattle.tree_store.specs.Right.{AreFolders, way_into, way_to}
 use Rattle.tree_store.specs.Source.{Source}
+use Rattle.tree_store.specs.declared.fault.StoreFault.{StoreFault}
+use Rattle.tree_store.proofs.Ahead.{does_nothing, does_on, lays_as, lays_bytes, reads_stop}
 use Rattle.tree_store.proofs.Apart.{above_begins}
 use Rattle.tree_store.proofs.Cases.{AFile, AFolder, ALink, Cased, NextEntry, cased, next_bytes, target_of}
 use Rattle.tree_store.proofs.Contents.{ContentsLeft, one_more}
@@ -315,83 +317,132 @@ entry_among [] e others path = λ one has. Contains-append_left (items_of_entry 
 entry_among (x ∷ xs) e others path = λ one has. Contains-append_right (items_of_entry x path)
     (items_in (xs ++ e ∷ others) path) one (entry_among xs e others path one has)
 
--- some entries were laid, and so many are left
-pub record EntriesBegun (path : List ℕ) (depth : ℕ) (all : List Named) (rest : List ℕ) (left : ℕ) (s0 : Source)
-    (a : Seen) (s1 : Source) (b : Seen) : Type 0 where
+-- Some entries were laid, and so many are left: this is the last name of those, and laying the others ends the laying
+-- of all.
+pub record EntriesBegun (path : List ℕ) (depth : ℕ) (all : List Named) (rest : List ℕ) (left : ℕ)
+    (last : Option (List ℕ)) (s0 : Source) (a : Seen) (s1 : Source) (b : Seen) : Type 0 where
   pub front : List Named
   pub more : List Named
   pub is : all ≡ front ++ more
   pub count : length more ≡ left
   pub fit : FitsAt depth more
+  pub behind : Ahead s0 a.files (entries_bytes all ++ rest) → AreFolders (way_into path) a.files → last ≡ fit.last
   pub reaches : Ahead s0 a.files (entries_bytes all ++ rest) → AreFolders (way_into path) a.files
       → Ahead s1 b.files (entries_bytes more ++ rest) × AreFolders (way_into path) b.files
+  pub ends : (r : Result (Unit {0}) StoreFault) (s2 : Source) (d : Seen)
+      → Lays (entries_bytes more ++ rest) rest (entries_laid more path) (way_into path)
+      (way_into path) s1 b r s2 d
+      → Lays (entries_bytes all ++ rest) rest (entries_laid all path) (way_into path) (way_into path) s0 a r s2 d
   pub partly : LaysPartly path (items_of (Folder all) path) (entries_bytes all ++ rest) (way_into path) s0 a b
 
 pub begun_first : (path : List ℕ) (depth : ℕ) (all : List Named) (rest : List ℕ) (left : ℕ) (s : Source)
     (a : Seen) → length all ≡ left → entries_fit None all depth ≡ true
-    → EntriesBegun path depth all rest left s a s a
+    → EntriesBegun path depth all rest left None s a s a
 begun_first path depth all rest left s a count fit = record {
   front = [];
   more = all;
   is = refl;
   count = count;
   fit = record { last = None; fit = fit };
+  behind = λ ahead are. refl;
   reaches = λ ahead are. (ahead, are);
+  ends = λ r s2 d h. h;
   partly = record { so = λ ahead are. partly_itself path (items_of (Folder all) path) a.files a.files refl };
 }
 
--- an entry of which a part stands
-pub begun_part : (path : List ℕ) (depth : ℕ) (all : List Named) (rest : List ℕ) (left : ℕ) (s0 s1 : Source)
-    (a b d : Seen) → (h : EntriesBegun path depth all rest left s0 a s1 b) → (n : NextEntry depth h.more)
-    → LaysPartly path (folder_at path ++ items_of n.entry.node (joined path n.entry.name))
-    (entry_bytes n.entry ++ (entries_bytes n.others ++ rest)) (way_into path) s1 b d
-    → LaysPartly path (items_of (Folder all) path) (entries_bytes all ++ rest) (way_into path) s0 a d
-begun_part path depth all rest left s0 s1 a b d h n part = record {
-  so = λ ahead are. partly_then path (items_of (Folder all) path) a.files b.files d.files (h.partly.so ahead are)
-      (partly_more path (folder_at path ++ items_of n.entry.node (joined path n.entry.name))
-      (items_of (Folder all) path) b.files d.files among
-      (part.so (subst (Ahead s1 b.files) (sym (next_bytes h.more n.entry n.others rest n.is))
-      (h.reaches ahead are).0) (h.reaches ahead are).1));
-}
-  where
-    there : all ≡ h.front ++ n.entry ∷ n.others
-    there = h.is ∙ ap (λ m. h.front ++ m) n.is
+-- an entry of which a part stands, or that was laid
+module _ (path : List ℕ) (depth : ℕ) (all : List Named) (rest : List ℕ) (left : ℕ) (last : Option (List ℕ))
+    (s0 s1 : Source) (a b : Seen) (h : EntriesBegun path depth all rest left last s0 a s1 b)
+    (n : NextEntry depth h.fit.last h.more) where
+  abbrev LaysEntry : Result (List ℕ) StoreFault → Source → Seen → Type 0
+  LaysEntry r s2 d = name_fits last n.entry.name ≡ true → Does (λ name. name ≡ n.entry.name)
+      (entry_bytes n.entry ++ (entries_bytes n.others ++ rest)) (entries_bytes n.others ++ rest)
+      (entry_laid n.entry path) (way_into path) (way_into path) s1 b r s2 d
 
-    among : AreAmong (folder_at path ++ items_of n.entry.node (joined path n.entry.name)) (items_of (Folder all) path)
-    among one has = by (Contains-append_cases (folder_at path)
-        (items_of n.entry.node (joined path n.entry.name)) one has)
-      where
-        by : Contains (folder_at path) one ⊎ Contains (items_of n.entry.node (joined path n.entry.name)) one
-            → Contains (items_of (Folder all) path) one
-        by (inl at) = folder_among all path one at
-        by (inr at) = subst (λ g. Contains {X = Given} g one) (sym (items_folder all path))
-            (Contains-append_right (folder_at path) (items_in all path) one
-            (subst (λ es. Contains {X = Given} (items_in es path) one) (sym there)
-            (entry_among h.front n.entry n.others path one at)))
+  abbrev LaysEntryPartly : Seen → Type 0
+  LaysEntryPartly d = name_fits last n.entry.name ≡ true
+      → LaysPartly path (folder_at path ++ items_of n.entry.node (joined path n.entry.name))
+      (entry_bytes n.entry ++ (entries_bytes n.others ++ rest)) (way_into path) s1 b d
 
-pub begun_next : (path : List ℕ) (depth : ℕ) (all : List Named) (rest : List ℕ) (left : ℕ) (s0 s1 s2 : Source)
-    (a b d : Seen) → (h : EntriesBegun path depth all rest left s0 a s1 b) → (n : NextEntry depth h.more)
-    → Lays (entry_bytes n.entry ++ (entries_bytes n.others ++ rest)) (entries_bytes n.others ++ rest)
-    (entry_laid n.entry path) (way_into path) (way_into path) s1 b (Ok tt) s2 d
-    → LaysPartly path (folder_at path ++ items_of n.entry.node (joined path n.entry.name))
-    (entry_bytes n.entry ++ (entries_bytes n.others ++ rest)) (way_into path) s1 b d
-    → EntriesBegun path depth all rest (left - 1) s0 a s2 d
-begun_next path depth all rest left s0 s1 s2 a b d h n laid part = record {
-  front = h.front ++ n.entry ∷ [];
-  more = n.others;
-  is = h.is ∙ ap (λ m. h.front ++ m) n.is ∙ sym (append_assoc h.front (n.entry ∷ []) n.others);
-  count = let count : length h.more ≡ left = h.count in let one : length h.more
-      ≡ suc (length n.others) = ap length n.is in omega arith;
-  fit = n.fit;
-  reaches = λ ahead are. by (laid.so (subst (Ahead s1 b.files)
-      (sym (next_bytes h.more n.entry n.others rest n.is)) (h.reaches ahead are).0) (h.reaches ahead are).1);
-  partly = begun_part path depth all rest left s0 s1 a b d h n part;
-}
+  form : Ahead s0 a.files (entries_bytes all ++ rest) → AreFolders (way_into path) a.files
+      → name_fits last n.entry.name ≡ true
+  form ahead are = ap (λ l. name_fits l n.entry.name) (h.behind ahead are) ∙ n.form
+
+  next_ahead : Ahead s0 a.files (entries_bytes all ++ rest) → AreFolders (way_into path) a.files
+      → Ahead s1 b.files (entry_bytes n.entry ++ (entries_bytes n.others ++ rest))
+  next_ahead ahead are = subst (Ahead s1 b.files) (sym (next_bytes h.more n.entry n.others rest n.is))
+      (h.reaches ahead are).0
+
+  pub begun_part : (d : Seen) → LaysEntryPartly d
+      → LaysPartly path (items_of (Folder all) path) (entries_bytes all ++ rest) (way_into path) s0 a d
+  begun_part d part = record {
+    so = λ ahead are. partly_then path (items_of (Folder all) path) a.files b.files d.files (h.partly.so ahead are)
+        (partly_more path (folder_at path ++ items_of n.entry.node (joined path n.entry.name))
+        (items_of (Folder all) path) b.files d.files among
+        ((part (form ahead are)).so (next_ahead ahead are) (h.reaches ahead are).1));
+  }
+    where
+      there : all ≡ h.front ++ n.entry ∷ n.others
+      there = h.is ∙ ap (λ m. h.front ++ m) n.is
+
+      among : AreAmong (folder_at path ++ items_of n.entry.node (joined path n.entry.name))
+          (items_of (Folder all) path)
+      among one has = by (Contains-append_cases (folder_at path)
+          (items_of n.entry.node (joined path n.entry.name)) one has)
+        where
+          by : Contains (folder_at path) one ⊎ Contains (items_of n.entry.node (joined path n.entry.name)) one
+              → Contains (items_of (Folder all) path) one
+          by (inl at) = folder_among all path one at
+          by (inr at) = subst (λ g. Contains {X = Given} g one) (sym (items_folder all path))
+              (Contains-append_right (folder_at path) (items_in all path) one
+              (subst (λ es. Contains {X = Given} (items_in es path) one) (sym there)
+              (entry_among h.front n.entry n.others path one at)))
+
+  pub begun_next : (name : List ℕ) (s2 : Source) (d : Seen) → LaysEntry (Ok name) s2 d → LaysEntryPartly d
+      → EntriesBegun path depth all rest (left - 1) (Some name) s0 a s2 d
+  begun_next name s2 d laid part = record {
+    front = h.front ++ n.entry ∷ [];
+    more = n.others;
+    is = h.is ∙ ap (λ m. h.front ++ m) n.is ∙ sym (append_assoc h.front (n.entry ∷ []) n.others);
+    count = let count : length h.more ≡ left = h.count in let one : length h.more
+        ≡ suc (length n.others) = ap length n.is in omega arith;
+    fit = n.fit;
+    behind = λ ahead are. ap Some (did ahead are).value ∙ n.named;
+    reaches = λ ahead are. ((did ahead are).ahead, (did ahead are).folders);
+    ends = λ r s3 f next. record {
+      so = λ ahead are. (h.ends r s3 f (lays_bytes (next_bytes h.more n.entry n.others rest n.is)
+          (lays_as (λ files. ap (λ m. entries_laid m path files) (sym n.is))
+          (does_on (λ name. name ≡ n.entry.name) (λ done. Unit {0}) _ _ rest (entry_laid n.entry path)
+          (entries_laid n.others path) (way_into path) (way_into path) (way_into path) s1 s2 s3 b d f name r
+          (laid (form ahead are)) (λ same. next))))).so ahead are;
+    };
+    partly = begun_part d part;
+  }
+    where
+      did : Ahead s0 a.files (entries_bytes all ++ rest) → AreFolders (way_into path) a.files
+          → Did (λ name. name ≡ n.entry.name) (entries_bytes n.others ++ rest) (entry_laid n.entry path)
+          (way_into path) b (Ok name) s2 d
+      did ahead are = (laid (form ahead are)).so (next_ahead ahead are) (h.reaches ahead are).1
+
+  -- refused, it ends them
+  pub begun_stops : (fault : StoreFault) (s2 : Source) (d : Seen) → LaysEntry (Err fault) s2 d
+      → Lays (entries_bytes all ++ rest) rest (entries_laid all path) (way_into path) (way_into path) s0 a
+      (Err fault) s2 d
+  begun_stops fault s2 d laid = record {
+    so = λ ahead are. (h.ends (Err fault) s2 d (lays_bytes (next_bytes h.more n.entry n.others rest n.is)
+        (reads_stop (λ name. name ≡ n.entry.name) (λ done. Unit {0}) (laid (form ahead are))))).so ahead are;
+  }
+
+pub begun_done : (path : List ℕ) (depth : ℕ) (all : List Named) (rest : List ℕ) (left : ℕ) (last : Option (List ℕ))
+    (s0 s1 : Source) (a b : Seen) → left ≡ 0 → EntriesBegun path depth all rest left last s0 a s1 b
+    → Lays (entries_bytes all ++ rest) rest (entries_laid all path) (way_into path) (way_into path) s0 a
+    (Ok tt) s1 b
+begun_done path depth all rest left last s0 s1 a b none h = h.ends (Ok (tt {0})) s1 b (nothing h.more (h.count ∙ none))
   where
-    by : Did {A = Unit {0}} (λ done. Unit {0}) (entries_bytes n.others ++ rest) (entry_laid n.entry path)
-        (way_into path) b (Ok tt) s2 d → Ahead s2 d.files (entries_bytes n.others ++ rest)
-        × AreFolders (way_into path) d.files
-    by one = (one.ahead, one.folders)
+    nothing : (more : List Named) → length more ≡ 0 → Lays (entries_bytes more ++ rest) rest
+        (entries_laid more path) (way_into path) (way_into path) s1 b (Ok (tt {0})) s1 b
+    nothing [] e = does_nothing rest (way_into path) s1 b
+    nothing (x ∷ xs) e = absurd (omega arith)
 
 -- the node of an entry, at its path
 pub entry_parts : (folder path : List ℕ) (e : Named) (whole : List ℕ) (s : Source) (b d : Seen)

@@ -33,6 +33,7 @@ pub mod Standing
 pub mod Stored
 pub mod Spelled
 pub mod StorePaths
+pub mod Takes
 pub mod Ways
 pub mod Apart
 pub mod Written

@@ -117,6 +117,14 @@ tree_kept root place node source after old mid new answer result plain fit made 
           around.misused (λ can. did.right);
     }
 
+-- the same of files alone
+pub laid_ok : (root place : List ℕ) (node : Node) (o o1 o2 : Option Tree) → is_root root ≡ false → fits node 0 ≡ true
+    → o1 ≡ option_map (folder_made root) o → IfSome o IsTree → IsTrue (list_all is_part (parts_of place))
+    → o2 ≡ option_map (laid_under node (parts_of place) root) o1 → o2 ≡ option_map (tree_laid root place node) o
+laid_ok root place node o o1 o2 plain fit made tree names laid = laid_where {E = StoreFault}
+    (Ok tt) o o2 root place node node refl fit
+    (steps_made o o1 o2 root place node made laid) names (told_placed o (Ok tt) node (parts_of place) root plain) tree
+
 -- then the reader is at the end
 pub tree_ended : (root place : List ℕ) (node : Node) (source after : Source) (old mid new : Seen)
     (result : Result (Unit {0}) StoreFault) → mid.files ≡ option_map (folder_made root) old.files

@@ -1,7 +1,8 @@
 -- Laying a tree that a cache holds.
 use Rattle.std.specs.Prelude.{ℕ, Bool, true, false, ◌≡◌, ◌≤◌, List, codes, length, Option, Some, None, Result, Ok, Err}
-use Rattle.std.specs.Prelude.{IfErr, IsTrue}
+use Rattle.std.specs.Prelude.{IfErr, IsTrue, OnOk}
 use Rattle.std.specs.FinMap.{get}
+use Rattle.std.specs.Option.{option_map}
 use Rattle.sha2.specs.Sha256.{sha256}
 use Rattle.cnb_world.specs.Shelf.{Held}
 use Rattle.cnb_world.specs.Tree.{Tree, is_within}
@@ -14,6 +15,7 @@ use Rattle.tree_canon.specs.Spelling.{limit, spelling_of}
 use Rattle.tree_canon.specs.declared.node.Node.{Node}
 use Rattle.tree_store.specs.Answers.{cause_of}
 use Rattle.tree_store.specs.Around.{LeavesAround}
+use Rattle.tree_store.specs.Overlay.{tree_laid}
 use Rattle.tree_store.specs.Partly.{LaidPartly, items_placed}
 use Rattle.tree_store.specs.ShelfState.{Counted, ShelfState}
 use Rattle.tree_store.specs.Steps.{can_lay, lays_tree}
@@ -68,6 +70,14 @@ LaysTold root tree old (Err (Store fault)) new = lays_tree root (codes "/") tree
 LaysTold root tree old (Err Shelf) new = LaidPartly root (items_placed root (codes "/") tree) old.files new.files
     × Allows (can_lay root (codes "/") tree) old new
 
+-- a tree of this digest was laid at a path, whatever was known of its bytes before
+pub record LaysSome (root digest : List ℕ) (old new : Option Tree) : Type 0 where
+  pub tree : Node
+  pub named : sha256 (spelling_of tree) ≡ digest
+  pub fit : fits tree 0 ≡ true
+  pub size : length (spelling_of tree) ≤ limit
+  pub files : new ≡ option_map (tree_laid root (codes "/") tree) old
+
 -- What is left of a shelf and of the files where the tree that the shelf holds under a digest is laid at a path. The
 -- shelf tells what it told, and its count rose where it failed.
 pub record LaysHeld (root digest : List ℕ) (before : ShelfState) (old : Seen) (result : Result (Unit {0}) HeldFault)
@@ -80,3 +90,4 @@ pub record LaysHeld (root digest : List ℕ) (before : ShelfState) (old : Seen) 
   pub blames : IfErr result (IsHeldCause root)
   pub told : (files : Tree) (tree : Node) → old.files ≡ Some files → HoldsTree before digest tree
       → LaysTold root tree old result new
+  pub laid : OnOk result (LaysSome root digest old.files new.files)

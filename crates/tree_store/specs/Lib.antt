@@ -21,5 +21,6 @@ pub mod Shelves
 pub mod Source
 pub mod Steps
 pub mod Store
+pub mod Taking
 pub mod Target
 pub mod Writing

@@ -8,12 +8,13 @@ ghost use Rattle.cnb_world.specs.Tree.{Tree};
 ghost use Rattle.tree_canon.specs.Names.{is_name, is_text};
 ghost use Rattle.tree_canon.specs.Rules.{first_byte};
 ghost use Rattle.tree_canon.specs.Spelling.{magic, name_bytes};
-ghost use Rattle.steps.specs.Outside.{seen};
+ghost use Rattle.steps.specs.Outside.{Seen, seen};
 ghost use Rattle.steps.specs.Causes.{CountsFiles, Decided};
 ghost use Rattle.tree_store.specs.Ahead.{Ahead, HasDigest, Reading};
 ghost use Rattle.tree_store.specs.Answers.{cause_of, is_free};
 ghost use Rattle.tree_store.specs.Origin.{BlamesRead, Leaves, OriginState};
 ghost use Rattle.tree_store.specs.Source.{source_seen};
+ghost use Rattle.tree_store.specs.Taking.{TakesBytes};
 
 use crate::fault::StoreFault;
 use crate::origin::Origin;
@@ -37,7 +38,8 @@ fn first_byte(field: &[u8]) -> u8
 
 /// The number of two bytes.
 fn u16_of(field: &[u8]) -> u16
-    ensures { length field.now ≡ 2 → result ≡ from_be_bytes w16 field.now }
+    ensures value { length field.now ≡ 2 → result ≡ from_be_bytes w16 field.now }
+    ensures bytes { length field.now ≡ 2 → to_be_bytes w16 result ≡ field.now }
 {
     match field {
         [a, b] => u16::from_be_bytes([*a, *b]),
@@ -47,7 +49,8 @@ fn u16_of(field: &[u8]) -> u16
 
 /// The number of four bytes.
 pub(crate) fn u32_of(field: &[u8]) -> u32
-    ensures { length field.now ≡ 4 → result ≡ from_be_bytes w32 field.now }
+    ensures value { length field.now ≡ 4 → result ≡ from_be_bytes w32 field.now }
+    ensures bytes { length field.now ≡ 4 → to_be_bytes w32 result ≡ field.now }
 {
     match field {
         [a, b, c, d] => u32::from_be_bytes([*a, *b, *c, *d]),
@@ -57,7 +60,8 @@ pub(crate) fn u32_of(field: &[u8]) -> u32
 
 /// The number of eight bytes.
 pub(crate) fn u64_of(field: &[u8]) -> u64
-    ensures { length field.now ≡ 8 → result ≡ from_be_bytes w64 field.now }
+    ensures value { length field.now ≡ 8 → result ≡ from_be_bytes w64 field.now }
+    ensures bytes { length field.now ≡ 8 → to_be_bytes w64 result ≡ field.now }
 {
     match field {
         [a, b, c, d, e, f, g, h] => u64::from_be_bytes([*a, *b, *c, *d, *e, *f, *g, *h]),
@@ -160,6 +164,8 @@ impl<O: Origin> KeptBytes<O> {
             (source_seen O.state self.old) (seen W.World world.old)
             result (source_seen O.state self.new) (seen W.World world.new) }
         ensures held { OnOk result (self.new.used + len ≤ length self.new.piece) }
+        ensures takes { OnOk result (TakesBytes [] (source_seen O.state self.old) (seen W.World world.old)
+            (source_seen O.state self.new) (seen W.World world.new)) }
     {
         if self.holds(len) {
             return Ok(());
@@ -182,14 +188,16 @@ impl<O: Origin> KeptBytes<O> {
         ensures ahead { (files : Option Tree) (field rest : Seq ℕ) → length field ≡ len
             → Ahead (source_seen O.state self.old) files (field ++ rest)
             → OnOk result (Ahead (source_seen O.state self.new) files rest) }
-        ensures free { (files : Option Tree) (bytes : Seq ℕ) → Ahead (source_seen O.state self.old) files bytes
-            → IfErr result (λ fault. IsTrue (is_free fault)) }
+        ensures free { (files : Option Tree) (bytes : Seq ℕ) → len ≤ length bytes
+            → Ahead (source_seen O.state self.old) files bytes → IfErr result (λ fault. IsTrue (is_free fault)) }
         ensures length { IfOk result (λ read. length read ≡ len) }
         ensures stays { self.new.origin ≡ self.old.origin }
         ensures blames { (path : Seq ℕ) (origin : OriginState) → IfErr result (BlamesRead path origin) }
         ensures counts { (n : ℕ) → CountsFiles cause_of result n n }
+        ensures takes { IfOk result (λ read. (outside : Seen)
+            → TakesBytes read (source_seen O.state self.old) outside (source_seen O.state self.new) outside) }
     {
-        if self.at > MAX_LENGTH {
+        if self.at > MAX_LENGTH - len as u64 {
             return Err(self.broken(Reason::Large));
         }
         let held = self.piece.as_slice();
@@ -217,6 +225,8 @@ impl<O: Origin> KeptBytes<O> {
             (source_seen O.state self.old) (seen W.World world.old)
             result (source_seen O.state self.new) (seen W.World world.new) }
         ensures length { IfOk result (λ read. length read ≡ len) }
+        ensures takes { IfOk result (λ read. TakesBytes read (source_seen O.state self.old) (seen W.World world.old)
+            (source_seen O.state self.new) (seen W.World world.new)) }
     {
         self.fill(alloc, world, len)?;
         self.cut(alloc, len)
@@ -231,6 +241,8 @@ impl<O: Origin> KeptBytes<O> {
             → Reading (λ read. read ≡ b) (b ∷ rest) rest folders
             (source_seen O.state self.old) (seen W.World world.old)
             result (source_seen O.state self.new) (seen W.World world.new) }
+        ensures takes { IfOk result (λ read. TakesBytes (read ∷ []) (source_seen O.state self.old)
+            (seen W.World world.old) (source_seen O.state self.new) (seen W.World world.new)) }
     {
         let field = self.field(alloc, world, 1)?;
         Ok(first_byte(field.as_slice()))
@@ -252,6 +264,8 @@ impl<O: Origin> KeptBytes<O> {
             (to_be_bytes w16 (length text) ++ (text ++ rest)) rest folders
             (source_seen O.state self.old) (seen W.World world.old)
             result (source_seen O.state self.new) (seen W.World world.new) }
+        ensures takes { IfOk result (λ read. TakesBytes (name_bytes read) (source_seen O.state self.old)
+            (seen W.World world.old) (source_seen O.state self.new) (seen W.World world.new)) }
     {
         let head = self.field(alloc, world, 2)?;
         let size = u16_of(head.as_slice()) as usize;
@@ -280,6 +294,9 @@ impl<O: Origin> KeptBytes<O> {
             (source_seen O.state self.old) (seen W.World world.old)
             result (source_seen O.state self.new) (seen W.World world.new) }
         ensures part { IfOk result (λ name. IsTrue (is_part name)) }
+        ensures form { IfOk result (λ name. is_name name ≡ true) }
+        ensures takes { IfOk result (λ read. TakesBytes (name_bytes read) (source_seen O.state self.old)
+            (seen W.World world.old) (source_seen O.state self.new) (seen W.World world.new)) }
     {
         let name = self.text(alloc, world, 255)?;
         if is_part(name.as_str().as_bytes()) {

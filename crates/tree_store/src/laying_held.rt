@@ -1,5 +1,5 @@
 // Laying a tree that a cache holds.
-ghost use Rattle.std.specs.Prelude.{◌≡◌, ◌<◌, ◌≤◌, IfOk, codes, false, length, true};
+ghost use Rattle.std.specs.Prelude.{◌≡◌, ◌<◌, ◌≤◌, IfOk, OnOk, codes, false, length, true};
 ghost use Rattle.cnb_world.specs.Tree.{is_root, is_within};
 ghost use Rattle.steps.specs.Outside.{seen};
 ghost use Rattle.tree_canon.specs.Fits.{fits};
@@ -8,9 +8,11 @@ ghost use Rattle.tree_canon.specs.declared.node.Node.{Node};
 ghost use Rattle.tree_store.specs.Ahead.{Ahead, LaysTree};
 ghost use Rattle.tree_store.specs.Held.{LaysHeld, held_answer};
 ghost use Rattle.tree_store.specs.Origin.{Leaves};
+ghost use Rattle.tree_store.specs.Overlay.{tree_laid};
 ghost use Rattle.tree_store.specs.Partly.{LaidPartly, items_placed};
 ghost use Rattle.tree_store.specs.ShelfState.{Replaces, ShelfState, shelves_seen};
 ghost use Rattle.tree_store.specs.Source.{source_seen};
+ghost use Rattle.tree_store.specs.Taking.{LaysTaken};
 
 use crate::fault::StoreFault;
 use crate::held_tree::HeldTree;
@@ -57,6 +59,8 @@ fn lay_at<W: World, O: Origin>(
     ensures partly { (tree : Node) → fits tree 0 ≡ true
         → Ahead (source_seen O.state source.old) (W.tree world.old) (node_bytes tree)
         → LaidPartly root.now (items_placed root.now (codes "/") tree) (W.tree world.old) (W.tree world.new) }
+    ensures laid { OnOk result (LaysTaken (tree_laid root.now (codes "/")) (source_seen O.state source.old)
+        (W.tree world.old) (W.tree world.new)) }
 {
     let place = own_place(alloc)?;
     lay_kept(alloc, world, source, root, &place)

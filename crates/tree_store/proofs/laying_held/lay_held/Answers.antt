@@ -33,5 +33,5 @@ returns g c =
     (of_shelf (map (λ b. shelf_seen (goal.Shelf-dyn g (b.vtable, b.value)) b.value) t.shelves.items)
     t.number t.failed) (seen g.W.World c.lay_at-laid.new.world)) (sym c.into_origin-list.ensures)
     c.lay_at-laid.ensures.leaves)
-    c.lay_at-laid.ensures.lays c.lay_at-laid.ensures.partly c.held_answer.ensures
+    c.lay_at-laid.ensures.lays c.lay_at-laid.ensures.partly c.lay_at-laid.ensures.laid c.held_answer.ensures
     in record { lays = (held.before, held.after, held.replaces, held.lays) }

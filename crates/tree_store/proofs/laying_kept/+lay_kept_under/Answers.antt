@@ -1,15 +1,17 @@
 use Rattle.std.proofs.Common.{rules, ◌≡◌, ◌<◌, ◌+◌, refl, ap, arith, [], ◌++◌, length, Ok, Err}
 use Rattle.std.proofs.lemmas.Result.{err_from_is_err_and}
 use Rattle.tree_canon.specs.Spelling.{node_bytes}
-use Rattle.tree_store.specs.Laying.{folder_laid}
+use Rattle.tree_store.specs.Laying.{folder_laid, laid_under}
+use Rattle.tree_store.specs.Overlay.{way_parts}
 use Rattle.tree_store.specs.Right.{way_into, way_to}
 use Rattle.tree_store.proofs.Ahead.{apart_child, does_called, does_memory, lays_as, lays_from, lays_on, lays_stop}
 use Rattle.tree_store.proofs.Ahead.{leaves_laid, leaves_short, leaves_then, leaves_wider}
 use Rattle.tree_store.proofs.Right.{inside_laid, part_way}
 use Rattle.tree_store.proofs.Stored.{same_last, same_part}
-use Rattle.tree_store.proofs.Ways.{joined_short, last_part, part_ahead, parts_behind}
+use Rattle.tree_store.proofs.Ways.{joined_short, last_part, part_ahead, parts_behind, when_ok}
 use Rattle.tree_store.proofs.PartlyLaid.{way_begun, way_partly}
 use Rattle.tree_store.proofs.KeptPartly.{part_after, part_from}
+use Rattle.tree_store.proofs.Takes.{done_then, takes_below}
 use Rattle.tree_store.proofs.laying_kept.+lay_kept_under.Goals as goal
 
 pub returns-in_err-or_blame-clause-leaves : goal.returns-in_err-or_blame-clause-leaves
@@ -206,3 +208,17 @@ returns-in_ok-path-in-None-clause-partly g t c = λ node rest fit.
     (λ h. way_partly node _ [] c.args.folder.now c.args.way.now _ _ _ _ c.in-None.ensures.parts
     c.in_ok-path-in-None.ensures.0 (last_part c.args.way.now c.in-None.ensures.parts c.requires.1.1.1.1.1.0)
     c.lay_folder.ensures.partly c.lay_kept_node.ensures.leaves.around.files h)
+
+pub returns-in_ok-path-in-Some-clause-takes : goal.returns-in_ok-path-in-Some-clause-takes
+returns-in_ok-path-in-Some-clause-takes g t c = done_then _ _ c.lay_kept_under.result
+    (takes_below c.args.folder.now 0 _ (λ node. laid_under node (way_parts c.args.way.now) c.args.folder.now)
+    _ _ _ _ _ (when_ok c.lay_folder.result c.in_ok-or_blame.ensures.ok c.lay_folder.ensures.ok)
+    (λ node files. same_part node c.args.way.now c.in-Some.part.now c.in-Some.rest.now c.args.folder.now _
+    files c.in-Some.ensures.parts c.in_ok-path-in-Some.ensures.0)) c.lay_kept_under.ensures.takes
+
+pub returns-in_ok-path-in-None-clause-takes : goal.returns-in_ok-path-in-None-clause-takes
+returns-in_ok-path-in-None-clause-takes g t c = done_then _ _ c.lay_kept_node.result
+    (takes_below c.args.folder.now 0 _ (λ node. laid_under node (way_parts c.args.way.now) c.args.folder.now)
+    _ _ _ _ _ (when_ok c.lay_folder.result c.in_ok-or_blame.ensures.ok c.lay_folder.ensures.ok)
+    (λ node files. same_last node c.args.way.now c.args.folder.now _ files c.in-None.ensures.parts
+    c.in_ok-path-in-None.ensures.0)) c.lay_kept_node.ensures.takes

@@ -13,6 +13,7 @@ use Rattle.tree_store.specs.Ahead.{Ahead}
 use Rattle.tree_store.specs.Source.{source_seen}
 use Rattle.tree_store.proofs.Right.{way_made}
 use Rattle.tree_store.proofs.PartlyLaid.{root_made, root_partly}
+use Rattle.tree_store.proofs.Takes.{done_then, takes_tree}
 use Rattle.tree_store.proofs.laying_kept.lay_ahead.Goals as goal
 
 pub returns-in_err-or_blame-clause-leaves : goal.returns-in_err-or_blame-clause-leaves
@@ -86,3 +87,9 @@ returns-clause-ended g c = λ tree fit ahead.
     (made_so g.W.World _ c.make_folder.result _ _ c.make_folder.ensures.ok c.make_folder.ensures.err
     c.make_folder.ensures.runs c.make_folder.ensures.misused).files ahead)
     (c.lay_kept_at.ensures.lays tree [] fit)
+
+pub returns-clause-takes : goal.returns-clause-takes
+returns-clause-takes g c = done_then _ _ c.lay_kept_at.result
+    (takes_tree c.args.root.now c.args.place.now _ _ _ _ _ (plain_path c.args.root.now _ c.requires.apart)
+    (when_ok c.make_folder.result c.in_ok-or_blame.ensures.ok c.make_folder.ensures.ok)
+    (g.W.World.standing c.args.world.now) c.lay_kept_at.ensures.names) c.lay_kept_at.ensures.takes

@@ -4,6 +4,7 @@ use Rattle.steps.specs.Outside.{seen}
 use Rattle.tree_store.specs.Origin.{Leaves}
 use Rattle.tree_store.specs.Source.{source_seen}
 use Rattle.tree_store.proofs.Stored.{lays_ended, leaves_ended}
+use Rattle.tree_store.proofs.Takes.{laid_ended}
 use Rattle.tree_store.proofs.laying_kept.lay_kept.Goals as goal
 
 pub returns-in_err-lay_ahead-clause-leaves : goal.returns-in_err-lay_ahead-clause-leaves
@@ -26,3 +27,7 @@ pub returns-clause-lays : goal.returns-clause-lays
 returns-clause-lays g c = λ tree fit ahead. lays_ended _ _ _ (source_seen g.O.Origin.state c.lay_ahead.new.source)
     _ _ _ c.end.ensures.digest (c.in_ok-lay_ahead.ensures.ended tree fit ahead)
     (c.in_ok-lay_ahead.ensures.lays tree fit ahead)
+
+pub returns-clause-laid : goal.returns-clause-laid
+returns-clause-laid g c = laid_ended _ _ (source_seen g.O.Origin.state c.lay_ahead.new.source) _ _ c.end.result
+    c.end.ensures.digest c.in_ok-lay_ahead.ensures.takes

@@ -14,6 +14,8 @@ use Rattle.tree_store.proofs.Contents.{piece_laid, piece_size}
 use Rattle.tree_store.proofs.PartlyLaid.{file_partly}
 use Rattle.tree_store.proofs.Partly.{partly_then}
 use Rattle.tree_store.proofs.KeptPartly.{contents_cut, contents_partly, empty_partly, partly_unread}
+use Rattle.tree_store.proofs.Takes.{contents_first, contents_last, contents_next}
+use Rattle.tree_store.proofs.Ways.{when_ok}
 use Rattle.tree_store.proofs.laying_kept.lay_kept_contents.Goals as goal
 
 pub returns-in_err-or_blame-clause-leaves : goal.returns-in_err-or_blame-clause-leaves
@@ -43,6 +45,8 @@ loop-left-init g c = record {
       c.lay_file.ensures.ok c.in_ok-or_blame.ensures.ok tt c.lay_file.ensures.around
       (λ are. c.lay_file.ensures.right (told_plain _ c.args.path.now
       (plain_path c.args.path.now _ c.requires.apart)) are) (λ is are. none_are _)));
+  taken = contents_first c.args.exec c.args.path.now c.args.len _ _ _
+      (when_ok c.lay_file.result c.in_ok-or_blame.ensures.ok c.lay_file.ensures.ok);
 }
 
 pub returns-in_err-piece-clause-leaves : goal.returns-in_err-piece-clause-leaves
@@ -122,6 +126,10 @@ loop-left-preserved g c = record {
       c.as_slice.ensures c.append.ensures.ok c.in_ok-or_blame-2.ensures.ok tt
       (appended_so g.W.World _ _ c.append.result _ _ c.append.ensures.ok c.append.ensures.err
       c.append.ensures.runs c.append.ensures.misused) c.append.ensures.misused);
+  taken = contents_next c.args.exec c.args.path.now c.args.len c.loop-left.left c.next_size-size.result
+      c.in_ok-piece.piece c.as_slice.result.now _ _ _ _ _ _ _ c.loop-left.invariant.taken c.in_ok-piece.ensures.takes
+      c.in_ok-piece.ensures.length c.next_size-size.ensures.within c.as_slice.ensures
+      (when_ok c.append.result c.in_ok-or_blame-2.ensures.ok c.append.ensures.ok);
 }
 
 pub returns-clause-lays : goal.returns-clause-lays
@@ -164,3 +172,7 @@ returns-clause-partly g c = λ bytes rest is. record {
       ((contents_partly c.args.exec c.args.path.now bytes rest c.loop-left.left _ _ _ _
       (c.loop-left.invariant.laid bytes rest is)).so ahead are);
 }
+
+pub returns-clause-takes : goal.returns-clause-takes
+returns-clause-takes g c = contents_last c.args.exec c.args.path.now c.args.len c.loop-left.left _ _ _ _ (omega arith)
+    c.loop-left.invariant.taken

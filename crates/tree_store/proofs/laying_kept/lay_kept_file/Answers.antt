@@ -12,6 +12,7 @@ use Rattle.tree_store.specs.Partly.{LaidPartly}
 use Rattle.tree_store.specs.Overlay.{items_of}
 use Rattle.tree_store.proofs.Partly.{partly_then}
 use Rattle.tree_store.proofs.KeptPartly.{part_behind, part_few, partly_unread}
+use Rattle.tree_store.proofs.Takes.{done_then, takes_file}
 use Rattle.tree_store.proofs.laying_kept.lay_kept_file.Goals as goal
 
 small : (exec : Bool) (b : ℕ) → b ≡ (if exec then 1 else 0) → b ≤ 1
@@ -83,7 +84,7 @@ returns-clause-lays g c = λ exec bytes rest. lays_few (λ few.
     (λ size. lays_as (λ files. ap (λ e. node_laid (File e bytes) c.args.path.now files)
     (exec_is exec c.in_ok-bit.bit value))
     (c.lay_kept_contents.ensures.lays bytes rest (file_size exec bytes rest c.in_ok-head.head
-    c.as_slice.result.now c.u64_of-len.result few c.as_slice.ensures size c.u64_of-len.ensures)))))
+    c.as_slice.result.now c.u64_of-len.result few c.as_slice.ensures size c.u64_of-len.ensures.value)))))
 
 pub returns-in_err-bit-clause-partly : goal.returns-in_err-bit-clause-partly
 returns-in_err-bit-clause-partly g c = λ exec bytes rest. record
@@ -114,5 +115,11 @@ returns-clause-partly g c = λ exec bytes rest. part_few (λ few.
           (exec_is exec c.in_ok-bit.bit value)
           ((c.lay_kept_contents.ensures.partly bytes rest
           (file_size exec bytes rest c.in_ok-head.head c.as_slice.result.now c.u64_of-len.result few
-          c.as_slice.ensures size c.u64_of-len.ensures)).so ahead are);
+          c.as_slice.ensures size c.u64_of-len.ensures.value)).so ahead are);
     })))
+
+pub returns-clause-takes : goal.returns-clause-takes
+returns-clause-takes g c = done_then _ _ c.lay_kept_contents.result
+    (takes_file c.args.path.now c.in_ok-head.head c.as_slice.result.now c.in_ok-bit.bit c.u64_of-len.result
+    _ _ _ _ _ _ _ _ (omega arith) c.in_ok-bit.ensures.takes c.in_ok-head.ensures.takes c.in_ok-head.ensures.length
+    c.as_slice.ensures c.u64_of-len.ensures.bytes) c.lay_kept_contents.ensures.takes

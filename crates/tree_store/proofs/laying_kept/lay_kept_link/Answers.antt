@@ -10,6 +10,7 @@ use Rattle.tree_store.proofs.Ahead.{does_called, lays_as, lays_behind, leaves_br
 use Rattle.tree_store.proofs.Ahead.{leaves_then, lays_never, none_are, plain_path, reads_stop, told_plain}
 use Rattle.tree_store.proofs.PartlyLaid.{link_partly}
 use Rattle.tree_store.proofs.KeptPartly.{part_behind, partly_unread}
+use Rattle.tree_store.proofs.Takes.{done_of, takes_link}
 use Rattle.tree_store.proofs.laying_kept.lay_kept_link.Goals as goal
 
 text_of : (target : _) → is_target target ≡ true → is_text 4096 target ≡ true
@@ -74,3 +75,9 @@ returns-clause-partly g c = λ target rest is.
       so = λ ahead are. link_partly (Link target) c.args.path.now _ _ _
           (ap Link (sym (c.as_str-2.ensures ∙ same))) c.lay_link.ensures.partly;
     })
+
+pub returns-clause-takes : goal.returns-clause-takes
+returns-clause-takes g c = done_of _ _ c.lay_link.result c.or_blame.result c.or_blame.ensures.ok
+    (takes_link c.args.path.now c.in_ok-target.target _ _ _ _ _ _
+    (ap is_target (sym (c.as_bytes.ensures.value ∙ c.as_str.ensures)) ∙ sym c.if-not-is_target.ensures)
+    c.in_ok-target.ensures.takes c.as_str-2.ensures) c.lay_link.ensures.ok

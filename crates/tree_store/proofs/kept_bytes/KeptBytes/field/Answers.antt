@@ -1,6 +1,7 @@
 use Rattle.std.proofs.Common.{ap, arith, ◌≡◌, ◌≤◌, ◌++◌, ℕ, List, length, length-append}
 use Rattle.std.proofs.lemmas.Result.{err_from_is_err_and}
 use Rattle.tree_store.proofs.Ahead.{does_local, does_on, does_stop, leaves_local, leaves_on, leaves_stop}
+use Rattle.tree_store.proofs.Takes.{ok_then, takes_then}
 use Rattle.tree_store.proofs.kept_bytes.KeptBytes.field.Goals as goal
 
 within : (field rest : List ℕ) (len : ℕ) → length field ≡ len → len ≤ length (field ++ rest)
@@ -30,4 +31,8 @@ returns-clause-reads g c = λ field rest folders is.
     (c.in_ok-fill.ensures.reads (field ++ rest) folders (within field rest c.args.len is))
     (λ done. does_local (λ read. read ≡ field) (field ++ rest) rest folders _ _ _ _
     (c.cut.ensures.value _ field rest is) (c.cut.ensures.ahead _ field rest is)
-    (c.cut.ensures.free _ (field ++ rest)))
+    (c.cut.ensures.free _ (field ++ rest) (within field rest c.args.len is)))
+
+pub returns-clause-takes : goal.returns-clause-takes
+returns-clause-takes g c = ok_then _ _ c.cut.result
+    (λ read cut. takes_then c.in_ok-fill.ensures.takes (cut _)) c.cut.ensures.takes

@@ -4,6 +4,7 @@ use Rattle.tree_store.specs.Source.{source_seen}
 use Rattle.tree_store.proofs.Ahead.{does_failed, does_never, does_read, leaves_broken, leaves_ok, leaves_stop}
 use Rattle.tree_store.proofs.Ahead.{leaves_value}
 use Rattle.tree_store.proofs.Fields.{ahead_filled, piece_long, read_right}
+use Rattle.tree_store.proofs.Takes.{itself, takes_filled, takes_none}
 use Rattle.tree_store.proofs.kept_bytes.KeptBytes.fill.Goals as goal
 
 pub returns-then-holds-clause-leaves : goal.returns-then-holds-clause-leaves
@@ -48,3 +49,10 @@ returns-else-holds-2-clause-reads g c = λ bytes folders long. does_never _ byte
     c.in_ok-self.ensures.told ahead in
     let holds : 0 + c.args.len ≤ length c.in_ok-self.field-0 = omega (arith, some) in
     let no : false ≡ true = c.if-holds-2.ensures.1 holds in cc)
+
+pub returns-then-holds-clause-takes : goal.returns-then-holds-clause-takes
+returns-then-holds-clause-takes g c = takes_none (itself _)
+
+pub returns-then-holds-2-clause-takes : goal.returns-then-holds-2-clause-takes
+returns-then-holds-2-clause-takes g c = takes_filled (source_seen g.O.Origin.state c.args.self.now) _ _ _ refl refl refl
+    c.in_ok-self.ensures.files

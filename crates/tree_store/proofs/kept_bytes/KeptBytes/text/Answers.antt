@@ -10,6 +10,7 @@ use Rattle.tree_canon.specs.Names.{is_text}
 use Rattle.tree_canon.proofs.Texts.{text_sizes}
 use Rattle.tree_store.proofs.Ahead.{does_memory, does_value, leaves_broken, leaves_short, leaves_stop, leaves_then}
 use Rattle.tree_store.proofs.Ahead.{leaves_value, reads_on, reads_stop}
+use Rattle.tree_store.proofs.Takes.{takes_so, takes_then, text_bytes}
 use Rattle.tree_store.proofs.kept_bytes.KeptBytes.text.Goals as goal
 
 -- the length that was read
@@ -46,7 +47,7 @@ returns-then-size-most-clause-reads g c = λ text rest folders is.
     (c.in_ok-head.ensures.reads (to_be_bytes w16 (length text)) (text ++ rest) folders refl)
     (λ value.
     let size : c.u16_of-size.result ≡ length text = size_is c.args.most _ _ _ text c.requires is
-    c.as_slice.ensures value c.u16_of-size.ensures in
+    c.as_slice.ensures value c.u16_of-size.ensures.value in
     let sizes : length text ≤ c.args.most = (text_sizes c.args.most text is).1 in
     absurd (omega (arith, size, sizes)))
 
@@ -63,7 +64,7 @@ returns-in_err-bytes-clause-reads g c = λ text rest folders is.
     (c.in_ok-head.ensures.reads (to_be_bytes w16 (length text)) (text ++ rest) folders refl)
     (λ value. reads_stop (λ read. read ≡ text) (λ read. read ≡ text)
     (c.in_err-bytes.ensures.reads text rest folders
-    (sym (size_is c.args.most _ _ _ text c.requires is c.as_slice.ensures value c.u16_of-size.ensures)))))
+    (sym (size_is c.args.most _ _ _ text c.requires is c.as_slice.ensures value c.u16_of-size.ensures.value)))))
 
 pub returns-in_err-of-in-Ok-clause-leaves : goal.returns-in_err-of-in-Ok-clause-leaves
 returns-in_err-of-in-Ok-clause-leaves g c = λ path.
@@ -78,7 +79,7 @@ returns-in_err-of-in-Ok-clause-reads g c = λ text rest folders is.
     (c.in_ok-head.ensures.reads (to_be_bytes w16 (length text)) (text ++ rest) folders refl)
     (λ value. reads_on (λ read. read ≡ text) (λ read. read ≡ text)
     (c.in_ok-bytes.ensures.reads text rest folders
-    (sym (size_is c.args.most _ _ _ text c.requires is c.as_slice.ensures value c.u16_of-size.ensures)))
+    (sym (size_is c.args.most _ _ _ text c.requires is c.as_slice.ensures value c.u16_of-size.ensures.value)))
     (λ same. does_memory _ _ _ _ _ _ _ _)))
 
 pub returns-in-Ok-clause-leaves : goal.returns-in-Ok-clause-leaves
@@ -92,7 +93,7 @@ returns-in-Ok-clause-reads g c = λ text rest folders is.
     (λ value. does_value (λ read. read ≡ text) (λ read. read ≡ text) _ _ _ _ _ _ _ _ _ _ _
     (λ same. c.in_ok-of-in-Ok.ensures ∙ c.in-Ok.ensures.cases.0 ∙ c.as_slice-2.ensures ∙ same)
     (c.in_ok-bytes.ensures.reads text rest folders
-    (sym (size_is c.args.most _ _ _ text c.requires is c.as_slice.ensures value c.u16_of-size.ensures))))
+    (sym (size_is c.args.most _ _ _ text c.requires is c.as_slice.ensures value c.u16_of-size.ensures.value))))
 
 pub returns-clause-leaves : goal.returns-clause-leaves
 returns-clause-leaves g c = λ path. rw c.broken-in-Err.ensures
@@ -105,6 +106,12 @@ returns-clause-reads g c = λ text rest folders is.
     (c.in_ok-head.ensures.reads (to_be_bytes w16 (length text)) (text ++ rest) folders refl)
     (λ value. reads_on (λ read. read ≡ text) (λ read. read ≡ text)
     (c.in_ok-bytes.ensures.reads text rest folders
-    (sym (size_is c.args.most _ _ _ text c.requires is c.as_slice.ensures value c.u16_of-size.ensures)))
+    (sym (size_is c.args.most _ _ _ text c.requires is c.as_slice.ensures value c.u16_of-size.ensures.value)))
     (λ same. absurd (c.in-Err.ensures.cases.0 (IsUtf8-from_is_utf8 _
     (ap is_utf8 (c.as_slice-2.ensures ∙ same) ∙ utf8_of c.args.most text is)))))
+
+pub returns-in-Ok-clause-takes : goal.returns-in-Ok-clause-takes
+returns-in-Ok-clause-takes g c = takes_so (text_bytes c.in_ok-head.head c.as_slice.result.now _ c.in_ok-bytes.bytes
+    c.u16_of-size.result c.in_ok-head.ensures.length c.as_slice.ensures c.u16_of-size.ensures.bytes
+    c.in_ok-bytes.ensures.length (c.in_ok-of-in-Ok.ensures ∙ c.in-Ok.ensures.cases.0 ∙ c.as_slice-2.ensures))
+    (takes_then c.in_ok-head.ensures.takes c.in_ok-bytes.ensures.takes)
