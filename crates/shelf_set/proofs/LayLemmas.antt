@@ -21,7 +21,7 @@ use Rattle.steps.specs.Outside.{Seen, seen}
 use Rattle.steps.proofs.EndLaws.{files_link, files_rest}
 use Rattle.steps.specs.Steps.{Allows}
 use Rattle.tree_canon.specs.Judging.{IsJudged}
-use Rattle.tree_canon.specs.Spelling.{limit}
+use Rattle.tree_canon.specs.Spelling.{limit, spelling_of}
 use Rattle.sha2.specs.Sha256.{sha256}
 use Rattle.tree_canon.specs.declared.fault.Reason.{Reason}
 use Rattle.tree_canon.specs.declared.judging.Judged.{Judged}
@@ -44,7 +44,8 @@ use Rattle.tree_store.specs.declared.fault.StoreFault.TheVariants as store
 use Rattle.tree_store.specs.declared.laying_held.HeldFault.{HeldFault}
 use Rattle.tree_store.specs.declared.laying_held.HeldFault.TheVariants as held_fault
 use Rattle.shelf_set.specs.Dropping.{Counted}
-use Rattle.shelf_set.specs.Laying.{Clears, EndsBy, EndsTold, Fits, IsRefused, LaysChecked, TakesAt, WritesWhole}
+use Rattle.shelf_set.specs.Laying.{Clears, EndsBy, EndsFiles, EndsTold, Fits, IsRefused, LaidFiles, LaysChecked}
+use Rattle.shelf_set.specs.Laying.{TakesAt, WritesWhole}
 use Rattle.shelf_set.specs.Laying.{asked_as, damage_of, end_of, refused_as, tree_of}
 use Rattle.shelf_set.specs.declared.ask.Checked.{Checked}
 use Rattle.shelf_set.specs.declared.ask.Checked.TheVariants as checked_kind
@@ -76,6 +77,7 @@ module _ (free : Bool) (digest root : List ℕ) (shelves left : List ShelfState)
       counts = files_rest.none w;
       by = refl;
       told = λ tells fits. nothing w;
+      files = λ fits. refl;
     };
   }
 
@@ -93,6 +95,7 @@ module _ (free : Bool) (digest root : List ℕ) (shelves left : List ShelfState)
       counts = files_rest.none w;
       by = tt;
       told = λ tells fits. nothing w;
+      files = λ fits. refl;
     };
   }
 
@@ -110,6 +113,7 @@ module _ (free : Bool) (digest root : List ℕ) (shelves left : List ShelfState)
       counts = files_rest.memory w;
       by = refl;
       told = λ tells fits. (node.Folder [], lay_nothing root (codes "/") (node.Folder []) w);
+      files = λ fits. tt;
     };
   }
 
@@ -128,6 +132,7 @@ module _ (free : Bool) (digest root : List ℕ) (shelves left : List ShelfState)
       counts = files_rest.none w;
       by = refl;
       told = λ tells fits. nothing w;
+      files = λ fits. refl;
     };
   }
 
@@ -155,6 +160,13 @@ whole_told : (root : List ℕ) (tree : Node) (result : Result Found StoreFault) 
 whole_told root tree (Ok answer) old new h = h
 whole_told root tree (Err fault) old new h = (tree, h)
 
+whole_files : (root : List ℕ) (tree : Node) (result : Result Found StoreFault) (old new : Seen)
+    → WritesWhole root tree old result new
+    → EndsFiles root (Some result) (Ok (Some (judged.Tree tree))) old.files new.files
+unfolding lays_tree
+whole_files root tree (Ok answer) old new h = λ laid. h.1.0
+whole_files root tree (Err fault) old new h = tt
+
 pub turn_writes : (free : Bool) (digest root : List ℕ) (shelves left : List ShelfState) (at : ℕ)
     (before after : ShelfState) (tree : Node) (result : Result Found StoreFault) (old new : Seen)
     → Replaces shelves at before after left → Asks digest (Ok (Some (judged.Tree tree))) before after
@@ -172,6 +184,7 @@ turn_writes free digest root shelves left at before after tree result old new re
     counts = whole_counts root tree result old new h;
     by = whole_by root tree result old new h;
     told = λ tells fits. whole_told root tree result old new h;
+    files = λ fits. whole_files root tree result old new h;
   };
 }
 
@@ -195,6 +208,8 @@ checked_laid digest root shelves left at before after old new replaced h = recor
   counts = h.counts;
   by = λ tree. inl refl;
   told = λ tree holds fits. let (files, is) = told_files true root old.files fits in (refl, h.told files tree is holds);
+  laid = h.laid;
+  cleared = λ none fits. absurd (cc);
 }
 
 refused_counts : (fault : StoreFault) (old new : Seen) → FileCounts (Some (cause_of fault)) old new
@@ -250,6 +265,16 @@ refused_told root (store.Limit kind) tree old new h = absurd h.0
 refused_told root (store.NoTree digest) tree old new h = absurd h.0
 refused_told root (store.Clash digest) tree old new h = absurd h.0
 
+refused_laid : (digest root : List ℕ) (fault : StoreFault) (old new : Option Tree)
+    → LaidFiles digest root (Some (refused_as fault)) old new
+refused_laid digest root (store.File path) old new = tt
+refused_laid digest root store.Memory old new = tt
+refused_laid digest root (store.Damaged asked is bad) old new = tt
+refused_laid digest root (store.OddFile path) old new = tt
+refused_laid digest root (store.Limit kind) old new = tt
+refused_laid digest root (store.NoTree given) old new = tt
+refused_laid digest root (store.Clash given) old new = tt
+
 pub checked_refused : (digest root : List ℕ) (shelves left : List ShelfState) (at : ℕ) (before after : ShelfState)
     (fault : StoreFault) (old new : Seen) → Replaces shelves at before after left
     → LaysHeld root digest before old (Err (held_fault.Store fault)) after new
@@ -266,6 +291,8 @@ checked_refused digest root shelves left at before after fault old new replaced 
   by = λ tree. refused_by root fault tree h.blames;
   told = λ tree holds fits. let (files, is) = told_files true root old.files fits
       in refused_told root fault tree old new (h.told files tree is holds);
+  laid = refused_laid digest root fault old.files new.files;
+  cleared = λ none fits. absurd (cc);
 }
 
 -- ---- what is at a path is removed
@@ -400,28 +427,39 @@ module _ (digest root : List ℕ) (shelves left : List ShelfState) (at : ℕ) (b
   cleared_by tree (Some (Ok answer)) c = absurd c.by
   cleared_by tree (Some (Err fault)) c = c.by
 
+  cleared_laid : (end : Option (Result Found StoreFault)) → Clears root end mid new
+      → LaidFiles digest root end old.files new.files
+  cleared_laid None c = tt
+  cleared_laid (Some (Ok answer)) c = absurd c.by
+  cleared_laid (Some (Err fault)) c = tt
+
   around_all : LeavesAround root old new
   around_all = onward root old mid new h.around clears.around
+
+  -- nothing was at the path, and nothing is left there
+  cleared_files : (end : Option (Result Found StoreFault)) → Clears root end mid new → end ≡ None
+      → Fits true root old.files → new.files ≡ old.files
+  unfolding KeptAround
+  cleared_files (Some answer) c none fits = absurd (cc)
+  cleared_files None c none fits = by old.files mid.files refl refl tree tree1 h.around.files fits
+    where
+      by : (o o1 : Option Tree) → old.files ≡ o → mid.files ≡ o1 → IfSome o IsTree → IfSome o1 IsTree
+          → KeptAround root o o1 → Fits true root o → new.files ≡ old.files
+      by None o1 is e standing standing1 kept fits = absurd fits
+      by (Some files) None is e standing standing1 kept fits = absurd kept
+      by (Some files) (Some now) is e standing standing1 kept fits = c.files ∙ ap (option_map (without root)) e
+          ∙ ap Some (cleared_again root files standing fits.0 now standing1 plain some (fits.1 refl) kept) ∙ sym is
 
   cleared_told : (node : Node) (files : Tree) → old.files ≡ Some files → IsTree files → HoldsTree before digest node
       → is_folder (item_at files (parent_of root)) ≡ true → item_at files root ≡ None
       → (end : Option (Result Found StoreFault)) → Clears root end mid new → FileCounts (end_of end) old new
       → EndsTold root end (Err shelf.Failed) old new
   unfolding KeptAround lays_tree
-  cleared_told node files is standing holds there none None c counts = by mid.files refl tree1 h.around.files
-      (h.told files node is holds)
-    where
-      by : (o : Option Tree) → mid.files ≡ o → IfSome o IsTree → KeptAround root old.files o
-          → LaidPartly root (items_placed root (codes "/") node) old.files mid.files
-          × Allows (can_lay root (codes "/") node) old mid → LaysNothing old new
-      by None e tree1 kept told = absurd (subst (λ o. KeptAround root o None) is kept)
-      by (Some now) e tree1 kept told = record {
-        files = c.files ∙ ap (option_map (without root)) e
-            ∙ ap Some (cleared_again root files standing there now tree1 plain some none
-            (subst (λ o. KeptAround root o (Some now)) is kept)) ∙ sym is;
-        misused = c.same ∙ allowed root files old mid is node told.1
-            (can_lay_there root files standing there node plain none);
-      }
+  cleared_told node files is standing holds there none None c counts = record {
+    files = cleared_files None c refl (subst (Fits true root) (sym is) (there, λ free. none));
+    misused = c.same ∙ allowed root files old mid is node (h.told files node is holds).1
+        (can_lay_there root files standing there node plain none);
+  }
   cleared_told node files is standing holds there none (Some (Ok answer)) c counts = absurd c.by
   cleared_told node files is standing holds there none (Some (Err fault)) c counts = by mid.files refl
       (h.told files node is holds)
@@ -457,6 +495,8 @@ module _ (digest root : List ℕ) (shelves left : List ShelfState) (at : ℕ) (b
     counts = link_none old mid new end h.counts clears.counts;
     by = λ tree. cleared_by tree end clears;
     told = λ node holds fits. by old.files refl tree holds fits;
+    laid = cleared_laid end clears;
+    cleared = cleared_files end clears;
   }
     where
       by : (o : Option Tree) → old.files ≡ o → IfSome o IsTree → {node : Node} → HoldsTree before digest node
@@ -493,6 +533,17 @@ same_places a b c at x y z w first next =
       },
     )
 
+-- what a turn leaves, where it is told
+files_told : (root : List ℕ) (end : Option (Result Found StoreFault)) (asked : Result (Option Judged) ShelfFault)
+    (old new : Seen) → EndsTold root end asked old new → EndsFiles root end asked old.files new.files
+unfolding lays_tree
+files_told root None asked old new h = h.files
+files_told root (Some (Err fault)) asked old new h = tt
+files_told root (Some (Ok answer)) (Ok None) old new h = h.files
+files_told root (Some (Ok answer)) (Ok (Some (judged.Damaged a d bad))) old new h = h.files
+files_told root (Some (Ok answer)) (Ok (Some (judged.Tree tree))) old new h = λ same. h.1.0
+files_told root (Some (Ok answer)) (Err fault) old new h = tt
+
 module _ (digest root : List ℕ) (shelves between left : List ShelfState) (at : ℕ) (before mid : ShelfState)
     (tree : Node) (failed : Bool) (end : Option (Result Found StoreFault)) (old new : Seen)
     (first : Replaces shelves at before mid between) (asks : Asks digest (Ok (Some (judged.Tree tree))) before mid)
@@ -503,11 +554,17 @@ module _ (digest root : List ℕ) (shelves between left : List ShelfState) (at :
   after_held : laid.after.held ≡ before.held
   after_held = laid.held ∙ ap (λ (s : ShelfState). s.held) (sym places.0) ∙ asks.held
 
+  kept_rows : laid.after.rows ≡ before.rows
+  kept_rows = laid.rows ∙ ap (λ (s : ShelfState). s.rows) (sym places.0) ∙ asks.rows
+
+  kept_faults : laid.after.faults ≡ laid.before.faults → laid.after.faults ≡ before.faults
+  kept_faults counted = counted ∙ ap (λ (s : ShelfState). s.faults) (sym places.0) ∙ asks.faults
+
   asks_then : (v : Bool) → Counted v laid.before.faults laid.after.faults
       → Asks digest (asked_as tree v) before laid.after
   asks_then true counted = record {
     held = after_held;
-    rows = laid.rows ∙ ap (λ (s : ShelfState). s.rows) (sym places.0) ∙ asks.rows;
+    rows = kept_rows;
     faults = subst (λ n. Rose n laid.after.faults) (ap (λ (s : ShelfState). s.faults) (sym places.0) ∙ asks.faults)
         counted;
     bytes = None;
@@ -520,16 +577,16 @@ module _ (digest root : List ℕ) (shelves between left : List ShelfState) (at :
       unsaid (Some h) = tt
   asks_then false counted = record {
     held = after_held;
-    rows = laid.rows ∙ ap (λ (s : ShelfState). s.rows) (sym places.0) ∙ asks.rows;
-    faults = counted ∙ ap (λ (s : ShelfState). s.faults) (sym places.0) ∙ asks.faults;
+    rows = kept_rows;
+    faults = kept_faults counted;
     bytes = asks.bytes;
     judged = asks.judged;
     told = asks.told;
   }
 
-  fails_as : (v : Bool) → v ≡ is_failed (asked_as tree v)
-  fails_as true = refl
-  fails_as false = refl
+  fails_as : (given : Node) (v : Bool) → v ≡ is_failed (asked_as given v)
+  fails_as given true = refl
+  fails_as given false = refl
 
   holds : Tells before → HoldsTree laid.before digest tree
   holds tells = subst (λ s. HoldsTree s digest tree) places.0 (by before.held refl asks.bytes asks.judged asks.told)
@@ -541,21 +598,82 @@ module _ (digest root : List ℕ) (shelves between left : List ShelfState) (at :
       by (Some h) e None j told = absurd (cc)
       by (Some h) e (Some bytes) j told = spelled_held digest bytes tree mid h (asks.held ∙ e) told j
 
-  pub turn_checked : TakesAt true digest root shelves at failed end left old new
-  turn_checked = record {
+  -- a shelf that tells what it holds gave the tree that was judged
+  turn_told : Tells before → TakesAt true digest root shelves at failed end left old new
+  turn_told tells = record {
     asked = asked_as tree failed;
     before = before;
     after = laid.after;
     replaced = places.1;
     asks = asks_then failed laid.faults;
-    fails = fails_as failed;
+    fails = fails_as tree failed;
     ends = record {
       around = laid.around;
       counts = laid.counts;
       by = laid.by tree;
       told = λ tells fits. laid.told tree (holds tells) fits;
+      files = λ fits. files_told root end (asked_as tree failed) old new (laid.told tree (holds tells) fits);
     };
   }
+
+  -- of one that doesn't, what it was asked is what it gave last
+  turn_untold : (given : Node) → before.held ≡ None → Asks digest (asked_as given failed) before laid.after
+      → (Fits true root old.files → EndsFiles root end (asked_as given failed) old.files new.files)
+      → TakesAt true digest root shelves at failed end left old new
+  turn_untold given none asks files = record {
+    asked = asked_as given failed;
+    before = before;
+    after = laid.after;
+    replaced = places.1;
+    asks = asks;
+    fails = fails_as given failed;
+    ends = record {
+      around = laid.around;
+      counts = laid.counts;
+      by = laid.by given;
+      told = λ tells fits. absurd (let no : is_some before.held ≡ false = ap is_some none in cc);
+      files = files;
+    };
+  }
+
+  pub turn_checked : TakesAt true digest root shelves at failed end left old new
+  turn_checked = by before.held refl
+    where
+      untold : before.held ≡ None → (v : Bool) → failed ≡ v → (e : Option (Result Found StoreFault)) → end ≡ e
+          → EndsBy root (asked_as tree v) e → LaidFiles digest root e old.files new.files
+          → TakesAt true digest root shelves at failed end left old new
+      untold none v is None ends h files = turn_untold tree none (asks_then failed laid.faults)
+          (λ fits. subst (λ e. EndsFiles root e (asked_as tree failed) old.files new.files) (sym ends)
+          (laid.cleared ends fits))
+      untold none v is (Some (Err fault)) ends h files = turn_untold tree none (asks_then failed laid.faults)
+          (λ fits. subst (λ e. EndsFiles root e (asked_as tree failed) old.files new.files) (sym ends) tt)
+      untold none true is (Some (Ok answer)) ends h files = absurd h
+      untold none false is (Some (Ok found.Laid)) ends h files = turn_untold files.tree none
+          (subst (λ v. Asks digest (asked_as files.tree v) before laid.after) (sym is) (record {
+            held = after_held;
+            rows = kept_rows;
+            faults = kept_faults (subst (λ v. Counted v laid.before.faults laid.after.faults) is laid.faults);
+            bytes = Some (spelling_of files.tree);
+            judged = (files.named, record { fit = files.fit; size = files.size; is = refl });
+            told = subst (λ (o : Option Held). IfSome o (λ h. Some (spelling_of files.tree) ≡ get h digest)) (sym none)
+                tt;
+          }))
+          (λ fits. subst (λ v. EndsFiles root end (asked_as files.tree v) old.files new.files) (sym is)
+          (subst (λ e. EndsFiles root e (Ok (Some (judged.Tree files.tree))) old.files new.files) (sym ends)
+          (λ same. files.files)))
+      untold none false is (Some (Ok found.None)) ends h files = turn_untold tree none (asks_then failed laid.faults)
+          (λ fits. subst (λ v. EndsFiles root end (asked_as tree v) old.files new.files) (sym is)
+          (subst (λ e. EndsFiles root e (Ok (Some (judged.Tree tree))) old.files new.files) (sym ends)
+          (λ same. absurd (cc))))
+      untold none false is (Some (Ok (found.Damaged asked got bad))) ends h files = turn_untold tree none
+          (asks_then failed laid.faults)
+          (λ fits. subst (λ v. EndsFiles root end (asked_as tree v) old.files new.files) (sym is)
+          (subst (λ e. EndsFiles root e (Ok (Some (judged.Tree tree))) old.files new.files) (sym ends)
+          (λ same. absurd (cc))))
+
+      by : (o : Option Held) → before.held ≡ o → TakesAt true digest root shelves at failed end left old new
+      by (Some h) is = turn_told (ap is_some is)
+      by None is = untold is failed refl end refl (laid.by tree) laid.laid
 
 -- ---- what laying a tree that was judged comes to
 

@@ -24,7 +24,8 @@ use Rattle.tree_store.specs.declared.fault.StoreFault.{StoreFault}
 use Rattle.tree_store.specs.declared.fault.StoreFault.TheVariants as store
 use Rattle.shelf_set.specs.Caches.{Caches, world_and_caches}
 use Rattle.shelf_set.specs.Finding.{Finds, InCaches, IsFound, LeavesSearched, Whole, Missing, Broken}
-use Rattle.shelf_set.specs.Laying.{AnswersBy, AnswersTold, FindsFree, Fits, IsRefused, LooksAt, SearchesTree}
+use Rattle.shelf_set.specs.Laying.{AnswersBy, AnswersFiles, AnswersTold, FindsFree, Fits, IsRefused, LooksAt}
+use Rattle.shelf_set.specs.Laying.{SearchesTree}
 use Rattle.shelf_set.specs.Restoring.{AllTell, HasFolder, LaysNothing, RestoresBy}
 use Rattle.shelf_set.specs.Restoring.{restores_tree}
 use Rattle.shelf_set.specs.Searching.{HoldsJudged}
@@ -122,6 +123,10 @@ module _ (digest root : List ℕ) (a b c : Seen) (old new : Caches) (free : Bool
     told : AllTell old → HasFolder root a.files → AnswersTold root found s.found b c
     told tell there = s.told tell (fits a.files refl there)
 
+    files : HasFolder root a.files → AnswersFiles root found s.found a.files c.files
+    files there = subst (λ o. AnswersFiles root found s.found o c.files) looked.files
+        (s.files (fits a.files refl there))
+
     around_all : LeavesAround root a c
     around_all = onward root a b c (looked_around root (Ok free) a b looked) s.around
 
@@ -154,7 +159,7 @@ module _ (digest root : List ℕ) (a b c : Seen) (old new : Caches) (free : Bool
   search_ends search gone s = record {
     around = around_all (Ok search.found) s;
     counts = counts_all (Ok search.found) s;
-    by = by s.found refl s.by (told (Ok search.found) s);
+    by = by s.found refl s.by (told (Ok search.found) s) (files (Ok search.found) s);
     tell = searched_tell digest old new (searched (Ok search.found) s);
   }
     where
@@ -165,32 +170,36 @@ module _ (digest root : List ℕ) (a b c : Seen) (old new : Caches) (free : Bool
 
       by : (found : Result (Option Judged) Memory) → s.found ≡ found → AnswersBy root (Ok search.found) found
           → (AllTell old → HasFolder root a.files → AnswersTold root (Ok search.found) s.found b c)
+          → (HasFolder root a.files → AnswersFiles root (Ok search.found) s.found a.files c.files)
           → RestoresBy digest root (world_and_caches a old) (Ok search) (world_and_caches c new)
-      by (Err memory) is h told = absurd h
-      by (Ok None) is h told = (
+      by (Err memory) is h told files = absurd h
+      by (Ok None) is h told files = (
         Missing,
         found_as None is,
         inl h,
+        λ there same. subst (λ f. AnswersFiles root (Ok search.found) f a.files c.files) is (files there),
         λ tell there. (
           h,
           nothing_on a b c (looked_nothing root (Ok free) a b looked)
               (subst (λ f. AnswersTold root (Ok search.found) f b c) is (told tell there)),
         ),
       )
-      by (Ok (Some (judged.Damaged asked d bad))) is h told = (
+      by (Ok (Some (judged.Damaged asked d bad))) is h told files = (
         Broken asked d bad,
         found_as (Some (judged.Damaged asked d bad)) is,
         inl h,
+        λ there same. subst (λ f. AnswersFiles root (Ok search.found) f a.files c.files) is (files there),
         λ tell there. (
           h,
           nothing_on a b c (looked_nothing root (Ok free) a b looked)
               (subst (λ f. AnswersTold root (Ok search.found) f b c) is (told tell there)),
         ),
       )
-      by (Ok (Some (judged.Tree tree))) is h told = (
+      by (Ok (Some (judged.Tree tree))) is h told files = (
         Whole tree,
         found_as (Some (judged.Tree tree)) is,
         h,
+        λ there same. subst (λ f. AnswersFiles root (Ok search.found) f a.files c.files) is (files there) same,
         λ tell there. let laid = subst (λ f. AnswersTold root (Ok search.found) f b c) is (told tell there) in (
           laid.0,
           lays_from root (codes "/") tree a b c (Ok tt) (looked_nothing root (Ok free) a b looked)

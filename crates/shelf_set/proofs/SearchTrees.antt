@@ -5,6 +5,7 @@ use Rattle.std.proofs.Common.{length, Option, Some, None, Result, Ok, Err}
 use Rattle.std.specs.List.{AllByRecursion}
 use Rattle.std.specs.Option.{option_map}
 use Rattle.cnb_world.specs.Calls.{MayMisuse}
+use Rattle.cnb_world.specs.Tree.{Tree}
 use Rattle.cnb_world.specs.declared.shelf.ShelfFault.{ShelfFault}
 use Rattle.cnb_world.specs.declared.shelf.ShelfFault.TheVariants as shelf
 use Rattle.cnb_world.specs.declared.values.Memory.{Memory}
@@ -24,9 +25,8 @@ use Rattle.tree_store.specs.declared.fault.StoreFault.TheVariants as store
 use Rattle.tree_store.specs.declared.fault.StoreFault.{StoreFault}
 use Rattle.shelf_set.specs.Dropping.{Turn, after_of, before_of, failed_of, left_of, number_of}
 use Rattle.shelf_set.specs.Finding.{TellsSame}
-use Rattle.shelf_set.specs.Laying.{AnswersBy, AnswersTold, EndsBy, EndsTold, Fits, IsRefused, Passes, SearchesTree}
-use Rattle.shelf_set.specs.Laying.{TakesTree}
-use Rattle.shelf_set.specs.Laying.{TurnEnds}
+use Rattle.shelf_set.specs.Laying.{AnswersBy, AnswersFiles, AnswersTold, EndsBy, EndsFiles, EndsTold, Fits, IsRefused}
+use Rattle.shelf_set.specs.Laying.{JudgedFiles, Passes, SearchesTree, TakesTree, TurnEnds}
 use Rattle.shelf_set.specs.Restoring.{LaysNothing, Tells}
 use Rattle.shelf_set.specs.Searching.{Asks, Searches, Searching}
 use Rattle.shelf_set.specs.ShelfState.{ShelfState}
@@ -64,14 +64,19 @@ lays_from root place tree a b c (Err fault) nothing around counts (cause, after,
   subst (λ o. LaidPartly root (items_placed root place tree) o c.files) nothing.files partly,
 )
 
-fits_on : (free : Bool) (root : List ℕ) (a b : Seen) → LaysNothing a b → Fits free root a.files → Fits free root b.files
-fits_on free root a b nothing fits = subst (Fits free root) (sym nothing.files) fits
+fits_on : (free : Bool) (root : List ℕ) (o o1 : Option Tree) → o1 ≡ o → Fits free root o → Fits free root o1
+fits_on free root o o1 same fits = subst (Fits free root) (sym same) fits
+
+judged_from : (root : List ℕ) (answer : Found) (given : Option Judged) (o o1 o2 : Option Tree) → o1 ≡ o
+    → JudgedFiles root answer given o1 o2 → JudgedFiles root answer given o o2
+judged_from root answer given o o1 o2 same h = subst (λ x. JudgedFiles root answer given x o2) same h
 
 pub none_passed : (free : Bool) (root : List ℕ) (shelves : List ShelfState) (w : Seen) → Passes free root shelves w w
 none_passed free root shelves w = record {
   around = itself root w;
   counts = files_rest.none w;
   told = λ tell fits. record { files = refl; misused = refl };
+  files = λ fits. refl;
 }
 
 pub passes_on : (free : Bool) (root : List ℕ) (shelves : List ShelfState) (asked : Result (Option Judged) ShelfFault)
@@ -81,7 +86,8 @@ passes_on free root shelves asked before a b c tells p t = record {
   around = onward root a b c p.around t.around;
   counts = files_link None a b c p.counts t.counts;
   told = λ tell fits. let n = p.told tell fits in nothing_on a b c n
-      (t.told (tells tell) (fits_on free root a b n fits));
+      (t.told (tells tell) (fits_on free root a.files b.files n.files fits));
+  files = λ fits. let same = p.files fits in t.files (fits_on free root a.files b.files same fits) ∙ same;
 }
 
 -- ---- the shelf whose turn it is tells what it holds
@@ -191,7 +197,12 @@ module _ (free : Bool) (digest root : List ℕ) (old now new : List ShelfState) 
     told_end : (answer : Result Found StoreFault) → end ≡ Some answer → AllByRecursion Tells old
         → Fits free root first.files → EndsTold root (Some answer) k.asked a b
     told_end answer is tell fits = (ends_all answer is).told (turn_tells tell)
-        (fits_on free root first a (s.passes.told tell fits) fits)
+        (fits_on free root first.files a.files (s.passes.files fits) fits)
+
+    files_end : (r : Result (Option Judged) ShelfFault) (answer : Result Found StoreFault) → k.asked ≡ r
+        → end ≡ Some answer → Fits free root first.files → EndsFiles root (Some answer) r a.files b.files
+    files_end r answer asks is fits = subst (λ r. EndsFiles root (Some answer) r a.files b.files) asks
+        ((ends_all answer is).files (fits_on free root first.files a.files (s.passes.files fits) fits))
 
     refused_from : (fault : StoreFault) → AllByRecursion Tells old → Fits free root first.files
         → IsRefused root fault a b → IsRefused root fault first b
@@ -211,14 +222,16 @@ module _ (free : Bool) (digest root : List ℕ) (old now new : List ShelfState) 
     with_found : (answer : Result Found StoreFault) (found : Result (Option Judged) Memory) → end ≡ Some answer
         → Searches old places digest found new later (next + (length places - asked - 1))
         → AnswersBy root answer found → (AllByRecursion Tells old → Fits free root first.files
-        → AnswersTold root answer found first b) → Ends answer
-    with_found answer found is searches by told = record {
+        → AnswersTold root answer found first b)
+        → (Fits free root first.files → AnswersFiles root answer found first.files b.files) → Ends answer
+    with_found answer found is searches by told files = record {
       found = found;
       searches = searches;
       around = onward root first a b s.passes.around (ends_all answer is).around;
       counts = files_link (ended_by cause_of answer) first a b s.passes.counts (ends_all answer is).counts;
       by = by;
       told = told;
+      files = files;
     }
 
     told_as : (r : Result (Option Judged) ShelfFault) (answer : Result Found StoreFault) → k.asked ≡ r
@@ -239,18 +252,23 @@ module _ (free : Bool) (digest root : List ℕ) (old now new : List ShelfState) 
           lays_from root (codes "/") tree first a b (Ok tt) (s.passes.told tell fits) s.passes.around s.passes.counts
               laid.1,
         ))
+        (λ fits. judged_from root value (Some (judged.Tree tree)) first.files a.files b.files (s.passes.files fits)
+        (files_end (Ok (Some (judged.Tree tree))) (Ok value) asks is fits))
     ended_by_turn memory (Ok (Some (judged.Tree tree))) (Err fault) asks is h =
         with_found (Err fault) (Ok (Some (judged.Tree tree))) is
         (holding old now new places numbers later digest at asked next lt s.searching (judged.Tree tree)
         (turn_of _ asks)) h
         (λ tell fits. refused_from fault tell fits
         (told_as (Ok (Some (judged.Tree tree))) (Err fault) asks is tell fits))
+        (λ fits. tt)
     ended_by_turn memory (Ok (Some (judged.Damaged d f bad))) (Ok value) asks is h =
         with_found (Ok value) (Ok (Some (judged.Damaged d f bad))) is
         (holding old now new places numbers later digest at asked next lt s.searching (judged.Damaged d f bad)
         (turn_of _ asks)) (cc)
         (λ tell fits. nothing_on first a b (s.passes.told tell fits)
         (told_as (Ok (Some (judged.Damaged d f bad))) (Ok value) asks is tell fits))
+        (λ fits. judged_from root value (Some (judged.Damaged d f bad)) first.files a.files b.files
+        (s.passes.files fits) (files_end (Ok (Some (judged.Damaged d f bad))) (Ok value) asks is fits))
     ended_by_turn memory (Ok (Some (judged.Damaged d f bad))) (Err fault) asks is h = absurd (cc)
     ended_by_turn memory (Err shelf.Failed) (Ok value) asks is h = absurd h
     ended_by_turn memory (Err shelf.Failed) (Err fault) asks is h =
@@ -258,6 +276,7 @@ module _ (free : Bool) (digest root : List ℕ) (old now new : List ShelfState) 
         (stopped old now new places numbers later digest at asked next lt s.searching shelf.Failed memory
         (turn_of _ asks)) h
         (λ tell fits. refused_from fault tell fits (told_as (Err shelf.Failed) (Err fault) asks is tell fits))
+        (λ fits. tt)
     ended_by_turn memory (Err shelf.Memory) (Ok value) asks is h = absurd (cc)
     ended_by_turn memory (Err shelf.Memory) (Err fault) asks is h =
         with_found (Err fault) (Err memory) is
@@ -265,6 +284,7 @@ module _ (free : Bool) (digest root : List ℕ) (old now new : List ShelfState) 
         (turn_of _ asks))
         (let same : fault ≡ store.Memory = cc in subst (λ f. IsCauseWithin root (cause_of f)) (sym same) tt)
         (λ tell fits. refused_from fault tell fits (told_as (Err shelf.Memory) (Err fault) asks is tell fits))
+        (λ fits. tt)
 
     pub ended : (memory : Memory) (answer : Result Found StoreFault) (count : ℕ) → end ≡ Some answer
         → count ≡ length places
@@ -285,4 +305,5 @@ nowhere_tree free digest root old new places numbers at asked first w s all = re
   counts = s.passes.counts;
   by = refl;
   told = s.passes.told;
+  files = s.passes.files;
 }

@@ -17,7 +17,8 @@ use Rattle.tree_canon.specs.declared.judging.Judged.TheVariants as judged
 use Rattle.tree_canon.specs.declared.node.Node.{Node}
 use Rattle.tree_store.specs.Answers.{cause_of}
 use Rattle.tree_store.specs.Around.{LeavesAround}
-use Rattle.tree_store.specs.Held.{HoldsTree}
+use Rattle.tree_store.specs.Held.{HoldsTree, LaysSome}
+use Rattle.tree_store.specs.Overlay.{tree_laid}
 use Rattle.tree_store.specs.Steps.{IsCauseWithin, lays_tree}
 use Rattle.tree_store.specs.declared.fault.StoreFault.{StoreFault}
 use Rattle.tree_store.specs.declared.fault.StoreFault.TheVariants as store
@@ -64,6 +65,20 @@ EndsTold root (Some (Ok answer)) (Ok (Some (judged.Damaged asked is bad))) old n
 EndsTold root (Some (Ok answer)) (Ok None) old new = LaysNothing old new
 EndsTold root (Some (Ok answer)) (Err fault) old new = LaysNothing old new
 
+-- the files by what a shelf gave, whatever it tells: where nothing was refused, a tree was laid, or nothing
+abbrev pub JudgedFiles : List ℕ → Found → Option Judged → Option Tree → Option Tree → Type 0
+JudgedFiles root answer None old new = new ≡ old
+JudgedFiles root answer (Some (judged.Damaged asked is bad)) old new = new ≡ old
+JudgedFiles root answer (Some (judged.Tree tree)) old new =
+    answer ≡ found.Laid → new ≡ option_map (tree_laid root (codes "/") tree) old
+
+abbrev pub EndsFiles : List ℕ → Option (Result Found StoreFault) → Result (Option Judged) ShelfFault → Option Tree
+    → Option Tree → Type 0
+EndsFiles root None asked old new = new ≡ old
+EndsFiles root (Some (Err fault)) asked old new = Unit {0}
+EndsFiles root (Some (Ok answer)) (Ok given) old new = JudgedFiles root answer given old new
+EndsFiles root (Some (Ok answer)) (Err fault) old new = Unit {0}
+
 abbrev pub end_of : Option (Result Found StoreFault) → Option Cause
 end_of None = None
 end_of (Some result) = ended_by cause_of result
@@ -74,6 +89,7 @@ pub record TurnEnds (free : Bool) (root : List ℕ) (asked : Result (Option Judg
   pub counts : FileCounts (end_of end) old new
   pub by : EndsBy root asked end
   pub told : Tells before → Fits free root old.files → EndsTold root end asked old new
+  pub files : Fits free root old.files → EndsFiles root end asked old.files new.files
 
 -- the shelf at a place is asked for a tree, which is laid at a path where it has it
 pub record TakesAt (free : Bool) (digest root : List ℕ) (shelves : List ShelfState) (at : ℕ) (failed : Bool)
@@ -91,7 +107,15 @@ abbrev pub asked_as : Node → Bool → Result (Option Judged) ShelfFault
 asked_as tree true = Err shelf.Failed
 asked_as tree false = Ok (Some (judged.Tree tree))
 
--- a tree that was judged is laid
+-- the tree that was laid is one of the digest
+abbrev pub LaidFiles : List ℕ → List ℕ → Option (Result Found StoreFault) → Option Tree → Option Tree → Type 0
+LaidFiles digest root None old new = Unit {0}
+LaidFiles digest root (Some (Err fault)) old new = Unit {0}
+LaidFiles digest root (Some (Ok found.Laid)) old new = LaysSome root digest old new
+LaidFiles digest root (Some (Ok found.None)) old new = Unit {0}
+LaidFiles digest root (Some (Ok (found.Damaged asked is bad))) old new = Unit {0}
+
+-- a tree that was judged is laid, or one whose bytes came in their place
 pub record LaysChecked (digest root : List ℕ) (shelves : List ShelfState) (at : ℕ) (failed : Bool)
     (end : Option (Result Found StoreFault)) (left : List ShelfState) (old new : Seen) : Type 0 where
   pub before : ShelfState
@@ -105,6 +129,8 @@ pub record LaysChecked (digest root : List ℕ) (shelves : List ShelfState) (at 
   pub by : (tree : Node) → EndsBy root (asked_as tree failed) end
   pub told : (tree : Node) → HoldsTree before digest tree → Fits true root old.files
       → EndsTold root end (asked_as tree failed) old new
+  pub laid : LaidFiles digest root end old.files new.files
+  pub cleared : end ≡ None → Fits true root old.files → new.files ≡ old.files
 
 -- the same, with the shelf settled
 pub record TakesTree (free : Bool) (digest root : List ℕ) (shelves : List ShelfState) (numbers : List ℕ) (at : ℕ)
@@ -120,6 +146,7 @@ pub record Passes (free : Bool) (root : List ℕ) (shelves : List ShelfState) (o
   pub around : LeavesAround root old now
   pub counts : FileCounts None old now
   pub told : AllByRecursion Tells shelves → Fits free root old.files → LaysNothing old now
+  pub files : Fits free root old.files → now.files ≡ old.files
 
 -- what a search answers, by what was found
 abbrev pub AnswersBy : List ℕ → Result Found StoreFault → Result (Option Judged) Memory → Type 0
@@ -137,6 +164,12 @@ AnswersTold root (Ok answer) (Ok (Some (judged.Damaged asked is bad))) old new =
 AnswersTold root (Ok answer) (Ok None) old new = LaysNothing old new
 AnswersTold root (Ok answer) (Err memory) old new = LaysNothing old new
 
+abbrev pub AnswersFiles : List ℕ → Result Found StoreFault → Result (Option Judged) Memory → Option Tree → Option Tree
+    → Type 0
+AnswersFiles root (Err fault) found old new = Unit {0}
+AnswersFiles root (Ok answer) (Ok given) old new = JudgedFiles root answer given old new
+AnswersFiles root (Ok answer) (Err memory) old new = Unit {0}
+
 -- a search, and what it answers and leaves
 pub record SearchesTree (free : Bool) (digest root : List ℕ) (shelves : List ShelfState) (places : List ℕ)
     (answer : Result Found StoreFault) (left : List ShelfState) (numbers : List ℕ) (standing : ℕ)
@@ -147,6 +180,7 @@ pub record SearchesTree (free : Bool) (digest root : List ℕ) (shelves : List S
   pub counts : FileCounts (ended_by cause_of answer) old new
   pub by : AnswersBy root answer found
   pub told : AllByRecursion Tells shelves → Fits free root old.files → AnswersTold root answer found old new
+  pub files : Fits free root old.files → AnswersFiles root answer found old.files new.files
 
 -- a tree is written whole
 abbrev pub WritesWhole : List ℕ → Node → Seen → Result Found StoreFault → Seen → Type 0

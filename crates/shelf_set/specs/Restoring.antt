@@ -1,6 +1,7 @@
 -- Restoring a tree from caches: it is searched, and laid where a cache has it.
 use Rattle.std.specs.Prelude.{ℕ, true, ◌≡◌, ◌⊎◌, List, codes, Option, Some, None, Result, Ok, Err, IsTrue, is_some}
 use Rattle.std.specs.List.{AllByRecursion}
+use Rattle.std.specs.Option.{option_map}
 use Rattle.cnb_world.specs.Path.{parent_of}
 use Rattle.cnb_world.specs.Tree.{Tree, is_folder, item_at}
 use Rattle.steps.specs.Causes.{ended_by}
@@ -9,6 +10,7 @@ use Rattle.steps.specs.Outside.{Seen}
 use Rattle.tree_canon.specs.declared.node.Node.{Node}
 use Rattle.tree_store.specs.Answers.{cause_of}
 use Rattle.tree_store.specs.Around.{LeavesAround}
+use Rattle.tree_store.specs.Overlay.{tree_laid}
 use Rattle.tree_store.specs.Steps.{IsCauseWithin, lays_tree}
 use Rattle.tree_store.specs.declared.fault.StoreFault.{StoreFault}
 use Rattle.shelf_set.specs.Caches.{Caches, WorldAndCaches}
@@ -53,12 +55,21 @@ LaysIn root (Whole tree) old new = lays_tree root (codes "/") tree old (Ok tt) n
 LaysIn root Missing old new = LaysNothing old new
 LaysIn root (Broken asked is bad) old new = LaysNothing old new
 
--- What caches hold decides what is answered, and where all of them tell it, what is laid. A refusal is for a failed
--- call at the path or below it, or for want of memory, and leaves a part of a tree there.
+-- the files that are laid where caches hold this
+abbrev pub LaysFiles : List ℕ → InCaches → Option Tree → Option Tree → Type 0
+LaysFiles root (Whole tree) old new = new ≡ option_map (tree_laid root (codes "/") tree) old
+LaysFiles root Missing old new = new ≡ old
+LaysFiles root (Broken asked is bad) old new = new ≡ old
+
+-- What caches hold decides what is answered and laid, except that bytes which changed meanwhile are answered as
+-- damaged. Where all caches tell what they hold, none change. A refusal is for a failed call at the path or below it,
+-- or for want of memory, and where caches tell, it leaves a part of a tree there.
 abbrev pub RestoresBy : List ℕ → List ℕ → WorldAndCaches → Result Search StoreFault → WorldAndCaches → Type 0
 RestoresBy digest root old (Ok search) new =
     (held : InCaches) × Finds old.caches.shelves old.caches.standing digest held new.caches.shelves
     new.caches.standing search.gone × ((search.found ≡ answer_of held) ⊎ IsChanged search.found)
+    × (HasFolder root old.world.files → search.found ≡ answer_of held
+    → LaysFiles root held old.world.files new.world.files)
     × (AllTell old.caches → HasFolder root old.world.files → (search.found ≡ answer_of held)
     × LaysIn root held old.world new.world)
 RestoresBy digest root old (Err fault) new =
@@ -67,7 +78,7 @@ RestoresBy digest root old (Err fault) new =
     → (tree : Node) × lays_tree root (codes "/") tree old.world (Err fault) new.world)
 
 -- The tree of a digest is searched, and laid at a path. Nothing changes but at the path and below it, and folders above
--- it may be made; of what is laid there contracts know where the caches tell what they hold.
+-- it may be made.
 pub record RestoresTree (digest root : List ℕ) (old : WorldAndCaches) (result : Result Search StoreFault)
     (new : WorldAndCaches) : Type 0 where
   pub around : LeavesAround root old.world new.world
