@@ -20,12 +20,11 @@ use Rattle.layer_flags.specs.declared.restore.RestoreRow.{RestoreRow}
 use Rattle.layer_flags.specs.declared.restore.RestoreRow.TheVariants as line
 use Rattle.layer_paths.specs.Paths.{layers_folder}
 use Rattle.run_docs.specs.declared.group.GroupRow.{GroupRow}
-use Rattle.shelf_set.proofs.RestoreLemmas.{drops_tell}
 use Rattle.shelf_set.specs.CacheSteps.{gathers}
 use Rattle.shelf_set.specs.Caches.{Caches, WorldAndCaches, in_caches, in_world}
 use Rattle.shelf_set.specs.Finding.{Finds, InCaches, Whole, Missing, Broken}
 use Rattle.shelf_set.specs.Gathering.{Gathers}
-use Rattle.shelf_set.specs.Restoring.{AllTell, HasFolder, IsChanged, LaysIn, answer_of, restores_tree}
+use Rattle.shelf_set.specs.Restoring.{HasFolder, IsChanged, LaysFiles, answer_of, restores_tree}
 use Rattle.shelf_set.specs.declared.restoring.Found.{Found}
 use Rattle.shelf_set.specs.declared.restoring.Found.TheVariants as found
 use Rattle.shelf_set.specs.declared.restoring.Search.{Search}
@@ -33,7 +32,6 @@ use Rattle.steps.specs.Each.{for_each}
 use Rattle.steps.specs.Outside.{Seen}
 use Rattle.steps.specs.Steps.{◌>>=◌, gives, makes_folder, map_err, reads, removes, writes, yields}
 use Rattle.tree_store.specs.Overlay.{tree_laid}
-use Rattle.tree_store.specs.Steps.{lays_tree}
 use Rattle.cnb_restore.specs.declared.fault.RestoreFault.{RestoreFault}
 use Rattle.cnb_restore.specs.declared.restored.Restored.{Restored}
 use Rattle.cnb_restore.specs.declared.sources.Sources.{Sources}
@@ -155,9 +153,7 @@ record Layers (folder : List ℕ) (wanted : List Wanted) (restored : Restored) (
   layers : map (λ part. part.layer) parts ≡ layers_found wanted searches
   documents : AllByRecursion (λ part. ReadsAsLayer part.layer.row.meta part.document) parts
   told_is : told ≡ fold told_layer (fold told_search restored searches) (map (λ part. part.layer) parts)
-  tell : AllTell old.caches → AllTell new.caches
-  files : AllTell old.caches → IsThere folder old.world.files
-      → AreLeft (with_parts folder parts) old.world.files new.world.files
+  files : IsThere folder old.world.files → AreLeft (with_parts folder parts) old.world.files new.world.files
 
 no_layers : (folder : List ℕ) (restored : Restored) (old : WorldAndCaches) (told : Restored) (new : WorldAndCaches)
     → yields {E = RestoreFault} restored old (Ok told) new → Layers folder [] restored old told new
@@ -170,8 +166,7 @@ no_layers folder restored old told new h = record {
   layers = refl;
   documents = tt;
   told_is = h.0;
-  tell = λ tell. subst (λ (s : WorldAndCaches). AllTell s.caches) (sym h.1) tell;
-  files = λ tell there. left_same old.world.files new.world.files (ap (λ (s : WorldAndCaches). s.world.files) h.1);
+  files = λ there. left_same old.world.files new.world.files (ap (λ (s : WorldAndCaches). s.world.files) h.1);
 }
 
 -- nothing of a layer, before other layers
@@ -231,10 +226,8 @@ metadata_first folder row wanted restored old mid new more told h rest =
           (map (λ p. p.layer) rest.parts)) first.told_is
           ∙ ap (λ r. fold told_layer r (map (λ p. p.layer) rest.parts))
           (search_later (layer row None) rest.searches restored);
-      tell = λ tell. rest.tell (subst AllTell (sym first.caches) tell);
-      files = λ tell there. left_then (with_part folder part) (with_parts folder rest.parts) old.world.files
-          mid.world.files new.world.files first.files
-          (rest.files (subst AllTell (sym first.caches) tell) (first.there there));
+      files = λ there. left_then (with_part folder part) (with_parts folder rest.parts) old.world.files
+          mid.world.files new.world.files first.files (rest.files (first.there there));
     }
 
 -- what caches hold, laid over what stood there
@@ -243,13 +236,12 @@ with_held root Missing q old = old
 with_held root (Broken asked is bad) q old = old
 with_held root (Whole tree) q old = with_contents root (Some tree) q old
 
-laid_left : (root : List ℕ) (held : InCaches) (old new : Seen) → LaysIn root held old new
-    → AreLeft (with_held root held) old.files new.files
-unfolding lays_tree
+laid_left : (root : List ℕ) (held : InCaches) (old new : Option Tree) → LaysFiles root held old new
+    → AreLeft (with_held root held) old new
 laid_left root (Whole tree) old new h = left_by (with_contents root (Some tree)) (tree_laid root (codes "/") tree)
-    old.files new.files (get-laid root tree) h.0
-laid_left root Missing old new h = left_same old.files new.files h.files
-laid_left root (Broken asked is bad) old new h = left_same old.files new.files h.files
+    old new (get-laid root tree) h
+laid_left root Missing old new h = left_same old new h
+laid_left root (Broken asked is bad) old new h = left_same old new h
 
 -- a row's layer has a name that is a part of a path
 abbrev HasPartName : LayerRow → Type 0
@@ -259,51 +251,50 @@ abbrev HasNameWhere : Option LayerRow → Type 0
 HasNameWhere None = Unit {0}
 HasNameWhere (Some row) = HasPartName row
 
--- caches were searched for a layer's contents, and where they have them, these were laid
-record Looked (folder : List ℕ) (row : LayerRow) (gone : List ℕ) (held : InCaches) (old new : WorldAndCaches)
+-- caches were searched for a layer's contents, and what they have was laid, where that is answered
+record Looked (folder : List ℕ) (row : LayerRow) (search : Search) (held : InCaches) (old new : WorldAndCaches)
     : Type 0 where
-  finds : Finds old.caches.shelves old.caches.standing row.digest held new.caches.shelves new.caches.standing gone
-  tell : AllTell old.caches → AllTell new.caches
+  finds : Finds old.caches.shelves old.caches.standing row.digest held new.caches.shelves new.caches.standing
+      search.gone
   there : IsThere folder old.world.files → IsThere folder new.world.files
-  files : AllTell old.caches → IsThere folder old.world.files
+  files : search.found ≡ answer_of held → IsThere folder old.world.files
       → AreLeft (with_held (joined folder row.layer) held) old.world.files new.world.files
 
 looked : (folder : List ℕ) (row : LayerRow) (search : Search) (old new : WorldAndCaches)
     → bytes_eq folder [] ≡ false → HasPartName row → restores_held folder row old (Ok search) new
     → (held : InCaches) × ((search.found ≡ answer_of held) ⊎ IsChanged search.found)
-    × Looked folder row search.gone held old new
+    × Looked folder row search held old new
 unfolding map_err restores_tree
 looked folder row search old new some part h = (
   h.by.0,
   h.by.2,
   record {
     finds = h.by.1;
-    tell = h.tell;
     there = there_around folder row.layer old.world.files new.world.files part h.around.files;
-    files = λ tell there. at tell old.world.files refl there;
+    files = λ answer there. at answer old.world.files refl there;
   },
 )
   where
     root : List ℕ
     root = joined folder row.layer
 
-    at : AllTell old.caches → (o : Option Tree) → old.world.files ≡ o → IsThere folder o
+    at : search.found ≡ answer_of h.by.0 → (o : Option Tree) → old.world.files ≡ o → IsThere folder o
         → AreLeft (with_held root h.by.0) o new.world.files
-    at tell None is there = untold_around root old.world.files new.world.files h.around.files is
-    at tell (Some files) is there = subst (λ (o : Option Tree). AreLeft (with_held root h.by.0) o new.world.files) is
-        (laid_left root h.by.0 old.world new.world (h.by.3 tell
+    at answer None is there = untold_around root old.world.files new.world.files h.around.files is
+    at answer (Some files) is there = subst (λ (o : Option Tree). AreLeft (with_held root h.by.0) o new.world.files) is
+        (laid_left root h.by.0 old.world.files new.world.files (h.by.3
         (subst (HasFolder root) (sym is) (subst (λ p. is_folder (item_at files p) ≡ true)
-        (sym (parent_below folder row.layer some part)) there))).1)
+        (sym (parent_below folder row.layer some part)) there)) answer))
 
 -- a layer that caches were searched for, before other layers
-found_first : (folder : List ℕ) (row : LayerRow) (wanted : List Wanted) (restored : Restored) (gone : List ℕ)
+found_first : (folder : List ℕ) (row : LayerRow) (wanted : List Wanted) (restored : Restored) (search : Search)
     (held : InCaches) (old a mid new : WorldAndCaches) (more told : Restored)
-    → Looked folder row gone held old a
-    → restores_found folder row (after_search gone restored) (answer_of held) a (Ok more) mid
+    → Looked folder row search held old a → search.found ≡ answer_of held
+    → restores_found folder row (after_search search.gone restored) (answer_of held) a (Ok more) mid
     → Layers folder wanted more mid told new → Layers folder (Contents row ∷ wanted) restored old told new
 unfolding restores_found gives yields
-found_first folder row wanted restored gone Missing old a mid new more told was h rest = record {
-  searches = record { found = Missing; gone = gone } ∷ rest.searches;
+found_first folder row wanted restored search Missing old a mid new more told was is h rest = record {
+  searches = record { found = Missing; gone = search.gone } ∷ rest.searches;
   parts = rest.parts;
   searched = (
     a.caches,
@@ -315,22 +306,20 @@ found_first folder row wanted restored gone Missing old a mid new more told was 
   documents = rest.documents;
   told_is = rest.told_is ∙ ap (λ r. fold told_layer (fold told_search r rest.searches)
       (map (λ part. part.layer) rest.parts)) h.0;
-  tell = λ tell. rest.tell (subst (λ (s : WorldAndCaches). AllTell s.caches) (sym h.1) (was.tell tell));
-  files = λ tell there. left_then (λ q found. found) (with_parts folder rest.parts) old.world.files a.world.files
-      new.world.files (was.files tell there)
+  files = λ there. left_then (λ q found. found) (with_parts folder rest.parts) old.world.files a.world.files
+      new.world.files (was.files is there)
       (subst (λ (o : Option Tree). AreLeft (with_parts folder rest.parts) o new.world.files)
       (ap (λ (s : WorldAndCaches). s.world.files) h.1)
-      (rest.files (subst (λ (s : WorldAndCaches). AllTell s.caches) (sym h.1) (was.tell tell))
-      (subst (λ (s : WorldAndCaches). IsThere folder s.world.files) (sym h.1) (was.there there))));
+      (rest.files (subst (λ (s : WorldAndCaches). IsThere folder s.world.files) (sym h.1) (was.there there))));
 }
-found_first folder row wanted restored gone (Broken asked digest bad) old a mid new more told was h rest = absurd
+found_first folder row wanted restored search (Broken asked digest bad) old a mid new more told was is h rest = absurd
     (let no : _ ≡ _ = h.1 in cc)
-found_first folder row wanted restored gone (Whole tree) old a mid new more told was wrote rest =
-    let counted : Restored = after_search gone restored in
+found_first folder row wanted restored search (Whole tree) old a mid new more told was is wrote rest =
+    let counted : Restored = after_search search.gone restored in
     let first = documented folder row true counted a more mid wrote in
     let part : Part = record { layer = layer row (Some tree); document = first.bytes } in
     record {
-      searches = record { found = Whole tree; gone = gone } ∷ rest.searches;
+      searches = record { found = Whole tree; gone = search.gone } ∷ rest.searches;
       parts = part ∷ rest.parts;
       searched = (
         a.caches,
@@ -344,13 +333,12 @@ found_first folder row wanted restored gone (Whole tree) old a mid new more told
           (map (λ p. p.layer) rest.parts)) first.told_is
           ∙ ap (λ r. fold told_layer r (map (λ p. p.layer) rest.parts))
           (search_later (layer row (Some tree)) rest.searches counted);
-      tell = λ tell. rest.tell (subst AllTell (sym first.caches) (was.tell tell));
-      files = λ tell there. left_then (with_part folder part) (with_parts folder rest.parts) old.world.files
+      files = λ there. left_then (with_part folder part) (with_parts folder rest.parts) old.world.files
           mid.world.files new.world.files
           (left_then (with_contents (joined folder row.layer) (Some tree))
           (with_document (joined folder (document_name row.layer)) first.bytes) old.world.files a.world.files
-          mid.world.files (was.files tell there) first.files)
-          (rest.files (subst AllTell (sym first.caches) (was.tell tell)) (first.there (was.there there)));
+          mid.world.files (was.files is there) first.files)
+          (rest.files (first.there (was.there there)));
     }
 
 -- bytes that changed are damaged, and end a restoration
@@ -374,11 +362,11 @@ contents_first folder row wanted restored old mid new more told some part
     (subst (λ s. restores_found folder row counted search.found s (Ok more) mid) given.0 last) in
     by held was restores is
   where
-    by : (held : InCaches) → Looked folder row search.gone held old a
+    by : (held : InCaches) → Looked folder row search held old a
         → restores_found folder row (after_search search.gone restored) search.found a (Ok more) mid
         → (search.found ≡ answer_of held) ⊎ IsChanged search.found
         → Layers folder (Contents row ∷ wanted) restored old told new
-    by held was h (inl is) = found_first folder row wanted restored search.gone held old a mid new more told was
+    by held was h (inl is) = found_first folder row wanted restored search held old a mid new more told was is
         (subst (λ found. restores_found folder row (after_search search.gone restored) found a (Ok more) mid) is h)
         rest
     by held was h (inr changed) = absurd (unchanged folder row (after_search search.gone restored) search.found a mid
@@ -486,8 +474,7 @@ record Left (layers : List ℕ) (sources : Sources) (id : List ℕ) (restored : 
   one : Restoration
   is : RestoresOne layers sources id old.caches one new.caches
   told_is : told ≡ told_from restored one.searches (layers_of_parts one)
-  tell : AllTell old.caches → AllTell new.caches
-  files : AllTell old.caches → AreLeft (with_buildpack one) old.world.files new.world.files
+  files : AreLeft (with_buildpack one) old.world.files new.world.files
 
 buildpack_left : (layers : List ℕ) (sources : Sources) (id : List ℕ) (restored : Restored) (old : WorldAndCaches)
     (told : Restored) (new : WorldAndCaches) → AreNamed sources
@@ -516,11 +503,10 @@ buildpack_left layers sources id restored old told new named (prepared, mid, fir
         documents = rows.documents;
       };
       told_is = rows.told_is;
-      tell = λ tell. rows.tell (subst AllTell (sym first.1) tell);
-      files = λ tell. left_so (λ q found. with_parts folder rows.parts q (anew folder made.store q found))
+      files = left_so (λ q found. with_parts folder rows.parts q (anew folder made.store q found))
           (with_buildpack one) old.world.files new.world.files (buildpack_is one)
           (left_then (anew folder made.store) (with_parts folder rows.parts) old.world.files mid.world.files
-          new.world.files made.files (rows.files (subst AllTell (sym first.1) tell) made.there));
+          new.world.files made.files (rows.files made.there));
     }
 
 told_on : (restored : Restored) (s more : List CacheSearch) (l others : List Layer)
@@ -536,7 +522,7 @@ record AllLeft (layers : List ℕ) (sources : Sources) (group : List GroupRow) (
   all : List Restoration
   are : RestoresEach layers sources group old.caches all new.caches
   told_is : told ≡ told_from restored (flat_map (λ one. one.searches) all) (flat_map layers_of_parts all)
-  files : AllTell old.caches → AreLeft (with_buildpacks all) old.world.files new.world.files
+  files : AreLeft (with_buildpacks all) old.world.files new.world.files
 
 group_left : (layers : List ℕ) (sources : Sources) (group : List GroupRow) (restored : Restored)
     (old : WorldAndCaches) (told : Restored) (new : WorldAndCaches) → AreNamed sources
@@ -547,7 +533,7 @@ group_left layers sources [] restored old told new named h = record {
   all = [];
   are = ap (λ (s : WorldAndCaches). s.caches) h.1;
   told_is = h.0;
-  files = λ tell. left_same old.world.files new.world.files (ap (λ (s : WorldAndCaches). s.world.files) h.1);
+  files = left_same old.world.files new.world.files (ap (λ (s : WorldAndCaches). s.world.files) h.1);
 }
 group_left layers sources (row ∷ group) restored old told new named (more, mid, h, rest) =
     let first = buildpack_left layers sources row.key.id restored old more mid named h in
@@ -560,8 +546,8 @@ group_left layers sources (row ∷ group) restored old told new named (more, mid
           first.told_is
           ∙ told_on restored first.one.searches (flat_map (λ one. one.searches) later.all)
           (layers_of_parts first.one) (flat_map layers_of_parts later.all);
-      files = λ tell. left_then (with_buildpack first.one) (with_buildpacks later.all) old.world.files mid.world.files
-          new.world.files (first.files tell) (later.files (first.tell tell));
+      files = left_then (with_buildpack first.one) (with_buildpacks later.all) old.world.files mid.world.files
+          new.world.files first.files later.files;
     }
 
 -- ---- the whole
@@ -601,12 +587,9 @@ restored_left store name group layers previous old a restored new read named
       told = left.told_is
           ∙ ap (λ r. told_from r (flat_map (λ one. one.searches) left.all) (flat_map layers_of_parts left.all))
           (ok_is _ first given.1);
-      files = λ tell. subst (λ (o : Option Tree). AreLeft (with_buildpacks left.all) o new.world.files)
+      files = subst (λ (o : Option Tree). AreLeft (with_buildpacks left.all) o new.world.files)
           (ap (λ (s : WorldAndCaches). s.world.files) given.0 ∙ ap (λ (w : Seen). w.files) rows.1
-          ∙ read.0.same.files)
-          (left.files (subst (λ (s : WorldAndCaches). AllTell s.caches) (sym given.0)
-          (drops_tell gave.turns a.caches.shelves b.caches.shelves a.caches.standing b.caches.standing
-          gathered.gone gave.drops gave.same (subst AllTell (sym read.1) tell))));
+          ∙ read.0.same.files) left.files;
     }
 
 pub leaves_restored : (store : List ℕ) (name : Option (List ℕ)) (group : List GroupRow) (layers : List ℕ)

@@ -20,7 +20,6 @@ use Rattle.run_docs.specs.declared.group.GroupRow.{GroupRow}
 use Rattle.shelf_set.specs.Caches.{Caches, WorldAndCaches}
 use Rattle.shelf_set.specs.Finding.{Finds, InCaches, Whole, Missing, Broken}
 use Rattle.shelf_set.specs.Gathering.{Gathers}
-use Rattle.shelf_set.specs.Restoring.{AllTell}
 use Rattle.shelf_set.specs.declared.gathering.Gathered.{Gathered}
 use Rattle.steps.specs.Keeping.{folder_paths}
 use Rattle.tree_canon.specs.declared.node.Node.{Node}
@@ -211,7 +210,7 @@ AreLeft found (Some files) new = (left : Tree) × (new ≡ Some left)
 -- ---- the whole
 
 -- The previous image is read, the rows of the caches are gathered, what these say of the buildpacks is restored and
--- told, and where all caches tell what they hold, the files are as they were but for that.
+-- told, and the files are as they were but for that.
 pub record LeavesRestored (store : List ℕ) (name : Option (List ℕ)) (group : List GroupRow) (layers : List ℕ)
     (old : WorldAndCaches) (restored : Restored) (new : WorldAndCaches) : Type 0 where
   pub previous : Option ImageDoc
@@ -222,4 +221,4 @@ pub record LeavesRestored (store : List ℕ) (name : Option (List ℕ)) (group :
   pub all : List Restoration
   pub each : RestoresEach layers (record { previous = previous; rows = gathered.rows }) group between all new.caches
   pub told : restored ≡ told_of gathered all
-  pub files : AllTell old.caches → AreLeft (with_buildpacks all) old.world.files new.world.files
+  pub files : AreLeft (with_buildpacks all) old.world.files new.world.files
