@@ -294,7 +294,7 @@ pub leads_restored : (P Q : Tree → Type 0) (digest root : List ℕ) → ((t : 
     (λ search s t. LaidOr P Q search.found t × AllTell s.caches) (restores_tree digest root)
 unfolding restores_tree
 leads_restored P Q digest root there can so old new (Ok search) h =
-    let (held, finds, answer, laid) = h.by in (
+    let (held, finds, answer, files, laid) = h.by in (
       minds_where P (AllTell old.caches) (HasFolder root) old.world.files old.world.misused new.world.misused there
           (λ tell stands. (by held (laid tell stands).1).0),
       brings_where P (LaidOr P Q search.found) (AllTell old.caches) (AllTell new.caches) (HasFolder root)
