@@ -1,7 +1,9 @@
 // A file that is written beside its place.
 
+use crate::cause::Cause;
 use crate::fault::HostFault;
 use crate::files::{create_file, rename_open};
+use std::fs;
 use std::io::Write;
 use std::rt::Files;
 
@@ -34,8 +36,19 @@ impl<R: Files> NewFile<R> {
     }
 
     /// Puts the file at its place, in place of a regular file that is there, once what it holds has reached the disk.
+    /// Where that fails, the file is removed, unless another process has put one of its own there.
     pub fn keep(self, rt: &R) -> Result<(), HostFault> {
-        rename_open(rt, &self.file, self.unfinished.as_str(), self.path.as_str())
+        let kept = rename_open(rt, &self.file, self.unfinished.as_str(), self.path.as_str());
+        match kept {
+            Ok(()) | Err(HostFault::Failed(Cause::Replaced)) => {}
+            Err(_) => self.discard(rt),
+        }
+        kept
+    }
+
+    /// Removes the unfinished file. A file that can't be removed is left, and begun anew by the next call that puts it.
+    pub fn discard(&self, rt: &R) {
+        let _ = fs::remove_file(rt, self.unfinished.as_str());
     }
 }
 
@@ -46,6 +59,9 @@ pub fn replace_file<R: Files + AllocGlobal>(
     bytes: &[u8],
 ) -> Result<(), HostFault> {
     let mut file = NewFile::begin(rt, path)?;
-    file.append(bytes)?;
+    if let Err(fault) = file.append(bytes) {
+        file.discard(rt);
+        return Err(fault);
+    }
     file.keep(rt)
 }

@@ -1,13 +1,15 @@
 // The commands of children.
 ghost use Rattle.std.specs.Prelude.{◌≡◌, ◌∷◌, [], ℕ, List as Seq, IfOk, OnOk, Some, true, option_map, if◌then◌else◌};
 ghost use Rattle.std.specs.Str.{bytes_eq};
-ghost use Rattle.std.specs.Process.{command_program, command_args, command_var, command_dir, clears_env};
+ghost use Rattle.std.specs.Process.{command_arg0, command_program, command_args, command_var, command_dir};
+ghost use Rattle.std.specs.Process.{clears_env};
 ghost use Rattle.std.specs.Process.{SameProgramAndArgs, SameEnv, SameDir};
 ghost use Rattle.cnb_world.specs.Env.{value_of};
 
 use crate::fault::HostFault;
 use cnb_world::{ChildJob, DetectJob, Env, Path, Text};
 use std::alloc::{AllocError, Global};
+use std::os::unix::process::CommandExt;
 use std::process::{Child, Command, Processes, Stdio};
 
 /// The command of a job: its program with the platform folder and the plan file as arguments, in its folder, with
@@ -52,6 +54,22 @@ pub fn child_command(alloc: Global, job: &ChildJob) -> Result<Command, AllocErro
 {
     let mut command = Command::new(alloc, job.program.as_str())?;
     set_child(&mut command, job)?;
+    Ok(command)
+}
+
+/// Does the same for a program at another path, which is started under the job's own name of it.
+pub fn child_command_at(alloc: Global, job: &ChildJob, path: &str) -> Result<Command, AllocError>
+    ensures program { IfOk result (λ command. command_program command ≡ path.now) }
+    ensures name { IfOk result (λ command. command_arg0 command ≡ Some job.now.program) }
+    ensures args { IfOk result (λ command. command_args command ≡ job.now.args) }
+    ensures dir { IfOk result (λ command. command_dir command ≡ Some job.now.dir) }
+    ensures clears { IfOk result (λ command. clears_env command ≡ true) }
+    ensures vars { IfOk result (λ command. (name : Seq ℕ)
+        → command_var command name ≡ option_map Some (value_of job.now.env name)) }
+{
+    let mut command = Command::new(alloc, path)?;
+    set_child(&mut command, job)?;
+    command.arg0(job.program.as_str())?;
     Ok(command)
 }
 

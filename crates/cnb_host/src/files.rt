@@ -9,6 +9,7 @@ ghost use Rattle.std.specs.IoError.{error_kind};
 ghost use Rattle.cnb_host.specs.Faults.{is_absence};
 ghost use Rattle.cnb_host.specs.Kinds.{may_run};
 
+use crate::cause::Cause;
 use crate::fault::HostFault;
 use cnb_world::{Bytes, Kind, Text};
 use std::alloc::Global;
@@ -140,12 +141,12 @@ fn open_found<R: Files>(
     found: &Metadata,
 ) -> Result<(R::File, Metadata), HostFault> {
     if !found.is_file() {
-        return Err(HostFault::Failed);
+        return Err(HostFault::unwanted(&kind_of(found)));
     }
     let file = options.open(rt, path)?;
     let opened = file.metadata()?;
     if !is_same_file(found, &opened) {
-        return Err(HostFault::Failed);
+        return Err(HostFault::Failed(Cause::Replaced));
     }
     Ok((file, opened))
 }
@@ -181,7 +182,7 @@ fn fill_from<F: FileExt>(file: &F, room: &mut [u8], at: u64) -> Result<usize, Ho
             Err(error) => return Err(HostFault::from(error)),
         }
     }
-    Err(HostFault::Failed)
+    Err(HostFault::Failed(Cause::Unknown))
 }
 
 const EXECUTABLE: u32 = 0o755;
@@ -228,13 +229,13 @@ fn remove_regular(rt: &impl Files, path: &str) -> Result<(), HostFault> {
     match kind_at(rt, path)? {
         Kind::Absent => Ok(()),
         Kind::File { .. } => Ok(fs::remove_file(rt, path)?),
-        Kind::Folder | Kind::Link | Kind::Odd => Err(HostFault::Failed),
+        other => Err(HostFault::unwanted(&other)),
     }
 }
 
 // Makes an empty file at a path that was made free, and opens it.
 fn make_again<R: Files>(rt: &R, path: &str, mode: u32) -> Result<R::File, HostFault> {
-    make_new(rt, path, mode)?.ok_or(HostFault::Failed)
+    make_new(rt, path, mode)?.ok_or(HostFault::Failed(Cause::Replaced))
 }
 
 /// Makes an empty file in place of anything but a folder: a link there is taken away and not written through.
@@ -285,7 +286,7 @@ pub fn make_folders(rt: &impl Files, path: &str) -> Result<(), HostFault> {
     match kind_at(rt, path)? {
         Kind::Folder => Ok(()),
         Kind::Absent => Ok(fs::create_dir_all(rt, path)?),
-        Kind::File { .. } | Kind::Link | Kind::Odd => Err(HostFault::Failed),
+        other => Err(HostFault::unwanted(&other)),
     }
 }
 
@@ -315,7 +316,7 @@ pub fn rename_open<R: Files>(
 fn check_free(rt: &impl Files, path: &str) -> Result<(), HostFault> {
     match kind_at(rt, path)? {
         Kind::File { .. } | Kind::Absent => Ok(()),
-        Kind::Folder | Kind::Link | Kind::Odd => Err(HostFault::Failed),
+        other => Err(HostFault::unwanted(&other)),
     }
 }
 
@@ -325,7 +326,7 @@ fn check_same(rt: &impl Files, path: &str, opened: &Metadata) -> Result<(), Host
     if is_same_file(&found, opened) {
         Ok(())
     } else {
-        Err(HostFault::Failed)
+        Err(HostFault::Failed(Cause::Replaced))
     }
 }
 

@@ -6,17 +6,22 @@
 #![tactic(auto)]
 
 mod beside;
+mod cause;
 mod command;
+mod documents;
+mod failure;
 mod fault;
 mod files;
 mod kept;
 mod locks;
 mod looked;
+mod lookup;
 mod names;
 mod opened;
 mod plans;
 mod prober;
 mod process;
+mod program;
 mod remove;
 mod rows;
 mod shelf;
@@ -24,13 +29,14 @@ mod shell;
 mod side;
 mod sink;
 mod spawner;
+mod swept;
 mod world;
-mod writer;
 
-pub use command::{child_command, detect_command};
+pub use command::{child_command, child_command_at, detect_command};
 pub use locks::LockFolder;
 pub use process::{StartFault, environment, words};
 pub use shelf::FolderShelf;
 pub use sink::StdoutSink;
 pub use spawner::HostSpawner;
+pub use swept::sweep_cache;
 pub use world::HostWorld;

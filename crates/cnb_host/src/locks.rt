@@ -3,6 +3,7 @@
 // The lock is on the folder itself, opened for reading, so no file is made for it. The system releases it when the
 // process ends, however it ends.
 
+use crate::cause::Cause;
 use crate::fault::HostFault;
 use cnb_world::{Memory, Path};
 use std::alloc::Global;
@@ -30,6 +31,13 @@ impl LockFolder for File {
     }
 }
 
+/// What a call does at its path.
+#[derive(Clone, Copy, PartialEq, Eq)]
+pub enum Access {
+    Read,
+    Write,
+}
+
 /// The folders that one process at a time writes below.
 #[derive(Drop)]
 pub struct FolderLocks<R: Files> {
@@ -39,12 +47,14 @@ pub struct FolderLocks<R: Files> {
 #[derive(Drop)]
 struct Guarded<R: Files> {
     folder: Path,
+    // Reading below this path takes the lock too.
+    read: Option<Path>,
     lock: Lock<R>,
 }
 
 #[derive(Drop)]
 enum Lock<R: Files> {
-    // Nothing was written below the folder so far.
+    // Not asked for so far.
     Free,
     // The open folder, and what the system says of it.
     Held(R::File, Metadata),
@@ -59,14 +69,25 @@ impl<R: Files> FolderLocks<R> {
         }
     }
 
-    /// Has the first write below this folder take its lock.
-    pub fn guard(&mut self, folder: Path) -> Result<(), Memory> {
+    /// Has the first write below this folder take its lock, and the first read below `read`.
+    pub fn guard(&mut self, folder: Path, read: Option<Path>) -> Result<(), Memory> {
         Ok(
             self.folders.push(Guarded {
                 folder,
+                read,
                 lock: Lock::Free,
             })?,
         )
+    }
+
+    // How many of the folders, counted from the first, have to be locked for a call at this path.
+    fn needed(&self, path: &str, access: Access) -> usize {
+        for count in (1..=self.folders.len()).rev() {
+            if self.folders[count - 1].is_needed(path, access) {
+                return count;
+            }
+        }
+        0
     }
 }
 
@@ -74,16 +95,19 @@ impl<R: Files + Clock + Eprint> FolderLocks<R>
 where
     R::File: LockFolder,
 {
-    /// Takes the lock of each guarded folder that the path is in, and keeps it. Where another process holds one, this
-    /// waits for five minutes and says so on standard error.
-    pub fn hold(&mut self, rt: &R, path: &str) -> Result<(), HostFault> {
-        for at in 0..self.folders.len() {
-            if self.folders[at].is_needed(path) {
+    /// Takes the lock of each guarded folder that the call has to have, and of those that were named before it, so that
+    /// all processes take their locks in one order. Returns whether one was taken now. Where another process holds one,
+    /// this waits for five minutes and says so on standard error.
+    pub fn hold(&mut self, rt: &R, path: &str, access: Access) -> Result<bool, HostFault> {
+        let mut taken = false;
+        for at in 0..self.needed(path, access) {
+            if at < self.folders.len() && matches!(self.folders[at].lock, Lock::Free) {
                 let lock = self.lock_of(rt, self.folders[at].folder.as_str())?;
+                taken = taken || matches!(lock, Lock::Held(..));
                 self.folders[at].lock = lock;
             }
         }
-        Ok(())
+        Ok(taken)
     }
 
     // Waits for the lock of a folder. Where no folder is there, the write itself will fail.
@@ -100,11 +124,14 @@ where
             }
             if turn == 0 {
                 // Where standard error takes nothing, there is nobody to be informed.
-                let _ = eprintln!(rt; "waiting for another process that writes below {folder}");
+                let _ = eprintln!(rt;
+                    "waiting for another process that writes below {}",
+                    folder.escape_debug()
+                );
             }
             thread::sleep(rt, Duration::from_millis(TURN));
         }
-        Err(HostFault::Failed)
+        Err(HostFault::Failed(Cause::Locked))
     }
 
     // Whether the lock of this very folder is held already, by whatever path it was reached.
@@ -117,16 +144,27 @@ where
 }
 
 impl<R: Files> Guarded<R> {
-    // Whether the path is in the folder, whose lock was not asked for so far.
-    fn is_needed(&self, path: &str) -> bool {
+    // Whether a call at the path has to have the folder's lock, which was not asked for so far.
+    fn is_needed(&self, path: &str, access: Access) -> bool {
         match &self.lock {
-            Lock::Free => is_within(self.folder.as_str(), path),
+            Lock::Free => self.covers(path, access),
             Lock::Held(..) | Lock::None => false,
+        }
+    }
+
+    fn covers(&self, path: &str, access: Access) -> bool {
+        match access {
+            Access::Write => is_within(self.folder.as_str(), path),
+            Access::Read => match &self.read {
+                Some(read) => is_within(read.as_str(), path),
+                None => false,
+            },
         }
     }
 }
 
-fn is_within(folder: &str, path: &str) -> bool {
+/// Whether a path is a folder's own or below it.
+pub fn is_within(folder: &str, path: &str) -> bool {
     match path.strip_prefix(folder) {
         Some(rest) => rest.is_empty() || rest.starts_with('/') || folder == "/",
         None => false,
@@ -164,6 +202,7 @@ fn held<R: Files>(rt: &R, file: R::File, folder: &str) -> Result<Option<Lock<R>>
     }
 }
 
-fn is_same(one: &Metadata, other: &Metadata) -> bool {
+/// Whether the system says of both that they are one file.
+pub fn is_same(one: &Metadata, other: &Metadata) -> bool {
     one.dev() == other.dev() && one.ino() == other.ino()
 }

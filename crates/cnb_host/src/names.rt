@@ -7,6 +7,7 @@ ghost use Rattle.std.specs.Cmp.Lexicographic.{slice_cmp};
 ghost use Rattle.cnb_world.specs.Calls.{AreNames};
 ghost use Rattle.cnb_world.specs.Path.{is_part, is_part_byte};
 
+use crate::cause::Cause;
 use crate::fault::HostFault;
 use crate::files::kind_at;
 use cnb_world::{Kind, List, Memory, Text};
@@ -23,7 +24,7 @@ pub fn names_in<R: Files + AllocGlobal + Clone + Drop>(
 {
     match kind_at(rt, path)? {
         Kind::Folder => names_of(rt.alloc(), read_names(rt, path)?),
-        _ => Err(HostFault::Failed),
+        other => Err(HostFault::unwanted(&other)),
     }
 }
 
@@ -60,7 +61,7 @@ fn names_of(alloc: Global, names: Vec<String>) -> Result<List<Text>, HostFault>
 {
     let texts = texts_of(alloc, names)?;
     if !are_names(texts.as_slice()) {
-        return Err(HostFault::Failed);
+        return Err(HostFault::Failed(Cause::NotText));
     }
     Ok(texts)
 }

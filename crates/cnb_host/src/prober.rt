@@ -4,6 +4,7 @@ ghost use Rattle.std.specs.Prelude.{◌≤◌, IfOk, length};
 use crate::command::{detect_command, start_command};
 use crate::fault::HostFault;
 use crate::plans::{PlanFolder, read_plan};
+use crate::program::why_unstarted;
 use cnb_world::{DetectJob, Probed};
 use std::fs::OpenOptions;
 use std::os::unix::fs::FileExt;
@@ -49,7 +50,7 @@ impl Prober {
         job: &DetectJob,
     ) -> Result<Option<i32>, HostFault>
     where
-        R::File: Into<Stdio>,
+        R::File: FileExt + Into<Stdio>,
     {
         let input = match self.input.take() {
             Some(input) => input,
@@ -71,13 +72,19 @@ where
     Ok(options.open(rt, "/dev/null")?.into())
 }
 
-fn end_code<R: Processes + AllocGlobal>(
+fn end_code<R: Files + Processes + AllocGlobal>(
     rt: &R,
     input: &Stdio,
     job: &DetectJob,
-) -> Result<Option<i32>, HostFault> {
+) -> Result<Option<i32>, HostFault>
+where
+    R::File: FileExt,
+{
     let command = detect_command(rt.alloc(), job)?;
-    code_of(rt, &command, input)
+    match code_of(rt, &command, input) {
+        Ok(code) => Ok(code),
+        Err(fault) => Err(why_unstarted(rt, job.program.as_str(), job.dir.as_str(), fault)),
+    }
 }
 
 fn code_of<R: Processes>(

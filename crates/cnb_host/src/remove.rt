@@ -1,5 +1,6 @@
 // Removing what is at a path, and below it.
 
+use crate::cause::Cause;
 use crate::fault::HostFault;
 use crate::files::kind_at;
 use crate::names::push_text;
@@ -22,7 +23,7 @@ pub fn remove_at<R: Files + AllocGlobal + Clone + Drop>(
     path: &str,
 ) -> Result<(), HostFault> {
     if path == "/" {
-        return Err(HostFault::Failed);
+        return Err(HostFault::Failed(Cause::Folder));
     }
     match kind_at(rt, path)? {
         Kind::Absent => Ok(()),
@@ -65,7 +66,7 @@ fn open_all<R: Files + AllocGlobal + Clone + Drop>(
         };
         open_one(rt, folder.as_str(), folders)?;
     }
-    Err(HostFault::Failed)
+    Err(HostFault::Failed(Cause::Unknown))
 }
 
 // Gives the right to one folder, and adds those below it to the others.
@@ -93,8 +94,12 @@ fn push_folders<R: Files + AllocGlobal + Clone + Drop>(
     folders: &mut Vec<String>,
 ) -> Result<(), HostFault> {
     for entry in fs::read_dir(rt, folder)? {
-        let entry = entry?;
-        push_folder(rt.alloc(), &entry, folders)?;
+        match entry {
+            Ok(entry) => push_folder(rt.alloc(), &entry, folders)?,
+            // A name that is not UTF-8 can be removed, and a folder of such a name is as its owner left it.
+            Err(error) if error.kind() == ErrorKind::InvalidFilename => {}
+            Err(error) => return Err(HostFault::from(error)),
+        }
     }
     Ok(())
 }

@@ -11,15 +11,15 @@ ghost use Rattle.std.specs.Prelude.{true, vec_len};
 ghost use Rattle.std.specs.Process.{clears_env, command_args, command_dir, command_program};
 ghost use Rattle.cnb_host.specs.Side.{side_words};
 
+use crate::cause::Cause;
 use crate::command::{add_arguments, start_command};
 use crate::fault::HostFault;
-use crate::files::read_part;
+use crate::program::check_program;
 use crate::shell::{BY_ENV, PLAIN, side_words};
 use cnb_world::{Bytes, ChildJob, End, LONGEST_DOCUMENT};
 use std::alloc::{AllocError, Global};
-use std::fs;
 use std::io::{self, ErrorKind, PipeReader, PipeWriter, Read};
-use std::os::unix::fs::{FileExt, MetadataExt};
+use std::os::unix::fs::FileExt;
 use std::process::{Child, Command, ExitStatus, Processes, Stdio};
 use std::rt::Files;
 
@@ -75,44 +75,6 @@ fn start<R: Files + Processes + AllocGlobal>(
     start_command(rt, &command, &input)
 }
 
-// The first words of a script name its interpreter.
-fn interpreter(head: &str) -> &str {
-    let line = head.split('\n').next().unwrap_or("");
-    line.trim_start().split_whitespace().next().unwrap_or("")
-}
-
-fn is_program<R: Files>(rt: &R, path: &str) -> Result<bool, HostFault> {
-    let found = fs::metadata(rt, path)?;
-    Ok(found.is_file() && found.mode() & 0o111 != 0)
-}
-
-/// How much of a program is looked at.
-const HEAD: u64 = 256;
-
-// Refuses what is neither for the machine nor a script whose interpreter is there.
-fn check_program<R: Files + AllocGlobal>(rt: &R, program: &str) -> Result<(), HostFault>
-where
-    R::File: FileExt,
-{
-    let head = read_part(rt, rt.alloc(), program, 0, HEAD)?;
-    check_head(rt, head.as_slice())
-}
-
-fn check_head(rt: &impl Files, head: &[u8]) -> Result<(), HostFault> {
-    if head.starts_with(b"\x7fELF") {
-        return Ok(());
-    }
-    let Some(line) = head.strip_prefix(b"#!".as_slice()) else {
-        return Err(HostFault::Failed);
-    };
-    let text = std::str::from_utf8(line).unwrap_or("");
-    if is_program(rt, interpreter(text))? {
-        Ok(())
-    } else {
-        Err(HostFault::Failed)
-    }
-}
-
 // Bytes behind those that are kept, up to the most and the byte of the shell.
 fn keep(kept: &mut Vec<u8>, bytes: &[u8]) -> Result<(), AllocError>
     requires { vec_len kept.old ≤ 1048578 }
@@ -157,7 +119,7 @@ fn behind_mark(alloc: Global, kept: &[u8]) -> Result<Bytes, HostFault>
 {
     match kept {
         [b'.', side @ ..] => Ok(Bytes::of(alloc, side)?),
-        _ => Err(HostFault::Failed),
+        _ => Err(HostFault::Failed(Cause::NotStarted)),
     }
 }
 

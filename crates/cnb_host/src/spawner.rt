@@ -3,11 +3,12 @@ ghost use Rattle.std.specs.Prelude.{◌≡◌, ◌≤◌, ◌++◌, ◌∷◌, [
 ghost use Rattle.std.specs.Result.{result_ok};
 ghost use Rattle.cnb_world.specs.Calls.{CountsDetect};
 
+use crate::failure::Failure;
 use crate::fault::HostFault;
 use crate::prober::Prober;
 use crate::rows::{once_kept, with_end};
-use cnb_world::{DetectFault, DetectJob, Memory, Probed, Spawner};
-use std::alloc::Global;
+use cnb_world::{DetectFault, DetectJob, Memory, Path, Probed, Spawner};
+use std::alloc::{AllocError, Global};
 use std::marker::Model;
 use std::os::unix::fs::FileExt;
 use std::process::{Processes, Stdio};
@@ -20,6 +21,7 @@ pub struct HostSpawner<R: Files + Processes + AllocGlobal + Drop> {
     rt: R,
     runs: Vec<Row>,
     faults: u64,
+    failure: Option<(Path, Failure)>,
     prober: Prober,
 }
 
@@ -56,7 +58,20 @@ impl<R: Files + Processes + AllocGlobal + Drop> HostSpawner<R> {
             rt,
             runs,
             faults: 0,
+            failure: None,
             prober: Prober::new(),
+        }
+    }
+
+    /// Why the child failed to run that failed last, with its program.
+    pub fn failure(&self) -> Result<Option<String>, AllocError> {
+        match &self.failure {
+            Some((program, failure)) => {
+                let text = failure.text(self.rt.alloc())?;
+                let program = program.as_str().escape_debug();
+                Ok(Some(format!(in self.rt.alloc(); "{program}: {}", text.as_str())?))
+            }
+            None => Ok(None),
         }
     }
 
@@ -88,14 +103,21 @@ impl<R: Files + Processes + AllocGlobal + Drop> HostSpawner<R> {
         Ok(self.runs.push(row)?)
     }
 
-    fn counted(&mut self, outcome: Result<Probed, HostFault>) -> Result<Probed, DetectFault>
+    fn counted(
+        &mut self,
+        job: &DetectJob,
+        outcome: Result<Probed, HostFault>,
+    ) -> Result<Probed, DetectFault>
         ensures value { result_ok result ≡ result_ok outcome }
         ensures faults { CountsDetect result self.old.faults self.new.faults }
         ensures runs { self.new.runs ≡ self.old.runs }
     {
         match outcome {
             Ok(probed) => Ok(probed),
-            Err(HostFault::Failed) => {
+            Err(HostFault::Failed(cause)) => {
+                if let Ok(program) = job.program.copy(self.rt.alloc()) {
+                    self.failure = Some((program, Failure::to_run(cause)));
+                }
                 self.faults = self.faults.saturating_add(1);
                 Err(DetectFault::Failed)
             }
@@ -118,7 +140,7 @@ where
 
     fn detect(&mut self, job: &DetectJob) -> Result<Probed, DetectFault> {
         let outcome = self.run_job(job);
-        self.counted(outcome)
+        self.counted(job, outcome)
     }
 }
 
