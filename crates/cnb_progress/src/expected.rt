@@ -3,22 +3,18 @@
 use cnb_world::Memory;
 use std::alloc::Global;
 
-const TABLE: &str = "a table";
-
 const TABLES: &str = "a list of tables";
 
 const TEXT: &str = "a text";
-
-const FILLED_TEXT: &str = "a text that isn't empty";
 
 const TEXTS: &str = "a list of texts";
 
 const TRUTH: &str = "true or false";
 
+const DIGEST: &str = "a SHA-256 digest, in 64 digits and small letters";
+
 const BUILDPACK_ID: &str =
     "an id of at most 128 letters, digits, '.', '-' and '/', other than app, config, . and ..";
-
-const BUILDPACK_VERSION: &str = "a text of three numbers, as \"1.2.3\"";
 
 const IMAGE_NAME: &str =
     "a name of at most 128 small letters, digits, '.', '_' and '-', a letter or digit first";
@@ -30,142 +26,168 @@ const ABSOLUTE_PATH: &str = "an absolute path without empty parts, '.' and '..'"
 
 const PROCESS_TYPE: &str = "a process type of at most 128 letters, digits, '.', '_' and '-'";
 
-const DIGEST: &str = "a SHA-256 digest, in 64 digits and small letters";
+const NEW_ID: &str = "an id that no table before it in the list has";
 
-// Whole keys, without the numbers of places in lists.
-const WHOLE: [(&str, &str); 5] = [
-    ("version", "1 or 2"),
+// Faults, keys and what is expected there; no fault is any. A key has `*` for each place in a list. One that begins with a
+// dot is a whole key, and any other the end of one. The first that fits counts.
+static RULES: [(&str, &str, &str); 71] = [
     (
-        "rows",
-        "a list of tables in an image, of digests in a run image",
+        "MetaKind",
+        "",
+        "no float, no date-time, and nothing more than 32 deep; write such a value as a text",
+    ),
+    ("", ".version", "1 or 2"),
+    (
+        "",
+        ".rows",
+        "a list of tables, the rows of the run image first; in a run image a list of at least one digest",
     ),
     (
-        "launch",
-        "true, false, or the table of an image's processes and buildpacks",
+        "",
+        ".rows.*",
+        "a table in an image, a digest in a run image",
     ),
-    ("name", IMAGE_NAME),
     (
-        "env",
-        "a list of tables with a name and a value, by ascending names",
+        "",
+        ".launch",
+        "the table of an image's processes and buildpacks",
     ),
-];
-
-// The ends of keys, without the numbers of places in lists. The first that fits counts.
-const ENDS: [(&str, &str); 51] = [
-    ("order.group", "a list of at least one table"),
-    ("order", TABLES),
-    ("group", TABLES),
-    ("api", "a text, as \"0.10\""),
-    ("buildpack", "a table with an id and a version"),
+    ("", ".default", PROCESS_TYPE),
     (
+        "",
+        ".env",
+        "a list of tables with a name and a value, by ascending names, none empty or with '='",
+    ),
+    ("", ".value", "a text without a zero byte"),
+    ("Wrong", ".group.*.id", NEW_ID),
+    ("Wrong", ".store.*.id", NEW_ID),
+    (
+        "",
+        ".layers.*",
+        "a table, of a layer that no table before it in the list has",
+    ),
+    (
+        "",
+        "processes.*",
+        "a table, of a process type that no table before it in the list has",
+    ),
+    (
+        "Wrong",
+        ".entries.*.requires",
+        "a list of at least one table with a name",
+    ),
+    (
+        "Wrong",
+        ".entries.*.requires.*.name",
+        "the name of the first table in the list",
+    ),
+    ("", "order.*.group", "a list of at least one table"),
+    ("", "order", TABLES),
+    ("", "group", TABLES),
+    ("", "api", "a text, as \"0.10\""),
+    ("", "buildpack", "a table with an id and a version"),
+    (
+        "Wrong",
         "buildpack.id",
         "the id that the folder is named by, with '_' for each '/'",
     ),
     (
+        "Wrong",
         "buildpack.version",
         "the version that the folder is named by",
     ),
-    ("id", BUILDPACK_ID),
-    ("version", BUILDPACK_VERSION),
-    ("optional", TRUTH),
-    ("clear-env", TRUTH),
-    ("launch.default", PROCESS_TYPE),
-    ("default", TRUTH),
-    ("launch", TRUTH),
-    ("build", TRUTH),
-    ("cache", TRUTH),
-    ("types", "a table with launch, build and cache"),
-    ("targets", TABLES),
-    ("targets.os", TEXT),
-    ("targets.arch", TEXT),
-    ("os", TARGET_NAME),
-    ("arch", TARGET_NAME),
-    ("provides", TABLES),
-    ("requires", TABLES),
-    ("or", TABLES),
-    ("entries", TABLES),
-    ("providers", TABLES),
-    ("buildpacks", TABLES),
-    ("processes", TABLES),
-    ("labels", TABLES),
-    ("slices", TABLES),
-    ("unmet", TABLES),
-    ("layers", TABLES),
-    ("store", TABLES),
-    ("metadata", TABLE),
+    ("", "id", BUILDPACK_ID),
+    ("", "version", "a text of three numbers, as \"1.2.3\""),
+    ("", "optional", TRUTH),
+    ("", "clear-env", TRUTH),
+    ("", "launch.default", PROCESS_TYPE),
+    ("", "default", TRUTH),
+    ("", "launch", TRUTH),
+    ("", "build", TRUTH),
+    ("", "cache", TRUTH),
+    ("", "types", "a table with launch, build and cache"),
+    ("", "targets", TABLES),
+    ("", "targets.*.os", TEXT),
+    ("", "targets.*.arch", TEXT),
+    ("", "os", TARGET_NAME),
+    ("", "arch", TARGET_NAME),
+    ("", "provides", TABLES),
+    ("", "requires", TABLES),
+    ("", "or", TABLES),
+    ("", "entries", TABLES),
+    ("", "providers", TABLES),
+    ("", "buildpacks", TABLES),
+    ("", "processes", TABLES),
+    ("", "labels", TABLES),
+    ("", "slices", TABLES),
+    ("", "unmet", TABLES),
+    ("", "layers", TABLES),
+    ("", "store", TABLES),
+    ("", "metadata", "a table"),
     (
+        "",
         "base",
         "a table with the run image's name, top layer, os and arch",
     ),
-    ("base.name", IMAGE_NAME),
-    ("run", IMAGE_NAME),
-    ("previous", IMAGE_NAME),
-    ("type", PROCESS_TYPE),
-    ("entrypoint", ABSOLUTE_PATH),
-    ("place", ABSOLUTE_PATH),
-    ("command", "a list of at least one text"),
-    ("args", TEXTS),
-    ("paths", TEXTS),
-    ("working-dir", ABSOLUTE_PATH),
-    ("role", "one of run, layer, app, launcher and process"),
+    ("", "base.name", IMAGE_NAME),
+    ("", "base.top", DIGEST),
+    ("", "run", IMAGE_NAME),
+    ("", "previous", IMAGE_NAME),
+    ("", "name", TEXT),
+    ("", "type", PROCESS_TYPE),
+    ("", "entrypoint", ABSOLUTE_PATH),
+    ("", "place", ABSOLUTE_PATH),
+    ("", "command", "a list of at least one text"),
+    ("", "command.*", TEXT),
+    ("", "args", TEXTS),
+    ("", "args.*", TEXT),
+    ("", "paths", TEXTS),
+    ("", "paths.*", TEXT),
+    ("", "working-dir", ABSOLUTE_PATH),
+    ("", "role", "one of run, layer, app, launcher and process"),
     (
+        "",
         "by",
         "a text that isn't empty and has no control characters",
     ),
-    ("digest", DIGEST),
-    ("key", FILLED_TEXT),
-    ("value", TEXT),
+    ("", "digest", DIGEST),
+    ("", "key", "a text that isn't empty"),
+    ("", "value", TEXT),
+    ("", "*", "a table"),
 ];
 
-// The faults of documents that have a key behind them.
-const KINDS: [&str; 3] = [" Missing ", " Wrong ", " Name "];
-
-/// What a document is expected to have at the key that a printed refusal names, if it names one.
-pub fn expected_by(alloc: Global, line: &str) -> Result<Option<&'static str>, Memory> {
-    if !line.starts_with("error 4 Document ") {
-        return Ok(None);
-    }
-    for kind in KINDS {
-        if let Some((_, key)) = line.split_once(kind) {
-            return expected_at(alloc, key);
-        }
-    }
-    Ok(None)
-}
-
-// What a document is expected to have at a key.
-fn expected_at(alloc: Global, key: &str) -> Result<Option<&'static str>, Memory> {
-    let key = without_numbers(alloc, key)?;
-    for (whole, expected) in WHOLE {
-        if key.as_str() == whole {
-            return Ok(Some(expected));
-        }
-    }
-    for (end, expected) in ENDS {
-        if is_end(&key, end) {
+/// What a document is expected to have where it has this fault at this key, if that is known.
+pub(crate) fn expected_at(
+    alloc: Global,
+    fault: &str,
+    key: &str,
+) -> Result<Option<&'static str>, Memory> {
+    let key = with_stars(alloc, key)?;
+    for (at, end, expected) in RULES.iter() {
+        if (at.is_empty() || *at == fault) && is_end(key.as_str(), end) {
             return Ok(Some(expected));
         }
     }
     Ok(None)
 }
 
-// A key without the places in lists: `order.group.id` of `order.0.group.2.id`.
-fn without_numbers(alloc: Global, key: &str) -> Result<String, Memory> {
-    let mut plain = String::new(alloc);
+// A key with a dot in front and `*` for each place in a list: `.order.*.group.*.id` of `order.0.group.2.id`.
+fn with_stars(alloc: Global, key: &str) -> Result<String, Memory> {
+    let mut text = String::new(alloc);
     for part in key.split('.') {
-        if !part.chars().all(|c| c.is_ascii_digit()) {
-            if !plain.is_empty() {
-                plain.push('.')?;
-            }
-            plain.push_str(part)?;
-        }
+        text.push('.')?;
+        text.push_str(if is_place(part) { "*" } else { part })?;
     }
-    Ok(plain)
+    Ok(text)
+}
+
+fn is_place(part: &str) -> bool {
+    part.bytes().all(|byte| byte.is_ascii_digit())
 }
 
 fn is_end(key: &str, end: &str) -> bool {
     match key.strip_suffix(end) {
-        Some(front) => front.is_empty() || front.ends_with('.'),
+        Some(front) => front.is_empty() || front.ends_with('.') || end.is_empty(),
         None => false,
     }
 }

@@ -20,8 +20,8 @@ impl Phase {
     }
 }
 
-/// The phases of a command in their order, and how many of them have begun. A phase begins with the first call at or
-/// below its folder, or, without one, with the first child.
+/// The phases of a command in their order, and how many of them have begun. A phase begins, once the one before it has, with
+/// the first call at or below its folder, or, without one, with the first child.
 #[derive(Drop)]
 pub struct Phases {
     phases: Vec<Phase>,
@@ -41,26 +41,15 @@ impl Phases {
         Ok(self.phases.push(Phase { name, folder })?)
     }
 
-    /// The phase that begins with a call at this path, or, without one, with a child, if one does. Those before it are
-    /// over then.
+    /// The next phase, where it begins with a call at this path, or, without one, with a child.
     pub(crate) fn begin(&mut self, path: Option<&str>) -> Option<&'static str> {
-        let place = self.begun_by(path)?;
-        self.begun = place.saturating_add(1);
-        match self.phases.as_slice().get(place) {
-            Some(phase) => Some(phase.name),
-            None => None,
-        }
-    }
-
-    fn begun_by(&self, path: Option<&str>) -> Option<usize> {
-        for place in self.begun..self.phases.len() {
-            if let Some(phase) = self.phases.as_slice().get(place)
-                && phase.is_begun_by(path)
-            {
-                return Some(place);
+        match self.phases.as_slice().get(self.begun) {
+            Some(phase) if phase.is_begun_by(path) => {
+                self.begun = self.begun.saturating_add(1);
+                Some(phase.name)
             }
+            _ => None,
         }
-        None
     }
 }
 

@@ -1,60 +1,45 @@
-// A sink that keeps the last line.
+// A sink that keeps a refusal.
+ghost use Rattle.std.specs.Prelude.{◌≡◌};
 
 use cnb_world::{Sink, SinkFault};
 use std::alloc::Global;
 use std::str;
 
-/// How much of a line is kept.
-const LONGEST_LINE: usize = 65_536;
+/// How much of the text is kept.
+const MOST_KEPT: usize = 65_536;
 
-// The last line of what was written, and whether it has ended.
-#[derive(Drop)]
-struct LastLine {
-    bytes: Vec<u8>,
-    is_ended: bool,
-}
-
-impl LastLine {
-    fn keep(&mut self, byte: u8) {
-        if self.is_ended {
-            self.bytes.clear();
-            self.is_ended = false;
-        }
-        if byte == b'\n' {
-            self.is_ended = true;
-        } else if self.bytes.len() < LONGEST_LINE {
-            let _ = self.bytes.push(byte);
-        }
-    }
-
-    fn keep_all(&mut self, bytes: &[u8]) {
-        for byte in bytes {
-            self.keep(*byte);
-        }
-    }
-}
-
-/// A sink that keeps the last line that was written. Each write is that of the sink within.
+/// A sink that keeps the front of the text that was written, in which a refusal stands alone. Each write is that of the sink
+/// within.
 #[derive(Drop)]
 pub struct ProgressSink<K: Sink + Drop> {
     sink: K,
-    line: LastLine,
+    kept: Vec<u8>,
 }
 
 impl<K: Sink + Drop> ProgressSink<K> {
     pub fn new(alloc: Global, sink: K) -> ProgressSink<K> {
         ProgressSink {
             sink,
-            line: LastLine {
-                bytes: Vec::new(alloc),
-                is_ended: false,
-            },
+            kept: Vec::new(alloc),
         }
     }
 
-    /// The last line that was written, or nothing where it isn't UTF-8.
-    pub fn last_line(&self) -> &str {
-        str::from_utf8(self.line.bytes.as_slice()).unwrap_or("")
+    /// The line of the refusal that was written, or nothing where none was.
+    pub fn refusal(&self) -> &str {
+        let text = str::from_utf8(self.kept.as_slice()).unwrap_or("");
+        match text.strip_suffix('\n') {
+            Some(line) if line.starts_with("error ") => line,
+            _ => "",
+        }
+    }
+
+    fn keep(&mut self, piece: &[u8])
+        ensures { self.new.sink ≡ self.old.sink }
+    {
+        let room = MOST_KEPT.saturating_sub(self.kept.len());
+        let _ = self
+            .kept
+            .extend_from_slice(piece.get(..room).unwrap_or(piece));
     }
 }
 
@@ -65,7 +50,7 @@ impl<K: Sink + Drop> Sink for ProgressSink<K> {
 
     fn write(&mut self, piece: &[u8]) -> Result<usize, SinkFault> {
         let count = self.sink.write(piece)?;
-        self.line.keep_all(piece.get(..count).unwrap_or(piece));
+        self.keep(piece.get(..count).unwrap_or(piece));
         Ok(count)
     }
 }

@@ -27,6 +27,11 @@ impl<S: Spawner + Drop, R: Eprint + AllocGlobal + Drop> ProgressSpawner<S, R> {
         }
     }
 
+    /// The spawner within.
+    pub fn within(&self) -> &S {
+        &self.spawner
+    }
+
     /// Says what was kept.
     pub fn explain(&self) {
         for line in self.kept.as_slice() {

@@ -1,125 +1,124 @@
-// What is wrong with words that ask for nothing.
+// How the program and its commands are used.
 
+use crate::commands::{COMMANDS, Command};
+use crate::options::{OptionRow, option_of};
 use cnb_world::Memory;
 use std::alloc::Global;
 
-// The commands with their options, those that may be left out in brackets (docs/FORMATS.md).
-const USAGES: [(&str, &str); 15] = [
-    (
-        "detect",
-        "--order <path> --buildpacks <path> --app <path> --platform <path> --work <path> [--workers <number>] \
-         [--record <path>]",
-    ),
-    (
-        "analyze",
-        "--store <path> --run <name> --work <path> [--previous <name>]",
-    ),
-    (
-        "restore",
-        "--store <path> --work <path> --layers <path> [--cache <path> ..]",
-    ),
-    (
-        "build",
-        "--buildpacks <path> --app <path> --platform <path> --work <path> --layers <path>",
-    ),
-    (
-        "export",
-        "--store <path> --work <path> --layers <path> --app <path> --launcher <path> --image <name> \
-         [--cache <path> ..]",
-    ),
-    (
-        "create",
-        "--order <path> --buildpacks <path> --app <path> --platform <path> --work <path> --layers <path> \
-         --store <path> --run <name> --launcher <path> --image <name> [--previous <name>] [--workers <number>] \
-         [--cache <path> ..]",
-    ),
-    ("rebase", "--store <path> --image <name> --run <name>"),
-    (
-        "base",
-        "--store <path> --run <name> --os <os> --arch <arch> --tree <path> [--tree <path> ..]",
-    ),
-    ("unpack", "--store <path> --image <name> --root <path>"),
-    ("show", "--store <path> --image <name>"),
-    ("prune", "--store <path>"),
-    ("verify", "--store <path> --image <name>"),
-    (
-        "check",
-        "--order <path> --buildpacks <path> --work <path> --record <path>",
-    ),
-    (
-        "launch",
-        "[--root <path>] [<type or word> ..] | [--root <path>] -- <program> [<word> ..]",
-    ),
-    ("drill", "<number>"),
-];
+/// The day that names the state of the program (CHANGELOG.md).
+const VERSION: &str = "2 December 2026";
 
-/// Says on standard error what is wrong with words that ask for nothing, as far as it is known, and how the command is
-/// used. The first word is the program's name.
-pub fn explain_words<R: Eprint + AllocGlobal>(rt: &R, words: &[String]) {
-    let command = match words.get(1) {
-        Some(command) => command.as_str(),
-        None => "",
+/// The program's name, its version and the interfaces that it serves.
+pub(crate) fn version(alloc: Global) -> Result<String, Memory> {
+    Ok(format!(in alloc; "lifecycle {VERSION} (Platform API 0.12, Buildpack API 0.10)")?)
+}
+
+/// All commands, a line each.
+pub(crate) fn overview(alloc: Global) -> Result<String, Memory> {
+    let mut text = String::from_str(
+        alloc,
+        "lifecycle builds images from source by buildpacks\n\
+         usage: lifecycle <command> [<option> ..]\n\
+         commands:\n",
+    )?;
+    for command in COMMANDS.iter() {
+        let line = format!(in alloc; "    {:<9}{}\n", command.name, command.summary)?;
+        text.push_str(line.as_str())?;
+    }
+    text.push_str("`lifecycle <command> --help` explains the options of a command")?;
+    Ok(text)
+}
+
+/// A command: what it does, its options and an example.
+pub(crate) fn help_of(alloc: Global, command: &Command) -> Result<String, Memory> {
+    let usage = usage_of(alloc, command)?;
+    let mut text = format!(in alloc; "lifecycle {} {}\n{usage}\n", command.name, command.summary)?;
+    for name in command.must {
+        push_option(alloc, &mut text, name, false)?;
+    }
+    for name in command.may {
+        push_option(alloc, &mut text, name, true)?;
+    }
+    push_example(&mut text, command)?;
+    Ok(text)
+}
+
+/// The line of a command's usage.
+pub(crate) fn usage_of(alloc: Global, command: &Command) -> Result<String, Memory> {
+    let mut line = format!(in alloc; "usage: lifecycle {}", command.name)?;
+    for name in command.must {
+        if let Some(option) = option_of(name) {
+            push_needed(&mut line, option)?;
+        }
+    }
+    for name in command.may {
+        if let Some(option) = option_of(name) {
+            push_in_brackets(&mut line, option)?;
+        }
+    }
+    push_word(&mut line, command.words)?;
+    Ok(line)
+}
+
+fn push_word(line: &mut String, word: &str) -> Result<(), Memory> {
+    if !word.is_empty() {
+        line.push(' ')?;
+        line.push_str(word)?;
+    }
+    Ok(())
+}
+
+fn push_needed(line: &mut String, option: &OptionRow) -> Result<(), Memory> {
+    push_word(line, option.name)?;
+    push_word(line, option.kind.shown())?;
+    if option.is_repeated {
+        push_in_brackets(line, option)?;
+    }
+    Ok(())
+}
+
+fn push_in_brackets(line: &mut String, option: &OptionRow) -> Result<(), Memory> {
+    line.push_str(" [")?;
+    line.push_str(option.name)?;
+    push_word(line, option.kind.shown())?;
+    if option.is_repeated {
+        line.push_str(" ..")?;
+    }
+    line.push(']')?;
+    Ok(())
+}
+
+// The line of an option, with its default where it may be left out.
+fn push_option(
+    alloc: Global,
+    text: &mut String,
+    name: &str,
+    has_default: bool,
+) -> Result<(), Memory> {
+    let Some(option) = option_of(name) else {
+        return Ok(());
     };
-    match usage_of(command) {
-        Some(usage) => {
-            if let Ok(what) = what_is_wrong(rt.alloc(), usage, words) {
-                let _ = eprintln!(rt; "{what}\nusage: lifecycle {command} {usage}");
-            }
-        }
-        None => {
-            let _ = eprintln!(rt;
-                "no command: '{command}'\nusage: lifecycle <command> [<option> ..], with one of these:"
-            );
-            for (name, _) in USAGES {
-                let _ = eprintln!(rt; "    {name}");
-            }
-        }
+    let shown = format!(in alloc; "{name} {}", option.kind.shown())?;
+    let line = format!(in alloc; "    {shown:<22}{}", option.meaning)?;
+    text.push_str(line.as_str())?;
+    if has_default {
+        let line = format!(in alloc; " (default: {})", option.default)?;
+        text.push_str(line.as_str())?;
     }
+    let line = format!(in alloc; ", as {name} {}\n", option.example)?;
+    text.push_str(line.as_str())?;
+    Ok(())
 }
 
-fn usage_of(command: &str) -> Option<&'static str> {
-    for (name, usage) in USAGES {
-        if name == command {
-            return Some(usage);
+// A whole call of the command.
+fn push_example(text: &mut String, command: &Command) -> Result<(), Memory> {
+    text.push_str("example: lifecycle ")?;
+    text.push_str(command.name)?;
+    for name in command.must {
+        if let Some(option) = option_of(name) {
+            push_word(text, option.name)?;
+            push_word(text, option.example)?;
         }
     }
-    None
-}
-
-// The first option that the command doesn't have, or else the first one that it needs and isn't given.
-fn what_is_wrong(alloc: Global, usage: &str, words: &[String]) -> Result<String, Memory> {
-    for word in words {
-        if word.as_str() == "--" {
-            break;
-        }
-        let name = option_name(word);
-        if !name.is_empty() && !has_option(usage, name) {
-            return Ok(format!(in alloc; "no option of this command: '{name}'")?);
-        }
-    }
-    for part in usage.split(' ') {
-        if part.starts_with("--") && part != "--" && !is_given(words, part) {
-            return Ok(format!(in alloc; "an option is missing: {part}")?);
-        }
-    }
-    Ok(format!(in alloc; "a value isn't of the form that its option takes, or a word is too many")?)
-}
-
-// The name of the option that a word gives, as `--work` of `--work=/work`, or nothing.
-fn option_name(word: &str) -> &str {
-    if !word.starts_with("--") {
-        return "";
-    }
-    match word.split_once('=') {
-        Some((name, _)) => name,
-        None => word,
-    }
-}
-
-fn has_option(usage: &str, name: &str) -> bool {
-    usage.split(' ').any(|part| part == name || part.strip_prefix('[') == Some(name))
-}
-
-fn is_given(words: &[String], name: &str) -> bool {
-    words.iter().any(|word| option_name(word) == name)
+    push_word(text, command.example)
 }

@@ -4,9 +4,8 @@ ghost use Rattle.std.specs.Prelude.{◌≡◌};
 use crate::level::Level;
 use crate::phases::Phases;
 use cnb_world::{
-    Bytes, ChildFault, ChildJob, End, FileFault, Kind, List, Memory, Path, Text, World, parent_text,
+    Bytes, ChildFault, ChildJob, End, FileFault, Kind, List, Path, Text, World, parent_text,
 };
-use std::alloc::Global;
 
 /// A world that says on standard error which phase begins, which buildpack is built, and which files are read. Each
 /// call is that of the world within.
@@ -28,6 +27,11 @@ impl<W: World + Drop, R: Eprint + AllocGlobal + Drop> ProgressWorld<W, R> {
         }
     }
 
+    /// The world within.
+    pub fn within(&self) -> &W {
+        &self.world
+    }
+
     // Says which phase begins with a call at this path, or with a child.
     fn reach(&mut self, path: Option<&str>)
         ensures { self.new.world ≡ self.old.world }
@@ -42,30 +46,31 @@ impl<W: World + Drop, R: Eprint + AllocGlobal + Drop> ProgressWorld<W, R> {
 
     fn say_read(&self, path: &Path, at: u64) {
         if at == 0 && self.level.says_files() {
-            let _ = eprintln!(self.rt; "read {}", path.as_str());
+            let _ = eprintln!(self.rt; "read {}", path.as_str().escape_debug());
         }
     }
 
     fn say_built(&self, job: &ChildJob) {
         if self.level.says_progress()
-            && let Ok(Some(name)) = built_by(self.rt.alloc(), job.program.as_str())
+            && let Some(folder) = built_in(job)
+            && let Ok(id) = last_part(parent_text(folder)).replace(self.rt.alloc(), '_', "/")
         {
-            let _ = eprintln!(self.rt; "building {name}");
+            let _ = eprintln!(self.rt;
+                "building {}@{}",
+                id.escape_debug(),
+                last_part(folder).escape_debug()
+            );
         }
     }
 }
 
-// The buildpack whose build program this is, by its path `<buildpacks>/<id>/<version>/bin/build`.
-fn built_by(alloc: Global, program: &str) -> Result<Option<String>, Memory> {
-    match program.strip_suffix("/bin/build") {
-        Some(folder) => Ok(Some(built_in(alloc, folder)?)),
-        None => Ok(None),
+// The folder `<buildpacks>/<id>/<version>` of the buildpack whose build this child is, which it gets as a variable.
+fn built_in(job: &ChildJob) -> Option<&str> {
+    let folder = job.program.as_str().strip_suffix("/bin/build")?;
+    match job.env.get("CNB_BUILDPACK_DIR") {
+        Some(given) if given.as_str() == folder => Some(folder),
+        _ => None,
     }
-}
-
-fn built_in(alloc: Global, folder: &str) -> Result<String, Memory> {
-    let id = last_part(parent_text(folder)).replace(alloc, '_', "/")?;
-    Ok(format!(in alloc; "{id}@{}", last_part(folder))?)
 }
 
 fn last_part(path: &str) -> &str {
