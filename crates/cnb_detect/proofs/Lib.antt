@@ -2,6 +2,8 @@ pub mod CountLaws
 pub mod DetectLaws
 pub mod DetectSteps
 pub mod DocumentLemmas
+pub mod FirstLaws
+pub mod FirstTrialLaws
 pub mod FitLemmas
 pub mod OutcomeLaws
 pub mod TargetLemmas

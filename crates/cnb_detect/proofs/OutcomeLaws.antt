@@ -12,11 +12,11 @@ use Rattle.cnb_words.specs.declared.choice.ChoiceWords.{ChoiceWords}
 use Rattle.run_docs.specs.Group.{group_in}
 use Rattle.run_docs.specs.Plan.{plan_in}
 use Rattle.order_expand.specs.Groups.{listed_groups}
-use Rattle.detect_core.specs.Answer.{build_plan, says}
-use Rattle.detect_core.specs.Detection.{asked_members, fitting, reached}
-use Rattle.detect_core.proofs.OrderLemmas.{EachOnce, all_once, each_once, same_in_any_order}
+use Rattle.detect_core.specs.Detection.{fitting}
+use Rattle.detect_core.proofs.OrderLemmas.{EachOnce, each_once, same_in_any_order}
 use Rattle.steps.specs.Asking.{AreSome, Asks, AskedBy, AsksBy, asks}
-use Rattle.steps.specs.Causes.{Cause, FileFailed, ChildFailed, OutOfMemory, Decided, IsAnswer, WhereDecided}
+use Rattle.steps.specs.Causes.{Cause, FileFailed, ChildFailed, OutOfMemory, Decided, IsAnswer, IsGivenCause}
+use Rattle.steps.specs.Causes.{WhereDecided}
 use Rattle.steps.specs.Keeping.{IsOldOrNew, standing}
 use Rattle.steps.specs.Outside.{Outside, Seen, SpawnerSeen}
 use Rattle.steps.specs.Results.{and_then}
@@ -25,18 +25,20 @@ use Rattle.steps.proofs.AskingLemmas.{asked_none}
 use Rattle.steps.proofs.ReadingLaws.{IsRead, may_first, may_same, where_map}
 use Rattle.cnb_detect.specs.declared.preparation.Prepared.{Prepared}
 use Rattle.cnb_detect.specs.declared.refusal.DetectRefusal.{DetectRefusal}
-use Rattle.cnb_detect.specs.declared.refusal.DetectRefusal.TheVariants.{File, Memory}
+use Rattle.cnb_detect.specs.declared.refusal.DetectRefusal.TheVariants.{Child, File, Memory}
 use Rattle.cnb_detect.specs.declared.target.TargetSource.{TargetSource}
 use Rattle.cnb_detect.specs.Choice.{Choice, choice_of, jobs_of, listed_jobs}
-use Rattle.cnb_detect.specs.Detects.{chooses, detects}
-use Rattle.cnb_detect.specs.Documents.{can_write_choice, group_document, plan_document}
-use Rattle.cnb_detect.specs.Outcome.{ComesTo, IsChoiceWith, KeepsFiles, WritesBoth, detect_choice, outcome_of}
-use Rattle.cnb_detect.specs.Outcome.{prepared_in}
+use Rattle.cnb_detect.specs.Detects.{chooses, detects, text_of}
+use Rattle.cnb_detect.specs.Documents.{WritesChoice, can_write_choice, group_document, plan_document}
+use Rattle.cnb_detect.specs.Outcome.{ComesTo, Decides, IsChoiceWith, KeepsFiles, WritesBoth, detect_choice}
+use Rattle.cnb_detect.specs.Outcome.{outcome_of, prepared_in}
 use Rattle.cnb_detect.specs.Preparation.{is_fit_preparation}
 use Rattle.cnb_detect.specs.Refusals.{cause_of}
 use Rattle.steps.proofs.StepLemmas.{allowed_by}
 use Rattle.cnb_detect.proofs.DetectLaws.{prepares_reads}
-use Rattle.cnb_detect.proofs.WritingLaws.{Both, ChoiceWritten, IsWriteRefusal, choice_written}
+use Rattle.cnb_detect.proofs.FirstLaws.{decides_asked, decides_chosen, decides_unasked, exactly_once, first_of}
+use Rattle.cnb_detect.proofs.FirstLaws.{made_for}
+use Rattle.cnb_detect.proofs.WritingLaws.{ChoiceWritten, IsWriteRefusal, choice_written}
 
 old_or_new_as : (o n : Option Tree) (path : List ℕ) (P Q : List ℕ → Type 0)
     → ((bytes : List ℕ) → P bytes → Q bytes) → IsOldOrNew o n path P → IsOldOrNew o n path Q
@@ -53,6 +55,28 @@ write_answer : {A : Type 0} (refusal : DetectRefusal) (want : Result A DetectRef
 write_answer (File path) want h = tt
 write_answer Memory want h = tt
 write_answer refusal want h = absurd h
+
+-- a refusal behind the choice is told for a call that failed or want of memory, and then of nothing else
+write_decides : (source : TargetSource) (options : ChoiceWords) (env : List Variable) (files : Option Tree)
+    (old new : List SpawnerSeen) (refusal : DetectRefusal) → IsWriteRefusal refusal
+    → Decides source options env files old new (Err refusal)
+write_decides source options env files old new (File path) h = tt
+write_decides source options env files old new Memory h = tt
+write_decides source options env files old new refusal h = absurd h
+
+text_refused : (refusal : DetectRefusal) (text : List ℕ) → IsAnswer cause_of (Err refusal) (Ok text)
+    → IsGivenCause (cause_of refusal) → IsWriteRefusal refusal
+text_refused (File path) text h given = tt
+text_refused Memory text h given = tt
+text_refused Child text h given = absurd given
+text_refused refusal text h given = absurd (cc)
+
+text_decides : (source : TargetSource) (options : ChoiceWords) (env : List Variable) (files : Option Tree)
+    (old new : List SpawnerSeen) (refusal : DetectRefusal) (text : List ℕ)
+    → IsAnswer cause_of (Err refusal) (Ok text) → IsGivenCause (cause_of refusal)
+    → Decides source options env files old new (Err refusal)
+text_decides source options env files old new refusal text h given =
+    write_decides source options env files old new refusal (text_refused refusal text h given)
 
 write_kept : (refusal : DetectRefusal) (o n : Option Tree) → IsWriteRefusal refusal → KeepsFiles (Err refusal) o n
 write_kept (File path) o n h = tt
@@ -72,14 +96,6 @@ asks_answer Decided Few P Q h = h.1
 
 none_once : EachOnce []
 none_once key = omega arith
-
--- no buildpack is asked twice
-exactly_once : (prepared : Prepared) (rans : List Ran) → map (λ ran. ran.job) rans ≡ jobs_of prepared rans
-    → EachOnce rans
-unfolding asked_members
-exactly_once prepared rans jobs = all_once prepared.frame
-    (fitting prepared.frame.target (reached (says prepared.frame.target build_plan rans) 0
-    (listed_groups prepared.catalog prepared.order))) rans jobs
 
 once_by : (prepared : Prepared) (rans : List Ran) (cause : Cause) (P : Type 0)
     → AsksBy cause (AreSome (map (λ ran. ran.job) rans) (listed_jobs prepared))
@@ -133,16 +149,18 @@ module _ (source : TargetSource) (options : ChoiceWords) (env : List Variable) w
   -- it was refused before anything was written
   unwritten : (old new : Outside) (refusal : DetectRefusal) (answers : List Ran)
       → AskedBy answers old.spawners new.spawners → EachOnce answers
+      → Decides source options env old.world.files old.spawners new.spawners (Err refusal)
       → IfSome old.world.files (λ files. IsAnswer cause_of (Err refusal)
       (outcome_of (detect_choice source options env answers files)))
       → new.world.files ≡ old.world.files → new.world.runs ≡ old.world.runs
       → MayMisuse (option_map (is_fit_preparation source options) old.world.files) old.world.misused
       new.world.misused
       → ComesTo source options env old (Err refusal) new
-  unwritten old new refusal answers asked once comes files runs misused = record {
+  unwritten old new refusal answers asked once first comes files runs misused = record {
     answers = answers;
     asked = asked;
     any_order = λ target finished by. same_in_any_order target answers finished old.spawners new.spawners asked by once;
+    first = first;
     comes = comes;
     group = inl (ap (λ o. standing o (group_document options.work)) files);
     plan = inl (ap (λ o. standing o (plan_document options.work)) files);
@@ -158,13 +176,14 @@ module _ (source : TargetSource) (options : ChoiceWords) (env : List Variable) w
   wrote : (old : Outside) (mid : Seen) (new : Outside) (end : Result (List ℕ) DetectRefusal)
       (result : Result (Unit {0}) DetectRefusal) (prepared : Prepared) (choice : Choice) (answers : List Ran)
       → AskedBy answers old.spawners new.spawners → EachOnce answers
+      → Decides source options env old.world.files old.spawners new.spawners end
       → IsRead cause_of (is_fit_preparation source options) (prepared_in source options env) old.world
       (Ok prepared) mid → choice_of prepared answers ≡ Ok choice
       → ChoiceWritten options.work choice mid result new.world → IsAnswer cause_of end (outcome_of (Ok choice))
       → WritesBoth end options.work (λ c. IfSome old.world.files
       (λ files. detect_choice source options env answers files ≡ Ok c)) old.world.files new.world.files
       → KeepsFiles end old.world.files new.world.files → ComesTo source options env old end new
-  wrote old mid new end result prepared choice answers asked once read chosen w comes both kept =
+  wrote old mid new end result prepared choice answers asked once first read chosen w comes both kept =
       let is = choice_where old.world.files prepared answers (Ok choice) read.answer chosen in
       let stood : (q : List ℕ) → standing mid.files q ≡ standing old.world.files q = λ q. ap
       (λ o. standing o q) read.same.files in
@@ -173,6 +192,7 @@ module _ (source : TargetSource) (options : ChoiceWords) (env : List Variable) w
         asked = asked;
         any_order = λ target finished by. same_in_any_order target answers finished old.spawners new.spawners
             asked by once;
+        first = first;
         comes = outcome_where old.world.files answers (Ok choice) end is comes;
         group = old_or_new_as old.world.files new.world.files (group_document options.work)
             (λ bytes. group_in bytes ≡ Ok choice.group) _
@@ -194,11 +214,11 @@ module _ (source : TargetSource) (options : ChoiceWords) (env : List Variable) w
 
   both_from : (o m n : Option Tree) (prepared : Prepared) (answers : List Ran) (choice : Choice) (text : List ℕ)
       → m ≡ o → IfSome o (λ files. detect_choice source options env answers files ≡ Ok choice)
-      → Both options.work choice m n
+      → WritesChoice options.work choice m n
       → WritesBoth (Ok text) options.work (λ c. IfSome o
       (λ files. detect_choice source options env answers files ≡ Ok c)) o n
   both_from o m n prepared answers choice text same is b =
-      (choice, is, b.group, b.plan, b.group_reads, b.plan_reads, b.files ∙ ap (option_map _) same)
+      (choice, is, subst (λ v. WritesChoice options.work choice v n) same b)
 
   any_files : (o : Option Tree) → IfSome o (λ files. Unit {0})
   any_files None = tt
@@ -210,7 +230,7 @@ module _ (source : TargetSource) (options : ChoiceWords) (env : List Variable) w
   -- memory ran out before anything was done
   pub no_memory_outcome : (old : Outside) → ComesTo source options env old (Err Memory) old
   no_memory_outcome old = unwritten old old Memory [] (asked_none old.spawners) none_once
-      (any_files old.world.files) refl refl (still old.world.files old.world.misused)
+      tt (any_files old.world.files) refl refl (still old.world.files old.world.misused)
 
   pub comes_to : is_path options.work ≡ true → (old new : Outside) (end : Result (List ℕ) DetectRefusal)
       → detects source options env old end new → ComesTo source options env old end new
@@ -221,22 +241,30 @@ module _ (source : TargetSource) (options : ChoiceWords) (env : List Variable) w
       subst (λ v. ChoiceWritten options.work choice v (Ok u) new.world) (ap (λ s. s.world) h3.0 ∙ h2.1)
       (subst (λ v. ChoiceWritten options.work choice s3.world (Ok u) v) (sym (ap (λ s. s.world) y.1))
       (choice_written options.work choice path s3.world s4.world (Ok u) h4.0)) in
-      wrote old s1.world new (Ok text) (Ok u) prepared choice h2.0.answers
-      (asked_from h2.0.answers old.spawners s1.spawners s2.spawners new.spawners h1.1
-      (ap (λ s. s.spawners) y.1 ∙ h4.1 ∙ ap (λ s. s.spawners) h3.0) h2.0.asked)
+      let asked = asked_from h2.0.answers old.spawners s1.spawners s2.spawners new.spawners h1.1
+      (ap (λ s. s.spawners) y.1 ∙ h4.1 ∙ ap (λ s. s.spawners) h3.0) h2.0.asked in
+      wrote old s1.world new (Ok text) (Ok u) prepared choice h2.0.answers asked
       (asks_once prepared s1.spawners s2.spawners (Ok choice) h2.0)
+      (decides_chosen source options env old.world.files old.spawners new.spawners choice text
+      (h3.1 ∙ ap Ok (sym y.0)) (first_of source options env old.world.files prepared h2.0.answers old.spawners
+      new.spawners (Ok choice) (made_for source options env old.world s1.world prepared h1.0) read.answer asked
+      h2.0.meets.0 h2.0.meets.1))
       read h2.0.meets.1 w (h3.1 ∙ ap Ok (sym y.0))
       (both_from old.world.files s1.world.files new.world.files prepared h2.0.answers choice text read.same.files
       (choice_where old.world.files prepared h2.0.answers (Ok choice) read.answer h2.0.meets.1) w.both) tt
   comes_to path old new (Err refusal) (inl (inl h1)) =
       let read = prepares_reads source options env old.world new.world (Err refusal) h1.0 in
       unwritten old new refusal [] (subst (λ v. AskedBy [] old.spawners v) (sym h1.1) (asked_none old.spawners))
-      none_once (refused_where old.world.files refusal read.answer) read.same.files read.same.runs read.allows
+      none_once (decides_unasked source options env old.world new.world old.world.files old.spawners new.spawners
+      refusal h1.0 h1.1) (refused_where old.world.files refusal read.answer) read.same.files read.same.runs read.allows
   comes_to path old new (Err refusal) (inl (inr (prepared, s1, h1, h2))) =
       let read = prepares_reads source options env old.world s1.world (Ok prepared) h1.0 in
       let world : new.world ≡ s1.world = h2.1 in
-      unwritten old new refusal h2.0.answers (subst (λ v. AskedBy h2.0.answers v new.spawners) h1.1 h2.0.asked)
+      let asked = subst (λ v. AskedBy h2.0.answers v new.spawners) h1.1 h2.0.asked in
+      unwritten old new refusal h2.0.answers asked
       (asks_once prepared s1.spawners new.spawners (Err refusal) h2.0)
+      (decides_asked source options env old.world.files prepared old.spawners s1.spawners new.spawners refusal
+      (made_for source options env old.world s1.world prepared h1.0) read.answer h2.0 asked)
       (outcome_where old.world.files h2.0.answers (choice_of prepared h2.0.answers) (Err refusal)
       (choice_where old.world.files prepared h2.0.answers (choice_of prepared h2.0.answers) read.answer refl)
       (where_map (cause_of refusal) (choice_of prepared h2.0.answers ≡ Err refusal)
@@ -251,6 +279,7 @@ module _ (source : TargetSource) (options : ChoiceWords) (env : List Variable) w
       unwritten old new refusal h2.0.answers (asked_from h2.0.answers old.spawners s1.spawners s2.spawners
       new.spawners h1.1 (ap (λ s. s.spawners) h3.0) h2.0.asked)
       (asks_once prepared s1.spawners s2.spawners (Ok choice) h2.0)
+      (text_decides source options env old.world.files old.spawners new.spawners refusal (text_of choice) h3.1 h3.2)
       (outcome_where old.world.files h2.0.answers (Ok choice) (Err refusal)
       (choice_where old.world.files prepared h2.0.answers (Ok choice) read.answer h2.0.meets.1) h3.1)
       (ap (λ v. v.files) world ∙ read.same.files) (ap (λ v. v.runs) world ∙ read.same.runs)
@@ -265,6 +294,7 @@ module _ (source : TargetSource) (options : ChoiceWords) (env : List Variable) w
       (asked_from h2.0.answers old.spawners s1.spawners s2.spawners new.spawners h1.1
       (h4.1 ∙ ap (λ s. s.spawners) h3.0) h2.0.asked)
       (asks_once prepared s1.spawners s2.spawners (Ok choice) h2.0)
+      (write_decides source options env old.world.files old.spawners new.spawners refusal w.cause)
       read h2.0.meets.1 w (write_answer refusal (outcome_of (Ok choice)) w.cause) tt
       (write_kept refusal old.world.files new.world.files w.cause)
   comes_to path old new (Err refusal) (inr (

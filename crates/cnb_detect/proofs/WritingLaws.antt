@@ -17,23 +17,14 @@ use Rattle.steps.proofs.ReadingLaws.{may_first}
 use Rattle.cnb_detect.specs.declared.refusal.DetectRefusal.{DetectRefusal}
 use Rattle.cnb_detect.specs.declared.refusal.DetectRefusal.TheVariants.{File, Memory}
 use Rattle.cnb_detect.specs.Choice.{Choice}
-use Rattle.cnb_detect.specs.Documents.{can_write_choice, group_document, plan_document, writes_choice}
+use Rattle.cnb_detect.specs.Documents.{WritesChoice, can_write_choice, group_document, plan_document, writes_choice}
 use Rattle.cnb_detect.specs.Refusals.{cause_of}
 use Rattle.cnb_detect.proofs.DocumentLemmas.{first_refused_group, first_refused_plan, second_refused_group}
 use Rattle.cnb_detect.proofs.DocumentLemmas.{second_refused_plan, both_group, both_plan}
 use Rattle.cnb_detect.proofs.FitLemmas.{may_write}
 
--- both documents were written
-pub record Both (work : List ℕ) (choice : Choice) (old new : Option Tree) : Type 0 where
-  pub group : List ℕ
-  pub plan : List ℕ
-  pub group_reads : group_in group ≡ Ok choice.group
-  pub plan_reads : plan_in plan ≡ Ok choice.plan
-  pub files : new ≡ option_map (λ files. written (plan_document work) plan
-      (written (group_document work) group files)) old
-
 abbrev pub WroteBoth : Result (Unit {0}) DetectRefusal → List ℕ → Choice → Option Tree → Option Tree → Type 0
-WroteBoth (Ok done) work choice old new = Both work choice old new
+WroteBoth (Ok done) work choice old new = WritesChoice work choice old new
 WroteBoth (Err refusal) work choice old new = Unit {0}
 
 -- it was refused for a call that failed, or want of memory

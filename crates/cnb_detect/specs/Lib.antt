@@ -1,6 +1,7 @@
 pub mod Choice
 pub mod Detects
 pub mod Documents
+pub mod FirstTrial
 pub mod Outcome
 pub mod Preparation
 pub mod Refusals
