@@ -16,7 +16,7 @@ use Rattle.cnb_words.specs.declared.choice.ChoiceWords.{ChoiceWords}
 use Rattle.cnb_detect.specs.Choice.{Choice, choice_in, choice_of, jobs_of, listed_jobs}
 use Rattle.cnb_detect.specs.Detects.{chooses, detects, text_of}
 use Rattle.cnb_detect.specs.Documents.{group_document, plan_document, writes_choice}
-use Rattle.cnb_detect.specs.Outcome.{ComesTo, KeepsFiles}
+use Rattle.cnb_detect.specs.Outcome.{ChoosesFirst, ComesTo, Decides, KeepsFiles}
 use Rattle.cnb_detect.specs.Preparation.{is_fit_preparation, prepares}
 use Rattle.cnb_detect.specs.Refusals.{cause_of}
 use Rattle.cnb_detect.specs.declared.preparation.Prepared.{Prepared}
@@ -26,6 +26,7 @@ use Rattle.cnb_detect.specs.declared.refusal.DetectRefusal.TheVariants.{Buildpac
 use Rattle.cnb_detect.specs.declared.target.TargetSource.{TargetSource}
 use Rattle.cnb_detect.proofs.DetectLaws.{prepares_reads}
 use Rattle.cnb_detect.proofs.DocumentLemmas.{left_standing, same_standing}
+use Rattle.cnb_detect.proofs.FirstLaws.{chosen_first}
 use Rattle.cnb_detect.proofs.OutcomeLaws.{comes_to}
 use Rattle.detect_core.specs.declared.chosen.Recorded.{Recorded}
 use Rattle.detect_record.specs.Making.{record_of}
@@ -41,7 +42,7 @@ use Rattle.steps.proofs.StepLemmas.{ended, given, went, within, yielded}
 use Rattle.cnb_record.specs.Choosing.{Proves, adds_record, chooses_recorded, finds, found_of, makes_record}
 use Rattle.cnb_record.specs.Choosing.{of_record_fault, over, record_in}
 use Rattle.cnb_record.specs.DetectsRecorded.{detects_recorded, writes_recorded}
-use Rattle.cnb_record.specs.Outcome.{ComesToRecorded, IsFound, IsTooLarge, WritesRecord}
+use Rattle.cnb_record.specs.Outcome.{ComesToRecorded, DecidesRecorded, IsFound, IsTooLarge, WritesRecord}
 use Rattle.cnb_record.proofs.ChoosingLemmas.{asks_by_more, choice_with, long_path, same_choice}
 use Rattle.cnb_record.proofs.StandLemmas.{IsThere, group_apart, group_beside, group_there, plan_apart, plan_beside}
 use Rattle.cnb_record.proofs.StandLemmas.{plan_there, stands_refused, stands_written}
@@ -89,9 +90,8 @@ module _ (source : TargetSource) (options : ChoiceWords) (path : List ℕ) (env 
       × IfSome middle.world.files (IsThere (plan_document options.work))
   documents_there old middle text comes =
       let both = comes.written in (
-        group_there options.work both.2 both.3 work old.world.files middle.world.files both.6,
-        plan_there
-            options.work both.2 both.3 work old.world.files middle.world.files both.6,
+        group_there options.work both.2.group both.2.plan work old.world.files middle.world.files both.2.files,
+        plan_there options.work both.2.group both.2.plan work old.world.files middle.world.files both.2.files,
       )
 
   record_written : (old middle : Outside) (found : Recorded) (bytes text : List ℕ) (new : Seen)
@@ -316,6 +316,8 @@ module _ (source : TargetSource) (options : ChoiceWords) (path : List ℕ) (env 
           found = found;
           is_found = found_so old first prepared found (Err (Limit Record)) spawners world h asked
               (e ∙ ap Err limit) tt;
+          first = chosen_first source options env old (over world spawners) (choice_in found.chosen)
+              (chosen_so old first prepared found spawners world h asked same);
           same = record {
             files = ap (λ s. s.files) same ∙ read.same.files;
             runs = ap (λ s. s.runs) same
@@ -412,3 +414,32 @@ module _ (source : TargetSource) (options : ChoiceWords) (path : List ℕ) (env 
   keeps_files old new (Err refusal) (inr (inl large)) = large_kept refusal old.world.files new.world.files
       large.limit large.same.files
   keeps_files old new (Err refusal) (inr (inr wrote)) = write_kept refusal old.world.files new.world.files wrote.kept
+
+  -- ---- who was asked, and what was chosen
+
+  write_decides : (files : Option Tree) (old new : List SpawnerSeen) (refusal : DetectRefusal)
+      → IsWriteCause path (cause_of refusal) → Decides source options env files old new (Err refusal)
+  write_decides files old new (File at) h = tt
+  write_decides files old new Memory h = tt
+  write_decides files old new Child h = absurd h
+  write_decides files old new (Document at why) h = absurd h
+  write_decides files old new (Limit kind) h = absurd h
+  write_decides files old new (BuildpackApi text) h = absurd h
+  write_decides files old new (Order id ambiguous) h = absurd h
+  write_decides files old new (NoGroup erred) h = absurd h
+
+  pub decides_recorded : (old new : Outside) (end : Result (List ℕ) DetectRefusal)
+      → ComesToRecorded source options path env old end new
+      → DecidesRecorded source options env old.world.files old.spawners new.spawners end
+  decides_recorded old new (Ok text) wrote =
+      let decided = wrote.comes.first in (
+        decided.0,
+        wrote.kept.0 ∙ decided.1,
+        subst (λ v. ChoosesFirst source options env old.world.files old.spawners v (Ok decided.0))
+            (sym wrote.spawners) decided.2,
+      )
+  decides_recorded old new (Err refusal) (inl comes) = inl comes.first
+  decides_recorded old new (Err refusal) (inr (inl large)) =
+      inr (large.limit, choice_in large.found.chosen, large.first)
+  decides_recorded old new (Err refusal) (inr (inr wrote)) =
+      inl (write_decides old.world.files old.spawners new.spawners refusal wrote.kept)

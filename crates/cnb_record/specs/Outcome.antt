@@ -8,10 +8,10 @@ use Rattle.cnb_world.specs.Whole.{can_write, written}
 use Rattle.cnb_world.specs.declared.env.Variable.{Variable}
 use Rattle.cnb_world.specs.declared.limits.LimitKind.TheVariants.{Record}
 use Rattle.cnb_words.specs.declared.choice.ChoiceWords.{ChoiceWords}
-use Rattle.cnb_detect.specs.Choice.{choice_in}
+use Rattle.cnb_detect.specs.Choice.{Choice, choice_in}
 use Rattle.cnb_detect.specs.Detects.{text_of}
 use Rattle.cnb_detect.specs.Documents.{group_document, plan_document}
-use Rattle.cnb_detect.specs.Outcome.{ComesTo, prepared_in}
+use Rattle.cnb_detect.specs.Outcome.{ChoosesFirst, ComesTo, Decides, prepared_in}
 use Rattle.cnb_detect.specs.Preparation.{is_fit_preparation}
 use Rattle.cnb_detect.specs.Refusals.{cause_of}
 use Rattle.cnb_detect.specs.declared.preparation.Prepared.{Prepared}
@@ -22,7 +22,7 @@ use Rattle.detect_core.specs.declared.chosen.Recorded.{Recorded}
 use Rattle.steps.specs.Asking.{AskedBy}
 use Rattle.steps.specs.Causes.{IsWriteCause}
 use Rattle.steps.specs.Keeping.{IsOldOrNew, is_free, standing, touched}
-use Rattle.steps.specs.Outside.{Outside}
+use Rattle.steps.specs.Outside.{Outside, SpawnerSeen}
 use Rattle.steps.specs.Steps.{Same}
 use Rattle.cnb_record.specs.Choosing.{Proves, found_of, record_in}
 
@@ -39,13 +39,14 @@ pub record IsFound (source : TargetSource) (options : ChoiceWords) (env : List V
   pub makes : record_in prepared found ≡ canonical
   pub proves : IfOk canonical (Proves prepared found)
 
--- The record is more than its limit, and nothing is written.
+-- The choice was made, but the record is more than its limit, and nothing is written.
 pub record IsTooLarge (source : TargetSource) (options : ChoiceWords) (env : List Variable) (old : Outside)
     (refusal : DetectRefusal)
     (new : Outside) : Type 0 where
   pub limit : refusal ≡ Limit Record
   pub found : Recorded
   pub is_found : IsFound source options env old new found (Err (Limit Record))
+  pub first : ChoosesFirst source options env old.world.files old.spawners new.spawners (Ok (choice_in found.chosen))
   pub same : Same old.world new.world
   pub misused : MayMisuse (option_map (is_fit_preparation source options) old.world.files) old.world.misused
       new.world.misused
@@ -85,3 +86,12 @@ ComesToRecorded source options path env old (Ok text) new = WritesRecord source 
 ComesToRecorded source options path env old (Err refusal) new =
     ComesTo source options env old (Err refusal) new ⊎ IsTooLarge source options env old refusal new
     ⊎ WritesRecord source options path env old (Err refusal) new
+
+-- Who was asked, and what was chosen, by the end: as without a record, or the choice was made and its record is too
+-- large.
+abbrev pub DecidesRecorded : TargetSource → ChoiceWords → List Variable → Option Tree → List SpawnerSeen
+    → List SpawnerSeen → Result (List ℕ) DetectRefusal → Type 0
+DecidesRecorded source options env files old new (Ok text) = Decides source options env files old new (Ok text)
+DecidesRecorded source options env files old new (Err refusal) =
+    Decides source options env files old new (Err refusal)
+    ⊎ ((refusal ≡ Limit Record) × (choice : Choice) × ChoosesFirst source options env files old new (Ok choice))
