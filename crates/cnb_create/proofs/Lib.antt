@@ -2,6 +2,7 @@ pub mod ApartLemmas
 pub mod ChoiceLaws
 pub mod CountLaws
 pub mod CreateLaws
+pub mod DefinedLaws
 pub mod ExportLaws
 pub mod KeepLemmas
 pub mod HeadlineLaws

@@ -1,5 +1,6 @@
 pub mod Apart
 pub mod Creates
+pub mod Defined
 pub mod Headline
 pub mod Refusals
 pub mod Report

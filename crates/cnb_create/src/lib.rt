@@ -6,6 +6,7 @@
 mod building;
 mod choosing;
 mod creating;
+mod defined;
 mod exporting;
 mod images;
 mod phases;
@@ -15,4 +16,5 @@ mod restoring;
 mod target;
 
 pub use creating::create_command;
+pub use defined::created_image_is_defined;
 pub use refusal::CreateRefusal;
