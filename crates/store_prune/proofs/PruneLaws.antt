@@ -1,6 +1,6 @@
 -- What a prune removes, and what it leaves, whatever it answers.
-use Rattle.std.proofs.Common.{◌≡◌, ◌∙◌, sym, ap, subst, ℕ, List, [], ◌∷◌, map, Option, Some, None, Result, Ok, Err, inl}
-use Rattle.std.proofs.Common.{inr}
+use Rattle.std.proofs.Common.{◌≡◌, ◌∙◌, refl, sym, ap, subst, ℕ, List, [], ◌∷◌, map, Option, Some, None, Result, Ok}
+use Rattle.std.proofs.Common.{Err, inl, inr}
 use Rattle.std.specs.Prelude.{IfSome}
 use Rattle.std.specs.Option.{option_map}
 use Rattle.cnb_words.specs.declared.prune.PruneWords.{PruneWords}
@@ -16,7 +16,9 @@ use Rattle.steps.proofs.ReadingLaws.{where_map}
 use Rattle.tree_store.specs.Store.{tree_path}
 use Rattle.store_prune.specs.Faults.{cause_of}
 use Rattle.store_prune.specs.Prunes.{prunes, prunes_command, removes_all, removes_next, removes_trees}
-use Rattle.store_prune.specs.Pruning.{KeepsNamed, KeepsOthers, KeepsWhere, PrunesUnnamed, pruned_in, removed_files}
+use Rattle.store_prune.specs.Pruning.{KeepsNamed, KeepsOthers, KeepsWhere, PrunesPrinted, PrunesUnnamed, pruned_in}
+use Rattle.store_prune.specs.Pruning.{removed_files}
+use Rattle.store_prune.specs.Report.{pruned_text}
 use Rattle.store_prune.specs.Surveys.{surveys}
 use Rattle.store_prune.specs.declared.fault.PruneFault.{PruneFault}
 use Rattle.store_prune.specs.declared.surveying.Pruned.{Pruned}
@@ -70,6 +72,48 @@ pruned_so store old new (Err fault) (inl refused) = where_so (cause_of fault) (n
 pruned_so store old new (Err fault) (inr (found, mid, surveyed, inl removed)) = trees_undecided
     (new.files ≡ old.files) store found.removed mid new fault removed
 pruned_so store old new (Err fault) (inr (found, mid, surveyed, inr (done, after, removed, h))) = absurd h
+
+text_is : (text made : List ℕ) (found : Pruned) (given : Result (List ℕ) PruneFault) → text ≡ made
+    → given ≡ Ok (pruned_text found) → given ≡ Ok made → text ≡ pruned_text found
+text_is text made found given e f h = cc
+
+-- the same of the command, which makes a text besides
+pub command_prunes : (words : PruneWords) (old new : Seen) (result : Result (List ℕ) PruneFault)
+    → prunes_command words old result new → PrunesPrinted words.store old.files result new.files
+unfolding prunes_command prunes yields gives ◌>>=◌
+command_prunes words old new (Ok text) (
+  found,
+  mid,
+  surveyed,
+  (made, still, (unmoved, given, cause), (done, after, removed, (is, same))),
+) = (
+  found,
+  text_is text made found (Ok (pruned_text found)) is refl given,
+  pruned_so words.store old new (Ok found) (
+    found,
+    mid,
+    surveyed,
+    (
+      done,
+      after,
+      subst (λ (s : Seen). removes_trees words.store found.removed s (Ok done) after) unmoved removed,
+      (refl, same),
+    ),
+  ),
+)
+command_prunes words old new (Err fault) (inl refused) = where_so (cause_of fault) (new.files ≡ old.files)
+    (survey_tells words.store old new (Err fault) refused).files
+command_prunes words old new (Err fault) (inr (found, mid, surveyed, inl (unmoved, given, cause))) =
+    where_map (cause_of fault) (Ok (pruned_text found) ≡ Err fault) (new.files ≡ old.files) (λ e. absurd (cc)) given
+command_prunes words old new (Err fault) (inr (found, mid, surveyed, inr (made, still, given, inl removed))) =
+    trees_undecided (new.files ≡ old.files) words.store found.removed still new fault removed
+command_prunes words old new (Err fault) (inr (
+  found,
+  mid,
+  surveyed,
+  inr
+      (made, still, given, inr (done, after, removed, h)),
+)) = absurd h
 
 -- ---- what is left alone, whatever is answered
 

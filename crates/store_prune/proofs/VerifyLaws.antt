@@ -6,6 +6,7 @@ use Rattle.std.specs.List.{AllByRecursion}
 use Rattle.cnb_world.specs.Tree.{Tree, item_at}
 use Rattle.cnb_world.specs.declared.world.Item.{Item}
 use Rattle.cnb_world.specs.declared.world.Item.TheVariants as item
+use Rattle.cnb_words.specs.declared.verify.VerifyWords.{VerifyWords}
 use Rattle.image_docs.specs.declared.image.ImageDoc.{ImageDoc}
 use Rattle.image_files.specs.Faults as image_files
 use Rattle.image_files.specs.Images.{image_at, reads_image}
@@ -23,8 +24,9 @@ use Rattle.tree_store.specs.Store.{Gets, tree_path}
 use Rattle.tree_store.specs.declared.fault.StoreFault.{StoreFault}
 use Rattle.tree_store.specs.declared.fault.StoreFault.TheVariants as store_fault
 use Rattle.store_prune.specs.Faults.{of_image_fault, verify_cause}
-use Rattle.store_prune.specs.Verifies.{checks_all, checks_image, checks_next, trees_of_rows, verifies}
-use Rattle.store_prune.specs.Verifying.{HasTreeFile, IsWhole, VerifiesExactly}
+use Rattle.store_prune.specs.Report.{verified_text}
+use Rattle.store_prune.specs.Verifies.{checks_all, checks_image, checks_next, trees_of_rows, verifies, verifies_command}
+use Rattle.store_prune.specs.Verifying.{HasTreeFile, IsWhole, VerifiesExactly, VerifiesPrinted}
 use Rattle.store_prune.specs.declared.fault.VerifyFault.{VerifyFault}
 use Rattle.store_prune.specs.declared.fault.VerifyFault.TheVariants.{Store}
 use Rattle.store_prune.proofs.CountLaws.{image_cause}
@@ -257,3 +259,24 @@ module _ (store : List ℕ) where
       inr
           (digests, still, given, inr (done, after, checked, h)),
     )) = absurd h
+
+text_is : (name text : List ℕ) (count : ℕ) (given : Result (List ℕ) VerifyFault)
+    → given ≡ Ok (verified_text name count) → given ≡ Ok text → text ≡ verified_text name count
+text_is name text count given e f = cc
+
+-- the same of the command, which makes a text besides
+pub command_verifies : (words : VerifyWords) (old new : Seen) (result : Result (List ℕ) VerifyFault)
+    → verifies_command words old result new → VerifiesPrinted words.store words.image old.files result
+unfolding verifies_command gives ◌>>=◌
+command_verifies words old new (Ok text) (count, mid, verified, (unmoved, given, cause)) = (
+  count,
+  text_is words.image text count (Ok (verified_text words.image count)) refl given,
+  verified_so words.store words.image old mid (Ok count) verified,
+)
+command_verifies words old new (Err fault) (inl refused) = verified_so words.store words.image old new (Err fault)
+    refused
+command_verifies words old new (Err fault) (inr (count, mid, verified, (unmoved, given, cause))) =
+    always old.files (λ files. WhereDecided (verify_cause fault)
+    ((many : ℕ) → IsWhole words.store words.image files many → ⊥))
+    (λ files. where_map (verify_cause fault) (Ok (verified_text words.image count) ≡ Err fault)
+    ((many : ℕ) → IsWhole words.store words.image files many → ⊥) (λ e. absurd (cc)) given)

@@ -21,6 +21,7 @@ use Rattle.tree_store.specs.Writing.{trees_of}
 use Rattle.store_prune.specs.Digests.{is_among, tree_digest}
 use Rattle.store_prune.specs.Faults.{cause_of, of_read_fault}
 use Rattle.store_prune.specs.Named.{digests_of_image, digests_of_run, is_document_name, names_of_document}
+use Rattle.store_prune.specs.Report.{pruned_text}
 use Rattle.store_prune.specs.Surveys.{pruned_of}
 use Rattle.store_prune.specs.Trees.{with_tree}
 use Rattle.store_prune.specs.Verifying.{IsWhole}
@@ -87,6 +88,12 @@ abbrev pub PrunesUnnamed : List ℕ → Option Tree → Result Pruned PruneFault
 PrunesUnnamed store old (Ok pruned) new = IfSome old (λ files. pruned_in store files ≡ Ok pruned)
     × (new ≡ option_map (all_without (removed_files store pruned)) old)
 PrunesUnnamed store old (Err fault) new = WhereDecided (cause_of fault) (new ≡ old)
+
+-- the same of the command, which prints what it removed and how many trees are left
+abbrev pub PrunesPrinted : List ℕ → Option Tree → Result (List ℕ) PruneFault → Option Tree → Type 0
+PrunesPrinted store old (Ok text) new = (pruned : Pruned) × (text ≡ pruned_text pruned)
+    × PrunesUnnamed store old (Ok pruned) new
+PrunesPrinted store old (Err fault) new = PrunesUnnamed store old (Err fault) new
 
 -- what is neither at these paths nor below them is as before
 abbrev pub KeepsOthers : List (List ℕ) → Option Tree → Option Tree → Type 0

@@ -8,6 +8,7 @@ use Rattle.steps.specs.Causes.{WhereDecided}
 use Rattle.tree_canon.specs.declared.node.Node.{Node}
 use Rattle.tree_store.specs.Store.{Gets, tree_path}
 use Rattle.store_prune.specs.Faults.{verify_cause}
+use Rattle.store_prune.specs.Report.{verified_text}
 use Rattle.store_prune.specs.Verifies.{trees_of_rows}
 use Rattle.store_prune.specs.declared.fault.VerifyFault.{VerifyFault}
 
@@ -28,3 +29,9 @@ abbrev pub VerifiesExactly : List ℕ → List ℕ → Option Tree → Result �
 VerifiesExactly store name old (Ok count) = IfSome old (λ files. IsWhole store name files count)
 VerifiesExactly store name old (Err fault) = IfSome old
     (λ files. WhereDecided (verify_cause fault) ((count : ℕ) → IsWhole store name files count → ⊥))
+
+-- the same of the command, which prints how many trees the image has
+abbrev pub VerifiesPrinted : List ℕ → List ℕ → Option Tree → Result (List ℕ) VerifyFault → Type 0
+VerifiesPrinted store name old (Ok text) = (count : ℕ) × (text ≡ verified_text name count)
+    × VerifiesExactly store name old (Ok count)
+VerifiesPrinted store name old (Err fault) = VerifiesExactly store name old (Err fault)

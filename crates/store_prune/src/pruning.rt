@@ -6,7 +6,7 @@ ghost use Rattle.steps.specs.Steps.{removes};
 ghost use Rattle.tree_store.specs.Store.{tree_path};
 ghost use Rattle.store_prune.specs.Faults.{Blames, cause_of};
 ghost use Rattle.store_prune.specs.Prunes.{prunes, prunes_command, removes_all, removes_trees};
-ghost use Rattle.store_prune.specs.Pruning.{KeepsImages, KeepsNamed, KeepsNamedTrees, PrunesUnnamed};
+ghost use Rattle.store_prune.specs.Pruning.{KeepsImages, KeepsNamed, KeepsNamedTrees, PrunesPrinted, PrunesUnnamed};
 
 use crate::fault::PruneFault;
 use crate::report::pruned_text;
@@ -99,6 +99,7 @@ pub fn prune_command<W: World>(
 ) -> Result<Text, PruneFault>
     requires { KeepsLimits options.now }
     ensures steps { prunes_command options.now (seen W.World world.old) result (seen W.World world.new) }
+    ensures removed { PrunesPrinted options.now.store (W.tree world.old) result (W.tree world.new) }
     ensures kept { KeepsNamed options.now.store (W.tree world.old) (W.tree world.new) }
     ensures named { KeepsNamedTrees options.now.store (W.tree world.old) (W.tree world.new) }
     ensures images { KeepsImages options.now.store (W.tree world.old) (W.tree world.new) }

@@ -3,7 +3,7 @@ ghost use Rattle.std.specs.Prelude.{◌≤◌, length};
 ghost use Rattle.cnb_words.specs.Verify.{KeepsLimits};
 ghost use Rattle.steps.specs.Outside.{seen};
 ghost use Rattle.store_prune.specs.Verifies.{checks_all, checks_image, checks_next, verifies, verifies_command};
-ghost use Rattle.store_prune.specs.Verifying.{VerifiesExactly};
+ghost use Rattle.store_prune.specs.Verifying.{VerifiesExactly, VerifiesPrinted};
 
 use crate::digits::distinct_digests;
 use crate::fault::VerifyFault;
@@ -85,6 +85,7 @@ pub fn verify_command<W: World>(
 ) -> Result<Text, VerifyFault>
     requires { KeepsLimits options.now }
     ensures steps { verifies_command options.now (seen W.World world.old) result (seen W.World world.new) }
+    ensures exactly { VerifiesPrinted options.now.store options.now.image (W.tree world.old) result }
 {
     let count = verify(alloc, world, &options.store, &options.image)?;
     let text = verified_text(alloc, &options.image, count)?;

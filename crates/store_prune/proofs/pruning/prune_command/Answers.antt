@@ -6,7 +6,7 @@ use Rattle.store_prune.specs.declared.fault.PruneFault.{PruneFault}
 use Rattle.store_prune.specs.declared.fault.PruneFault.TheVariants.{Memory}
 use Rattle.store_prune.proofs.ImageLaws.{images_kept}
 use Rattle.store_prune.proofs.NamedLaws.{named_stand}
-use Rattle.store_prune.proofs.PruneLaws.{command_keeps}
+use Rattle.store_prune.proofs.PruneLaws.{command_keeps, command_prunes}
 use Rattle.store_prune.proofs.PruneSteps.{trees_at}
 use Rattle.store_prune.proofs.pruning.prune_command.Goals as goal
 
@@ -82,3 +82,19 @@ returns-in_err-remove_trees-clause-images g c = images_kept c.args.options.now.s
 pub returns-clause-images : goal.returns-clause-images
 returns-clause-images g c = images_kept c.args.options.now.store _ _ (g.W.World.standing c.args.world.now)
     (returns-clause-kept g c)
+
+pub returns-in_err-pruned-clause-removed : goal.returns-in_err-pruned-clause-removed
+returns-in_err-pruned-clause-removed g c = command_prunes c.args.options.now _ _ _
+    (returns-in_err-pruned-clause-steps g c)
+
+pub returns-in_err-text-clause-removed : goal.returns-in_err-text-clause-removed
+returns-in_err-text-clause-removed g c = command_prunes c.args.options.now _ _ _
+    (returns-in_err-text-clause-steps g c)
+
+pub returns-in_err-remove_trees-clause-removed : goal.returns-in_err-remove_trees-clause-removed
+returns-in_err-remove_trees-clause-removed g c = command_prunes c.args.options.now _ _ _
+    (returns-in_err-remove_trees-clause-steps g c)
+
+pub returns-clause-removed : goal.returns-clause-removed
+returns-clause-removed g c = command_prunes c.args.options.now _ _ _
+    (returns-clause-steps g c)
