@@ -1,0 +1,3 @@
+pub mod SlicedLaws
+pub mod UnpackedLaws
+pub mod VerifiedLaws
