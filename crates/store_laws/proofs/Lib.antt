@@ -1,0 +1,9 @@
+pub mod Texts
+pub mod ReadFits
+pub mod DigestLemmas
+pub mod Putting
+pub mod PutSteps
+pub mod GroupStores
+pub mod DigestRows
+pub mod ImageStores
+pub mod SavedStores

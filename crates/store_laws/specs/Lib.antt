@@ -1,0 +1,4 @@
+pub mod Saved
+pub mod Sound
+pub mod Stored
+pub mod Texts
