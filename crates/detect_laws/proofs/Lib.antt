@@ -1,0 +1,12 @@
+pub mod DocumentLemmas
+pub mod BuildpackLemmas
+pub mod VariableLemmas
+pub mod OrderLemmas
+pub mod TrialLemmas
+pub mod TargetLemmas
+pub mod SmallLemmas
+pub mod SoundLaws
+pub mod SmallLaws
+pub mod AlternativeLaws
+pub mod RecordedLaws
+pub mod SmallRunLaws

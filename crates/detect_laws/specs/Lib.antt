@@ -1,0 +1,10 @@
+pub mod Alternatives
+pub mod Buildpacks
+pub mod Documents
+pub mod Orders
+pub mod Recorded
+pub mod Small
+pub mod SmallRun
+pub mod Sound
+pub mod Trials
+pub mod Variables
