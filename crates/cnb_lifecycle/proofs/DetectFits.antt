@@ -197,12 +197,12 @@ module _ (words : DetectWords) (path : List ℕ) (env : List Variable) (work : i
       → WritesRecord Document words.choice path env old result new
       → NoMisuse (FitsDetect words) old.world new.world
   record_minds old new result wrote =
-      let both = wrote.comes.written in
+      let both = wrote.comes.written.2 in
       behind (FitsDetect words) (is_fit_detect Document words.choice) (can_write path)
-      (both_written words.choice.work both.2 both.3) (λ t fit. fit.choice)
-      (λ t fit. record_stays words.choice.work path both.2 both.3 t work (to_record t fit))
+      (both_written words.choice.work both.group both.plan) (λ t fit. fit.choice)
+      (λ t fit. record_stays words.choice.work path both.group both.plan t work (to_record t fit))
       old.world.files wrote.middle.world.files old.world.misused wrote.middle.world.misused new.world.misused
-      both.6 wrote.comes.misused wrote.misused
+      both.files wrote.comes.misused wrote.misused
 
   recorded_minds : (old new : Outside) (result : Result (List ℕ) DetectRefusal)
       → ComesToRecorded Document words.choice path env old result new

@@ -10,6 +10,7 @@ pub mod DetectFits
 pub mod DetectingLemmas
 pub mod EndLemmas
 pub mod ExportFits
+pub mod FirstTrialLaws
 pub mod FitLaws
 pub mod FitPasses
 pub mod FitSteps
@@ -27,9 +28,7 @@ pub mod ReadNames
 pub mod RestoreFits
 pub mod ServeLaws
 pub mod SinkLemmas
-pub mod SlicedLaws
 pub mod TellingLemmas
 pub mod ToldSteps
 pub mod UnpackFits
-pub mod VerifiedLaws
 pub mod WordLaws

@@ -32,28 +32,28 @@ use Rattle.cnb_lifecycle.proofs.EndLemmas.{Step}
 use Rattle.cnb_lifecycle.proofs.WordLaws.{HasPaths}
 
 -- steps that come to others
-abbrev Come : {S E A : Type 0} → (S → Result A E → S → Type 0) → (S → Result A E → S → Type 0) → Type 0
+abbrev pub Come : {S E A : Type 0} → (S → Result A E → S → Type 0) → (S → Result A E → S → Type 0) → Type 0
 Come {S} {E} {A} one other = (old new : S) (result : Result A E) → one old result new → other old result new
 
-told_so : {S A F : Type 0} (answer : A → Answer) (refusal : F → Refusal) (one other : S → Result A F → S → Type 0)
+pub told_so : {S A F : Type 0} (answer : A → Answer) (refusal : F → Refusal) (one other : S → Result A F → S → Type 0)
     → Come one other → Come (tells answer refusal one) (tells answer refusal other)
 unfolding tells
 told_so answer refusal one other come old new (Ok told) (value, is, h) = (value, is, come old new (Ok value) h)
 told_so answer refusal one other come old new (Err told) (fault, is, h) = (fault, is, come old new (Err fault) h)
 
-outside_so : (one other : Outside → Result Answer Refusal → Outside → Type 0) → Come one other
+pub outside_so : (one other : Outside → Result Answer Refusal → Outside → Type 0) → Come one other
     → Come (over_outside one) (over_outside other)
 unfolding over_outside
 outside_so one other come old new result (h, caches) = (come _ _ result h, caches)
 
-words_so : (one other : Step) → Come one other → Come (after_words one) (after_words other)
+pub words_so : (one other : Step) → Come one other → Come (after_words one) (after_words other)
 unfolding ◌>>=◌
 words_so one other come old new (Ok answer) (read, mid, given, h) = (read, mid, given, come mid new (Ok answer) h)
 words_so one other come old new (Err refusal) (inl given) = inl given
 words_so one other come old new (Err refusal) (inr (read, mid, given, h)) = inr
     (read, mid, given, come mid new (Err refusal) h)
 
-ends_so : (one other : Step) (old : Surroundings) (outside : Outside) (shelves : List ShelfState)
+pub ends_so : (one other : Step) (old : Surroundings) (outside : Outside) (shelves : List ShelfState)
     (status : Status) (taken_old taken_new : Option (List ℕ)) → Come one other
     → Ends one old outside shelves status taken_old taken_new
     → Ends other old outside shelves status taken_old taken_new

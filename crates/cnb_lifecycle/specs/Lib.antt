@@ -2,13 +2,12 @@ pub mod Commands
 pub mod Detecting
 pub mod Ends
 pub mod Faults
+pub mod FirstTrial
 pub mod Fitting
 pub mod Keeping
 pub mod Leaving
 pub mod Printing
 pub mod Refusal
 pub mod Report
-pub mod Sliced
 pub mod Telling
 pub mod PhaseFaults
-pub mod Verified

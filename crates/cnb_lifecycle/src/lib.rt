@@ -18,14 +18,10 @@ mod printing;
 mod refusal;
 mod report;
 mod running;
-mod sliced;
 mod status;
 mod top;
-mod verified;
 
 pub use answer::Answer;
 pub use refusal::Refusal;
-pub use sliced::sliced_images_unpack;
 pub use status::Status;
 pub use top::lifecycle;
-pub use verified::verified_images_unpack;

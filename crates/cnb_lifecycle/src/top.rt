@@ -11,6 +11,7 @@ ghost use Rattle.cnb_lifecycle.specs.Commands.{options_of_detect, refusal_of, us
 ghost use Rattle.cnb_lifecycle.specs.Detecting.{ComesToWords};
 ghost use Rattle.cnb_lifecycle.specs.Ends.{CauseOfChild, CauseOfFile, Ends};
 ghost use Rattle.cnb_lifecycle.specs.Faults.{cause_of, of_detect};
+ghost use Rattle.cnb_lifecycle.specs.FirstTrial.{decides};
 ghost use Rattle.cnb_lifecycle.specs.Fitting.{NoMisuseBy};
 ghost use Rattle.cnb_lifecycle.specs.Keeping.{KeepsImage, OnRefusal};
 ghost use Rattle.cnb_lifecycle.specs.Leaving.{LeavesImage, OnDone};
@@ -164,6 +165,17 @@ pub fn lifecycle<W: World, S: Spawner + Send, O: Sink, R: Threads + Sync>(
     ensures outcome { let all = range_with_len 0 (length shelves.old.items) in
         On (options_in options_of_detect (command_in (map string_bytes words.now) env.now)) (λ options.
         Ends (after_words (over_outside (tells Answer.Printed of_detect (ComesToWords options env.now))))
+        (surroundings (outside W.World S.Spawner world.old spawners.old.items)
+        (caches_of (shelves_seen ⟦<dyn Shelf as Shelf>⟧ shelves.old.items) all))
+        (outside W.World S.Spawner world.new spawners.new.items)
+        (shelves_seen ⟦<dyn Shelf as Shelf>⟧ shelves.new.items)
+        result (O.taken out.old) (O.taken out.new)) }
+    // Whatever the children reply, by however many workers and in whatever order they finish: `detect`, with a record
+    // and without one, and `create` ask exactly those that have to be asked, each once, and the first trial that passes
+    // decides, or they end for want of one. This holds whether contracts see the files or not. No other command asks.
+    ensures first_trial { let all = range_with_len 0 (length shelves.old.items) in
+        On (asked_of (command_in (map string_bytes words.now) env.now)) (λ asked.
+        Ends (after_words (decides asked env.now))
         (surroundings (outside W.World S.Spawner world.old spawners.old.items)
         (caches_of (shelves_seen ⟦<dyn Shelf as Shelf>⟧ shelves.old.items) all))
         (outside W.World S.Spawner world.new spawners.new.items)

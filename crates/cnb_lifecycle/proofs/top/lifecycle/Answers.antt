@@ -7,6 +7,7 @@ use Rattle.cnb_create.specs.Surroundings.{surroundings}
 use Rattle.cnb_lifecycle.proofs.CauseLemmas.{cause_of_child, cause_of_file}
 use Rattle.cnb_lifecycle.proofs.CountLaws.{ends_counted, words_count}
 use Rattle.cnb_lifecycle.proofs.EndLemmas.{stood}
+use Rattle.cnb_lifecycle.proofs.FirstTrialLaws.{first_trial}
 use Rattle.cnb_lifecycle.proofs.FitLaws.{minds_paths}
 use Rattle.cnb_lifecycle.proofs.KeepLaws.{keeps_image}
 use Rattle.cnb_lifecycle.proofs.LeaveLemmas.{leaves_image}
@@ -28,6 +29,10 @@ returns-clause-does g c =
 
 pub returns-clause-outcome : goal.returns-clause-outcome
 returns-clause-outcome g c = detect_outcome _ c.args.env.now _ _ _ _ _ _ (has_paths _ c.args.env.now)
+    (returns-clause-does g c)
+
+pub returns-clause-first_trial : goal.returns-clause-first_trial
+returns-clause-first_trial g c = first_trial _ c.args.env.now _ _ _ _ _ _ (has_paths _ c.args.env.now)
     (returns-clause-does g c)
 
 pub returns-clause-headline : goal.returns-clause-headline

@@ -1,8 +1,0 @@
-use Rattle.cnb_lifecycle.proofs.SlicedLaws.{alike}
-use Rattle.cnb_lifecycle.proofs.sliced.sliced_images_unpack.Goals as goal
-
-pub returns : goal.returns
-returns c = record {
-  unpacks = λ store root one other files sliced whole first second differ path apart. alike
-      store root path apart files one other sliced whole first second differ;
-}

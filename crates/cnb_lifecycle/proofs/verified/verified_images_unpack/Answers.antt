@@ -1,8 +1,0 @@
-use Rattle.cnb_lifecycle.proofs.VerifiedLaws.{unpacked_so}
-use Rattle.cnb_lifecycle.proofs.verified.verified_images_unpack.Goals as goal
-
-pub returns : goal.returns
-returns c = record {
-  unpacks = λ store name root files count whole path apart. unpacked_so store root path apart
-      name files count whole;
-}
