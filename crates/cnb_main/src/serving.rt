@@ -3,22 +3,11 @@ ghost use Rattle.std.specs.Prelude.{◌≡◌, ◌<◌, ◌^◌, IfOk, length, m
 ghost use Rattle.steps.specs.Outside.{outside};
 ghost use Rattle.cnb_main.specs.Serving.{Serves};
 
-use crate::cache::FolderCache;
 use cnb_lifecycle::lifecycle;
-use cnb_world::{Env, List, Memory, Path, Shelf, Sink, Spawner, World};
+use cnb_start::{FolderCache, Started};
+use cnb_world::{Memory, Path, Shelf, Sink, Spawner, World};
 use std::mem::drop;
 use std::thread::Threads;
-
-/// What the process was started with, and the system that it works on.
-#[derive(Drop)]
-pub(crate) struct Started<W, S, O> {
-    pub(crate) words: Vec<String>,
-    pub(crate) env: Env,
-    pub(crate) world: W,
-    pub(crate) spawners: Vec<S>,
-    pub(crate) caches: List<Path>,
-    pub(crate) out: O,
-}
 
 fn cache_at(rt: &HostRuntime, folder: &Path) -> Result<Box<FolderCache>, Memory> {
     let cache = FolderCache::new(rt, folder.copy(rt.alloc())?)?;

@@ -1,46 +1,59 @@
 // What the process is started with, and the system that it works on.
 ghost use Rattle.std.specs.Prelude.{◌≡◌, ◌<◌, ◌^◌, IfOk, length, map, string_bytes};
-ghost use Rattle.cnb_main.specs.Folders.{caches_by};
+ghost use Rattle.cnb_start.specs.Folders.{caches_by};
 
-use crate::folders::{Folders, folders_in};
-use crate::serving::Started;
+use crate::folders::{Folders, GuardedFolder, folders_in};
 use cnb_host::{HostSpawner, HostWorld, StartFault, StdoutSink, environment, words};
 use cnb_progress::{Level, Phases, ProgressSink, ProgressSpawner, ProgressWorld};
-use cnb_world::{Env, FileFault, Kind, List, Memory, Path, World};
+use cnb_world::{Env, List, Memory, Path};
 use std::alloc::AllocError;
 
 /// One for each worker that the words may ask for.
-pub(crate) const SPAWNERS: usize = 64;
+const SPAWNERS: usize = 64;
 
-type MainSpawner = ProgressSpawner<HostSpawner<HostRuntime>, HostRuntime>;
+/// A child of the system, told of on standard error.
+pub type MainSpawner = ProgressSpawner<HostSpawner<HostRuntime>, HostRuntime>;
 
-type MainWorld = ProgressWorld<HostWorld<HostRuntime>, HostRuntime>;
+/// The files of the system, told of on standard error.
+pub type MainWorld = ProgressWorld<HostWorld<HostRuntime>, HostRuntime>;
 
-type MainSink = ProgressSink<StdoutSink<HostRuntime>>;
+/// Standard output, which keeps the line of a refusal.
+pub type MainSink = ProgressSink<StdoutSink<HostRuntime>>;
 
-pub(crate) type MainStarted = Started<MainWorld, MainSpawner, MainSink>;
+/// What this process was started with.
+pub type MainStarted = Started<MainWorld, MainSpawner, MainSink>;
+
+/// What the process was started with, and the system that it works on.
+#[derive(Drop)]
+pub struct Started<W, S, O> {
+    pub words: Vec<String>,
+    pub env: Env,
+    pub world: W,
+    pub spawners: Vec<S>,
+    /// The folders of the caches that the words ask for.
+    pub caches: List<Path>,
+    /// Whether the command fills the caches.
+    pub fills_caches: bool,
+    pub out: O,
+}
 
 /// Why nothing is done. Nothing is printed then.
 #[derive(Drop)]
-pub(crate) enum Unstarted {
+pub enum Unstarted {
     /// A word of the process is no text.
     NotText,
     /// Memory ran out.
     Memory,
-    /// Another process writes below a folder for too long.
-    NotLocked,
 }
 
 impl Unstarted {
-    /// The exit status: that of words that are no command, of memory that ran out, or of a call on files that failed.
-    pub(crate) fn code(&self) -> u8
+    /// The exit status: that of words that are no command, or of memory that ran out.
+    pub fn code(&self) -> u8
         ensures text { self.now ≡ Unstarted.NotText → result ≡ 1 }
-        ensures locked { self.now ≡ Unstarted.NotLocked → result ≡ 2 }
         ensures memory { self.now ≡ Unstarted.Memory → result ≡ 3 }
     {
         match self {
             Unstarted::NotText => 1,
-            Unstarted::NotLocked => 2,
             Unstarted::Memory => 3,
         }
     }
@@ -68,7 +81,7 @@ impl From<AllocError> for Unstarted {
 }
 
 fn make_spawners(rt: &HostRuntime, level: Level) -> Result<Vec<MainSpawner>, AllocError>
-    ensures { IfOk result (λ spawners. length spawners.items ≡ SPAWNERS) }
+    ensures { IfOk result (λ spawners. length spawners.items ≡ 64) }
 {
     let mut spawners = Vec::new(rt.alloc());
     for _ in 0..SPAWNERS {
@@ -78,48 +91,27 @@ fn make_spawners(rt: &HostRuntime, level: Level) -> Result<Vec<MainSpawner>, All
     Ok(spawners)
 }
 
-// The files of the system, where one process at a time writes below these folders.
-fn guarded_world(
+// The files of the system, where one process at a time writes below these folders, and what is read below those that are
+// watched stays as it is.
+fn guarded_files(
     rt: &HostRuntime,
-    folders: List<Path>,
+    guarded: Vec<GuardedFolder>,
+    watched: List<Path>,
 ) -> Result<HostWorld<HostRuntime>, Unstarted> {
-    let mut world = HostWorld::new(rt.clone()?);
-    for folder in folders.into_vec() {
-        world.guard(folder)?;
+    let mut files = HostWorld::new(rt.clone()?);
+    for GuardedFolder { folder, read } in guarded {
+        files.guard(folder, read)?;
     }
-    Ok(world)
+    for folder in watched.into_vec() {
+        files.watch(folder)?;
+    }
+    Ok(files)
 }
 
 fn level_in(env: &Env) -> Level {
     match env.get("CNB_LOG_LEVEL") {
         Some(name) => Level::of(Some(name.as_str())),
         None => Level::of(None),
-    }
-}
-
-// Takes the locks of the folders that stand. Making a folder that stands changes nothing, and is the first write below it.
-fn hold_all<W: World>(world: &mut W, folders: &[Path]) -> Result<(), FileFault> {
-    for folder in folders {
-        if world.kind(folder)? == Kind::Folder {
-            world.make_folder(folder)?;
-        }
-    }
-    Ok(())
-}
-
-// The world of the process, once the folders are locked that are to be locked before anything is read.
-fn world_of(
-    rt: &HostRuntime,
-    level: Level,
-    guarded: List<Path>,
-    held: &[Path],
-    phases: Phases,
-) -> Result<MainWorld, Unstarted> {
-    let files = guarded_world(rt, guarded)?;
-    let mut world = ProgressWorld::new(files, rt.clone()?, level, phases);
-    match hold_all(&mut world, held) {
-        Ok(()) => Ok(world),
-        Err(_) => Err(Unstarted::NotLocked),
     }
 }
 
@@ -139,25 +131,26 @@ fn sink(rt: &HostRuntime) -> Result<MainSink, AllocError> {
 fn make_system(
     rt: &HostRuntime,
     level: Level,
-    guarded: List<Path>,
-    held: &[Path],
+    guarded: Vec<GuardedFolder>,
+    watched: List<Path>,
     phases: Phases,
 ) -> Result<System, Unstarted>
-    ensures { IfOk result (λ system. length system.spawners.items ≡ SPAWNERS) }
+    ensures { IfOk result (λ system. length system.spawners.items ≡ 64) }
 {
     let out = sink(rt)?;
     let spawners = make_spawners(rt, level)?;
-    let world = world_of(rt, level, guarded, held, phases)?;
+    let clone = rt.clone()?;
+    let files = guarded_files(rt, guarded, watched)?;
     Ok(System {
-        world,
+        world: ProgressWorld::new(files, clone, level, phases),
         spawners,
         out,
     })
 }
 
 /// Begins with the words and the environment of the process.
-pub(crate) fn start(rt: &HostRuntime) -> Result<MainStarted, Unstarted>
-    ensures spawners { IfOk result (λ started. length started.spawners.items ≡ SPAWNERS) }
+pub fn start(rt: &HostRuntime) -> Result<MainStarted, Unstarted>
+    ensures spawners { IfOk result (λ started. length started.spawners.items ≡ 64) }
     ensures caches { IfOk result (λ started. started.caches ≡ caches_by (map string_bytes started.words.items)) }
     ensures few { IfOk result (λ started. length started.caches < 2 ^ 32) }
 {
@@ -165,7 +158,7 @@ pub(crate) fn start(rt: &HostRuntime) -> Result<MainStarted, Unstarted>
 }
 
 fn start_with(rt: &HostRuntime, words: Vec<String>) -> Result<MainStarted, Unstarted>
-    ensures spawners { IfOk result (λ started. length started.spawners.items ≡ SPAWNERS) }
+    ensures spawners { IfOk result (λ started. length started.spawners.items ≡ 64) }
     ensures caches { IfOk result (λ started. started.caches ≡ caches_by (map string_bytes started.words.items)) }
     ensures few { IfOk result (λ started. length started.caches < 2 ^ 32) }
 {
@@ -173,20 +166,22 @@ fn start_with(rt: &HostRuntime, words: Vec<String>) -> Result<MainStarted, Unsta
     let Folders {
         caches,
         guarded,
-        held,
+        watched,
         phases,
-    } = folders_in(rt.alloc(), words.as_slice())?;
+        fills_caches,
+    } = folders_in(rt, words.as_slice())?;
     let System {
         world,
         spawners,
         out,
-    } = make_system(rt, level_in(&env), guarded, held.as_slice(), phases)?;
+    } = make_system(rt, level_in(&env), guarded, watched, phases)?;
     Ok(Started {
         words,
         env,
         world,
         spawners,
         caches,
+        fills_caches,
         out,
     })
 }
